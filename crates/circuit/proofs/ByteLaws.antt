@@ -1,0 +1,33 @@
+-- Laws of numbers in bytes: past the end they are 0, and in a part they are those of the whole further on.
+use Prim.Native.Nat.{ℕ, _+_, _*_, _≤_}
+use mathlib.Core.Path.{_≡_, refl, _∙_, ap}
+use mathlib.Core.List.{List}
+use native.Mathlib.Nat.{add-assoc, add-zero}
+use native.Mathlib.Omega.{arith}
+use lib.ListN.{length, drop, List·getD-eq-default}
+use lib.Seq.{getD-drop}
+use Rattle.circuit.specs.Bytes.{byteAt, u16At, u32At}
+
+pub byte-past : (s : List ℕ) (at : ℕ) → length s ≤ at → byteAt s at ≡ 0
+unfolding byteAt
+byte-past s at h = List·getD-eq-default s 0 h
+
+pub u16-past : (s : List ℕ) (at : ℕ) → length s ≤ at → u16At s at ≡ 0
+unfolding u16At
+u16-past s at h = rw (byte-past s at h, byte-past s (at + 1) (omega arith))
+
+pub u32-past : (s : List ℕ) (at : ℕ) → length s ≤ at → u32At s at ≡ 0
+unfolding u32At
+u32-past s at h = rw (u16-past s at h, u16-past s (at + 2) (omega arith))
+
+pub byte-drop : (a : ℕ) (s : List ℕ) (k : ℕ) → byteAt (drop a s) k ≡ byteAt s (a + k)
+unfolding byteAt
+byte-drop a s k = getD-drop a s k 0
+
+pub u16-drop : (a : ℕ) (s : List ℕ) (k : ℕ) → u16At (drop a s) k ≡ u16At s (a + k)
+unfolding u16At
+u16-drop a s k = rw (byte-drop a s k, byte-drop a s (k + 1), add-assoc a k 1)
+
+pub u32-drop : (a : ℕ) (s : List ℕ) (k : ℕ) → u32At (drop a s) k ≡ u32At s (a + k)
+unfolding u32At
+u32-drop a s k = rw (u16-drop a s k, u16-drop a s (k + 2), add-assoc a k 2)

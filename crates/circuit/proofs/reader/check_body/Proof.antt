@@ -1,0 +1,124 @@
+-- `circuit::reader::check_body`: at each turn the whole answer is what is still to be read from `at` on, and `rest` starts there.
+use Prim.Native.Nat.{_≤_}
+use mathlib.Core.Path.{_≡_, sym, ap, _∙_}
+use lib.ListN.{length, drop}
+use native.Mathlib.Omega.{arith}
+use borrow.Author.Needs.{needs}
+use Rattle.circuit.specs.Reading.{sizeOf, further, extent}
+use Rattle.circuit.specs.Reader.{readBody, afterConstraint}
+use Rattle.circuit.specs.Answer.{foundOf}
+use Rattle.circuit.proofs.ReaderLaws as laws
+use Rattle.circuit.proofs.BodyLaws as body
+use Rattle.circuit.proofs.reader.check_body.Statement.{statement}
+use Rattle.circuit.proofs.reader.check_body.Tie as tie
+use Rattle.circuit.proofs.reader.check_body.Reads as reads
+use Rattle.circuit.proofs.reader.check_body.Lts as lts
+use Rattle.circuit.proofs.reader.after_constraint.Reads as after-constraint-reads
+use Rattle.circuit.proofs.reader.check_constraint.Reads as check-constraint-reads
+use Rattle.circuit.proofs.reader.shifted.Reads as shifted-reads
+
+abbrev Inv-loop : tie.InvT-loop
+Inv-loop s n p m rest₀ at₀ left₀ rest at left =
+    (at ≤ length s) × (rest ≡ drop at s) × (sizeOf (readBody n p m s) ≡ body.bodyFrom n p s left at)
+
+abbrev μ-loop : tie.MeasureT-loop
+μ-loop s n p m rest₀ at₀ left₀ rest at left = left
+
+sub-rest : tie.Need-sub-rest Inv-loop μ-loop
+sub-rest c = search needs
+
+part-rest-start : tie.Need-part-rest-start Inv-loop μ-loop
+part-rest-start c = search needs
+
+part-rest-end : tie.Need-part-rest-end Inv-loop μ-loop
+part-rest-end c = search needs
+
+loop-holds : tie.Need-loop-holds Inv-loop μ-loop
+loop-holds c = (c .before .before .pre, laws.part-drop (c .before .before .args .s .now) 17 (c .before .before .pre), body.body-start _ _ _ _)
+
+check-constraint-requires : tie.Need-check-constraint-requires Inv-loop μ-loop
+check-constraint-requires c κs = search needs
+
+shifted-requires : tie.Need-shifted-requires Inv-loop μ-loop
+shifted-requires c κs =
+    let c5 = c .before .before .before .before .before in
+    let near =
+    body.rest-inside _ _ (c5 .args .s .now) (c .before .before .loop .at) (c .before .before .loop .inv .0) _ (c .before .before .loop .inv .1)
+    (foundOf (c .check-constraint .result)) (c .check-constraint .ensures)
+    in
+    omega (arith, near)
+
+enum-known-found : tie.Need-enum-known-found Inv-loop μ-loop
+enum-known-found c = search needs
+
+enum-told : tie.Need-enum-told Inv-loop μ-loop
+enum-told c = search needs
+
+returns : tie.Need-returns Inv-loop μ-loop
+returns c =
+    let c3 = c .before .before .before in
+    let c4 = c3 .before in
+    let c5 = c4 .before in
+    let told = ap foundOf (c .enum-told .given .1) in
+    told
+    ∙ body.body-fault _ _ _ _ _ _ (c5 .loop .inv .2) (c4 .loop-test .taken) _ _
+    (body.rest-read _ _ _ _ (c5 .loop .inv .0) _ (c5 .loop .inv .1) _ _ (c3 .check-constraint .ensures) (sym told ∙ c .before .before .shifted .ensures))
+
+after-constraint-requires : tie.Need-after-constraint-requires Inv-loop μ-loop
+after-constraint-requires c κs = search needs
+
+sub-left : tie.Need-sub-left Inv-loop μ-loop
+sub-left c = search needs
+
+loop-less : tie.Need-loop-less Inv-loop μ-loop
+loop-less c = omega arith
+
+loop-again : tie.Need-loop-again Inv-loop μ-loop
+loop-again c =
+    let c4 = c .before .before .before .before in
+    let c5 = c4 .before in
+    let c6 = c5 .before in
+    let c7 = c6 .before in
+    let c10 = c7 .before .before .before in
+    let told = ap foundOf (c .before .before .found .given .1) in
+    let l = c7 .loop in
+    let read =
+    body.rest-read (c10 .args .n) (c10 .args .p) (c10 .args .s .now) (l .at) (l .inv .0) _ (l .inv .1) _ _ (c5 .check-constraint .ensures)
+    (sym told ∙ c4 .shifted .ensures)
+    in
+    let near =
+    body.rest-inside _ _ (c10 .args .s .now) (l .at) (l .inv .0) _ (l .inv .1) (foundOf (c5 .check-constraint .result))
+    (c5 .check-constraint .ensures)
+    in (
+      omega (arith, near, laws.extent-further (l .at) (foundOf (c5 .check-constraint .result)), ap extent (sym (c4 .shifted .ensures) ∙ told)),
+      c .after-constraint .ensures ∙ ap afterConstraint (l .inv .1) ∙ body.body-rest _ _ _ (l .at) _ read,
+      body.body-on _ _ _ _ _ _ (l .inv .2) (c6 .loop-test .taken) _ read,
+    )
+
+returns-2 : tie.Need-returns-2 Inv-loop μ-loop
+returns-2 c = body.body-longer _ _ _ _ _ _ (c .before .before .loop .inv .2) (c .before .loop-test .left) (c .if1 .taken)
+
+returns-3 : tie.Need-returns-3 Inv-loop μ-loop
+returns-3 c = body.body-whole _ _ _ _ _ _ (c .before .before .loop .inv .2) (c .before .loop-test .left) (c .if1 .left)
+
+pub check-body-spec : {M : Type 1} → statement M
+check-body-spec =
+    tie.close
+    (tie.spec
+    Inv-loop
+    μ-loop
+    sub-rest
+    part-rest-start
+    part-rest-end
+    loop-holds
+    check-constraint-requires
+    shifted-requires
+    enum-known-found
+    enum-told
+    returns
+    after-constraint-requires
+    sub-left
+    loop-less
+    loop-again
+    returns-2
+    returns-3)

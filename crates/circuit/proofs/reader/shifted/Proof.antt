@@ -1,0 +1,32 @@
+-- `circuit::reader::shifted`: each case with its number moved on.
+use mathlib.Core.Path.{sym, ap}
+use native.Mathlib.Omega.{arith}
+use borrow.Author.Needs.{needs}
+use Rattle.circuit.specs.Reading.{extent, further}
+use Rattle.circuit.specs.Answer.{foundOf}
+use Rattle.circuit.proofs.reader.shifted.Statement.{statement}
+use Rattle.circuit.proofs.reader.shifted.Tie as tie
+use Rattle.circuit.proofs.reader.shifted.Reads as reads
+use Rattle.circuit.proofs.reader.shifted.Lts as lts
+
+enum-known-found : tie.Need-enum-known-found
+enum-known-found c = search needs
+
+add-t7 : tie.Need-add-t7
+add-t7 c = let h = rw (c .before .found .given .1) at (c .before .before .before .pre) in omega (arith, h)
+
+enum-known-found-2 : tie.Need-enum-known-found-2
+enum-known-found-2 c = search needs
+
+add-t8 : tie.Need-add-t8
+add-t8 c = let h = rw (c .before .found2 .given .1) at (c .before .before .before .pre) in omega (arith, h)
+
+returns : tie.Need-returns
+returns c = sym (ap (λ z. further (c .before .before .before .args .at) (foundOf z)) (c .before .found .given .1))
+
+returns-2 : tie.Need-returns-2
+returns-2 c = sym (ap (λ z. further (c .before .before .before .args .at) (foundOf z)) (c .before .found2 .given .1))
+
+pub shifted-spec : {M : Type 1} → statement M
+shifted-spec =
+    tie.close (tie.spec enum-known-found add-t7 enum-known-found-2 add-t8 returns returns-2)

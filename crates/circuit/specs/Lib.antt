@@ -1,0 +1,5 @@
+pub mod Bytes
+pub mod Circuit
+pub mod Reading
+pub mod Reader
+pub mod Answer

@@ -1,0 +1,97 @@
+-- The inverse modulo p: it is the only one below p, and modulo a prime every number but 0 has one. Cancellation and Euclid's lemma follow.
+-- Assumes nothing.
+use mathlib.Core.Path.{_≡_}
+use mathlib.Core.Logic.{_⊎_, inl, inr, ⊎-elim}
+use Prim.Native.Nat.{ℕ, zero, suc, _*_, _%_, _<_}
+use native.Mathlib.Nat.{zero-mod, mul-le-mul-left, dvd-mul-left, pos-of-ne-zero, eq-zero-or-pos}
+use native.Mathlib.Decide.{ℕ-discrete}
+use native.Mathlib.Omega.{arith}
+use Rattle.field.specs.Residue.{Congruent}
+use Rattle.field.specs.Prime.{Prime}
+use Rattle.field.specs.Inverse.{IsInverse, inverse}
+use Rattle.field.proofs.Residue.{
+  congruent-refl,
+  congruent-sym,
+  congruent-trans,
+  congruent-shift,
+  congruent-plus,
+  congruent-times,
+  congruent-below,
+  zero-congruent,
+  congruent-zero,
+}
+use Rattle.field.proofs.Euclid.{Shared, inverse-cases, inverse-zero}
+
+one-nonzero : {p : ℕ} → 1 < p → Congruent p 1 0 → ⊥
+one-nonzero h z = omega (arith, congruent-below h (omega arith) z)
+
+pub inverse-nonzero : {p c d : ℕ} → 1 < p → IsInverse p c d → d % p ≡ 0 → ⊥
+inverse-nonzero {p} {c} {d} h i e =
+    one-nonzero h
+    (congruent-shift 1 0 (congruent-trans (congruent-sym (i .one)) (congruent-times (congruent-refl p c) (zero-congruent d e))) (omega arith))
+
+pub inverse-positive : {p c d : ℕ} → 1 < p → IsInverse p c d → 0 < d
+inverse-positive {p} {d = zero} h i = absurd (inverse-nonzero h i (zero-mod p))
+inverse-positive {d = suc d} h i = omega arith
+
+-- a number with an inverse is not 0
+pub invertible-nonzero : {p c d : ℕ} → 1 < p → IsInverse p c d → c % p ≡ 0 → ⊥
+invertible-nonzero {p} {c} {d} h i e =
+    one-nonzero h
+    (congruent-shift 1 0 (congruent-trans (congruent-sym (i .one)) (congruent-times (zero-congruent c e) (congruent-refl p d))) (omega arith))
+
+-- c * a ≈ c * b with an inverse of c: a ≈ b
+cancel-inverse : {p c d a b : ℕ} → IsInverse p c d → Congruent p (c * a) (c * b) → Congruent p a b
+cancel-inverse {p} {c} {d} {a} {b} i h =
+    congruent-shift a b
+    (congruent-plus (congruent-times (congruent-refl p d) h)
+    (congruent-plus (congruent-times (i .one) (congruent-refl p b)) (congruent-times (congruent-sym (i .one)) (congruent-refl p a))))
+    (omega arith)
+
+pub inverse-only : {p c d e : ℕ} → IsInverse p c d → IsInverse p c e → d ≡ e
+inverse-only i j = congruent-below (i .below) (j .below) (cancel-inverse i (congruent-trans (i .one) (congruent-sym (j .one))))
+
+-- a prime has no divisor to share
+prime-shared : {p c : ℕ} → Prime p → Shared p c → ⊥
+prime-shared {p} P S =
+    ⊎-elim (λ (e : S .right ≡ 1). omega (arith, S .above)) (λ (e : S .right ≡ p). omega (arith, S .proper))
+    (P .only (S .right) (rw (S .whole) at (dvd-mul-left (S .right) (S .left))))
+
+pub inverse-is : {p : ℕ} (c : ℕ) → Prime p → (c % p ≡ 0 → ⊥) → IsInverse p c (inverse p c)
+inverse-is {p} c P n = ⊎-elim (λ i. i) (λ w. absurd (prime-shared P (w .1))) (inverse-cases p c (P .above) (pos-of-ne-zero n))
+
+pub inverse-below : (p c : ℕ) → 0 < p → inverse p c < p
+unfolding inverse
+inverse-below zero c h = h
+inverse-below (suc zero) c h = h
+inverse-below (suc (suc p)) c h =
+    ⊎-elim (λ (e : c % suc (suc p) ≡ 0). rw (inverse-zero (suc (suc p)) c e) h)
+    (λ (g : 0 < c % suc (suc p)). ⊎-elim (λ i. i .below) (λ w. rw (w .0) h) (inverse-cases (suc (suc p)) c (omega arith) g))
+    (eq-zero-or-pos (c % suc (suc p)))
+
+-- where the algorithm gives 0 there is no inverse, whatever p is
+pub inverse-none : {p : ℕ} (c d : ℕ) → 1 < p → inverse p c ≡ 0 → IsInverse p c d → ⊥
+inverse-none {p} c d h e i =
+    ⊎-elim (λ (j : IsInverse p c (inverse p c)). omega (arith, inverse-positive h j)) (λ w. none (w .1))
+    (inverse-cases p c h (pos-of-ne-zero (invertible-nonzero h i)))
+  where
+    none : Shared p c → ⊥
+    none S =
+        let z : Congruent p (S .left) 0 =
+        congruent-shift (S .left) 0
+        (congruent-plus (congruent-times (congruent-refl p (S .left)) (congruent-sym (i .one))) (congruent-times (S .kills) (congruent-refl p d)))
+        (omega arith) in
+        omega (arith, congruent-below (omega (arith, mul-le-mul-left (S .left) (S .above))) (omega arith) z)
+
+-- ---- modulo a prime
+
+pub cancel-times : {p : ℕ} (c : ℕ) {a b : ℕ} → Prime p → (c % p ≡ 0 → ⊥) → Congruent p (c * a) (c * b) → Congruent p a b
+cancel-times c P n h = cancel-inverse (inverse-is c P n) h
+
+pub euclid : {p : ℕ} (a b : ℕ) → Prime p → a * b % p ≡ 0 → (a % p ≡ 0) ⊎ (b % p ≡ 0)
+euclid {p} a b P e = go (ℕ-discrete (a % p) 0)
+  where
+    go : Dec (a % p ≡ 0) → (a % p ≡ 0) ⊎ (b % p ≡ 0)
+    go (yes z) = inl z
+    go (no n) =
+        inr (congruent-zero (cancel-times a P n (congruent-shift (a * b) (a * 0) (zero-congruent (a * b) e) (omega arith))))

@@ -1,0 +1,4 @@
+pub mod Divisors
+pub mod Inverse
+pub mod Prime
+pub mod Residue

@@ -1,0 +1,257 @@
+-- The bounds phase chooses a least candidate: a step that lowers a bound and that no other such step precedes.
+use Prim.Native.Nat.{ℕ, zero, suc, _≤_, _<_}
+use mathlib.Core.Path.{_≡_, refl, sym, ap, _∙_}
+use mathlib.Core.Bool.{Bool, true, false, cond, _&&_}
+use mathlib.Core.Option.{Option, none, some}
+use native.Mathlib.Omega.{arith}
+use native.Mathlib.Decide.{ℕ-discrete}
+use lib.Dec.{ltb, eqb}
+use borrow.Author.Tests.{ltb-true, ltb-false, lt-ltb, le-ltb, eq-eqb, ne-eqb, eqb-true}
+use Rattle.circuit.specs.Circuit.{Circuit}
+use Rattle.laws.specs.Standing.{Standing}
+use Rattle.laws.specs.Step.{Kind, Root, Sum, Zero, Product, Digits, Step, within, fields, inRange, met}
+use Rattle.laws.specs.Solver.{
+  step,
+  newBound,
+  lowers,
+  firstBy,
+  precedes,
+  preferred,
+  consider,
+  bestOfTargets,
+  bestOfConstraints,
+  bestBound,
+}
+use Rattle.laws.proofs.Sum.{
+  and-left,
+  and-right,
+  and-both,
+  or-cases,
+  or-neither,
+  or-false-left,
+  or-false-right,
+  true-or-false,
+  false-by,
+}
+use Rattle.laws.proofs.Turns.{within-says, target-within, fields-fit}
+
+-- The order by several keys
+
+-- b is at most a, and on equal keys the rest doesn't decide for a
+first-by-says : (a b : ℕ) (rest : Bool) → firstBy a b rest ≡ false → (b ≤ a) × (a ≡ b → rest ≡ false)
+unfolding firstBy
+first-by-says a b rest e =
+    (ltb-false a b (or-false-left _ _ e), λ q. sym (rw (eq-eqb a b q) refl) ∙ or-false-right (ltb a b) (eqb a b && rest) e)
+
+first-by-holds : (a b : ℕ) (rest : Bool) → b ≤ a → (a ≡ b → rest ≡ false) → firstBy a b rest ≡ false
+unfolding firstBy
+first-by-holds a b rest l h = or-neither _ _ (le-ltb a b l) (go (ℕ-discrete a b))
+  where
+    go : Dec (a ≡ b) → (eqb a b && rest) ≡ false
+    go (yes q) = rw (eq-eqb a b q) (h q)
+    go (no d) = rw (ne-eqb a b d) refl
+
+first-by-asym : (a b : ℕ) (r r′ : Bool) → (r ≡ true → r′ ≡ false) → firstBy a b r ≡ true → firstBy b a r′ ≡ false
+unfolding firstBy
+first-by-asym a b r r′ h e =
+    or-cases (ltb a b) (eqb a b && r) e
+    (λ l.
+    first-by-holds b a r′ (omega (arith, ltb-true a b l)) (λ (q : b ≡ a). absurd (omega (arith, ltb-true a b l))))
+    (λ q.
+    first-by-holds b a r′ (omega (arith, eqb-true a b (and-left (eqb a b) r q))) (λ (g : b ≡ a). h (and-right (eqb a b) r q)))
+
+first-by-trans : (a b c : ℕ) (r r′ r″ : Bool) → (r ≡ false → r′ ≡ false → r″ ≡ false)
+    → firstBy b a r ≡ false → firstBy c b r′ ≡ false → firstBy c a r″ ≡ false
+first-by-trans a b c r r′ r″ h e f =
+    let g = first-by-says b a r e in
+    let k = first-by-says c b r′ f in
+    first-by-holds c a r″ (omega arith) (λ (q : c ≡ a). h (g .1 (omega arith)) (k .1 (omega arith)))
+
+ltb-asym : (a b : ℕ) → ltb a b ≡ true → ltb b a ≡ false
+ltb-asym a b e = le-ltb b a (omega (arith, ltb-true a b e))
+
+ltb-trans : (a b c : ℕ) → ltb b a ≡ false → ltb c b ≡ false → ltb c a ≡ false
+ltb-trans a b c e f = le-ltb c a (omega (arith, ltb-false b a e, ltb-false c b f))
+
+-- A step that lowers a bound
+
+pub record Lowering (C : Circuit) (S : Standing) (x : Step) : Type 0 where
+  pub in-range : inRange C x ≡ true
+  pub is-met : met C S x ≡ true
+  pub less : newBound C S x < S .bound (x .target)
+
+-- the kinds that give bounds
+pub data Bounding : Kind → Type 0 where
+  by-root : Bounding Root
+  by-sum : Bounding Sum
+
+module _ (C : Circuit) (S : Standing) where
+  pub lowers-says : (x : Step) → lowers C S x ≡ true → Lowering C S x
+  unfolding lowers
+  lowers-says x e =
+      let less = ltb (newBound C S x) (S .bound (x .target)) in
+      let both = and-left (inRange C x && met C S x) less e in
+      record {
+        in-range = and-left (inRange C x) (met C S x) both;
+        is-met = and-right (inRange C x) (met C S x) both;
+        less = ltb-true _ _ (and-right (inRange C x && met C S x) less e);
+      }
+
+  pub lowers-holds : (x : Step) → Lowering C S x → lowers C S x ≡ true
+  unfolding lowers
+  lowers-holds x l = and-both _ _ (and-both _ _ (l .in-range) (l .is-met)) (lt-ltb _ _ (l .less))
+
+  precedes-asym : (x y : Step) → precedes C S x y ≡ true → precedes C S y x ≡ false
+  unfolding precedes
+  precedes-asym x y =
+      first-by-asym _ _ _ _
+      (first-by-asym _ _ _ _ (first-by-asym _ _ _ _ (ltb-asym (x .constraint) (y .constraint))))
+
+  precedes-trans : (x y z : Step) → precedes C S y x ≡ false → precedes C S z y ≡ false → precedes C S z x ≡ false
+  unfolding precedes
+  precedes-trans x y z =
+      first-by-trans _ _ _ _ _ _
+      (first-by-trans _ _ _ _ _ _ (first-by-trans _ _ _ _ _ _ (ltb-trans (x .constraint) (y .constraint) (z .constraint))))
+
+  precedes-irrefl : (x : Step) → precedes C S x x ≡ false
+  precedes-irrefl x = false-by (precedes C S x x) (λ e. true-or-false _ e (precedes-asym x x e))
+
+  pub least-bound : (x y : Step) → precedes C S y x ≡ false → newBound C S x ≤ newBound C S y
+  unfolding precedes
+  least-bound x y e = first-by-says _ _ _ e .0
+
+  -- The search
+
+  -- what was found lowers a bound
+  abbrev Candidate : Option Step → Type 0
+  Candidate none = Unit {0}
+  Candidate (some x) = lowers C S x ≡ true
+
+  -- something was found, and y doesn't precede it
+  abbrev Covers : Step → Option Step → Type 0
+  Covers y none = ⊥
+  Covers y (some x) = precedes C S y x ≡ false
+
+  preferred-candidate : (x : Step) (best : Option Step) → lowers C S x ≡ true → Candidate best → Candidate (preferred C S x best)
+  preferred-candidate x none l c = l
+  preferred-candidate x (some y) l c = go (precedes C S x y)
+    where
+      go : (b : Bool) → Candidate (cond b (some x) (some y))
+      go true = l
+      go false = c
+
+  preferred-keeps : (x y : Step) (best : Option Step) → Covers y best → Covers y (preferred C S x best)
+  preferred-keeps x y none c = absurd c
+  preferred-keeps x y (some z) c = go (precedes C S x z) refl
+    where
+      go : (b : Bool) → precedes C S x z ≡ b → Covers y (cond b (some x) (some z))
+      go true e = precedes-trans x z y (precedes-asym x z e) c
+      go false e = c
+
+  preferred-covers : (x : Step) (best : Option Step) → Covers x (preferred C S x best)
+  preferred-covers x none = precedes-irrefl x
+  preferred-covers x (some z) = go (precedes C S x z) refl
+    where
+      go : (b : Bool) → precedes C S x z ≡ b → Covers x (cond b (some x) (some z))
+      go true e = precedes-irrefl x
+      go false e = e
+
+  consider-candidate : (x : Step) (best : Option Step) → Candidate best → Candidate (consider C S x best)
+  unfolding consider
+  consider-candidate x best c = go (lowers C S x) refl
+    where
+      go : (b : Bool) → lowers C S x ≡ b → Candidate (cond b (preferred C S x best) best)
+      go true e = preferred-candidate x best e c
+      go false e = c
+
+  consider-keeps : (x y : Step) (best : Option Step) → Covers y best → Covers y (consider C S x best)
+  unfolding consider
+  consider-keeps x y best c = go (lowers C S x)
+    where
+      go : (b : Bool) → Covers y (cond b (preferred C S x best) best)
+      go true = preferred-keeps x y best c
+      go false = c
+
+  consider-covers : (x : Step) (best : Option Step) → lowers C S x ≡ true → Covers x (consider C S x best)
+  unfolding consider
+  consider-covers x best e = rw e (preferred-covers x best)
+
+  targets-candidate : (k t : ℕ) (best : Option Step) → Candidate best → Candidate (bestOfTargets C S k t best)
+  unfolding bestOfTargets
+  targets-candidate k zero best c = c
+  targets-candidate k (suc t) best c = consider-candidate _ _ (consider-candidate _ _ (targets-candidate k t best c))
+
+  targets-keep : (k t : ℕ) (y : Step) (best : Option Step) → Covers y best → Covers y (bestOfTargets C S k t best)
+  unfolding bestOfTargets
+  targets-keep k zero y best c = c
+  targets-keep k (suc t) y best c = consider-keeps _ y _ (consider-keeps _ y _ (targets-keep k t y best c))
+
+  constraints-candidate : (k : ℕ) → Candidate (bestOfConstraints C S k)
+  unfolding bestOfConstraints
+  constraints-candidate zero = tt
+  constraints-candidate (suc k) = targets-candidate (suc k) (C .n) _ (constraints-candidate k)
+
+  targets-cover : (k t s : ℕ) (q : Kind) (best : Option Step) → Bounding q → 1 ≤ s → s ≤ t → lowers C S (step q s k 0) ≡ true
+      → Covers (step q s k 0) (bestOfTargets C S k t best)
+  unfolding bestOfTargets
+  targets-cover k zero s q best b l m e = absurd (omega arith)
+  targets-cover k (suc t) s q best b l m e = go (ℕ-discrete s (suc t)) (λ h. targets-cover k t s q best b l h e)
+    where
+      here : {q : Kind} → Bounding q → lowers C S (step q (suc t) k 0) ≡ true
+          → Covers (step q (suc t) k 0) (bestOfTargets C S k (suc t) best)
+      here by-root f = consider-keeps _ _ _ (consider-covers _ _ f)
+      here by-sum f = consider-covers _ _ f
+
+      go : Dec (s ≡ suc t) → (s ≤ t → Covers (step q s k 0) (bestOfTargets C S k t best))
+          → Covers (step q s k 0) (bestOfTargets C S k (suc t) best)
+      go (yes h) earlier = rw h (here b (rw h at e))
+      go (no d) earlier = consider-keeps _ _ _ (consider-keeps _ _ _ (earlier (omega arith)))
+
+  constraints-cover : (k j s : ℕ) (q : Kind) → Bounding q → 1 ≤ s → s ≤ C .n → 1 ≤ j → j ≤ k → lowers C S (step q s j 0) ≡ true
+      → Covers (step q s j 0) (bestOfConstraints C S k)
+  unfolding bestOfConstraints
+  constraints-cover zero j s q b l m l′ m′ e = absurd (omega arith)
+  constraints-cover (suc k) j s q b l m l′ m′ e = go (ℕ-discrete j (suc k)) (λ h. constraints-cover k j s q b l m l′ h e)
+    where
+      go : Dec (j ≡ suc k) → (j ≤ k → Covers (step q s j 0) (bestOfConstraints C S k))
+          → Covers (step q s j 0) (bestOfConstraints C S (suc k))
+      go (yes h) earlier = rw h (targets-cover (suc k) (C .n) s q _ b l m (rw h at e))
+      go (no d) earlier = targets-keep _ _ _ _ (earlier (omega arith))
+
+  pub lowers-kind : (x : Step) → Lowering C S x → Bounding (x .kind)
+  unfolding newBound
+  lowers-kind x = go (x .kind) (x .target) (x .constraint) (x .reference)
+    where
+      go : (q : Kind) (t k r : ℕ) → Lowering C S (step q t k r) → Bounding q
+      go Root t k r l = by-root
+      go Sum t k r l = by-sum
+      go Zero t k r l = absurd (omega (arith, l .less))
+      go Product t k r l = absurd (omega (arith, l .less))
+      go Digits t k r l = absurd (omega (arith, l .less))
+
+  bounding-fields : {q : Kind} (t k r : ℕ) → Bounding q → inRange C (step q t k r) ≡ true → ((1 ≤ k) × (k ≤ C .m)) × (r ≡ 0)
+  bounding-fields {q} t k r b e = go b (fields-fit C (step q t k r) e)
+    where
+      go : {q : Kind} → Bounding q → fields q (C .n) (C .m) k r ≡ true → ((1 ≤ k) × (k ≤ C .m)) × (r ≡ 0)
+      go by-root f = (within-says _ _ (and-left _ (eqb r 0) f), eqb-true r 0 (and-right (within (C .m) k) _ f))
+      go by-sum f = (within-says _ _ (and-left _ (eqb r 0) f), eqb-true r 0 (and-right (within (C .m) k) _ f))
+
+  -- every step that lowers a bound is covered
+  best-covers : (y : Step) → lowers C S y ≡ true → Covers y (bestBound C S)
+  unfolding bestBound
+  best-covers y e =
+      let h = lowers-says y e in
+      let b = lowers-kind y h in
+      let w = target-within C y (h .in-range) in
+      let f = bounding-fields (y .target) (y .constraint) (y .reference) b (h .in-range) in
+      let z : y ≡ step (y .kind) (y .target) (y .constraint) 0
+      = ap (λ (r : ℕ). step (y .kind) (y .target) (y .constraint) r) (f .1) in
+      rw z (constraints-cover (C .m) (y .constraint) (y .target) (y .kind) b (w .0) (w .1) (f .0 .0) (f .0 .1) (rw z at e))
+
+  pub best-none : bestBound C S ≡ none → (y : Step) → lowers C S y ≡ false
+  best-none e y = false-by _ (λ l. rw e at (best-covers y l))
+
+  pub best-some : (x : Step) → bestBound C S ≡ some x
+      → (lowers C S x ≡ true) × ((y : Step) → lowers C S y ≡ true → precedes C S y x ≡ false)
+  unfolding bestBound
+  best-some x e = (rw e at (constraints-candidate (C .m)), λ y l. rw e at (best-covers y l))

@@ -1,0 +1,17 @@
+pub mod Sum
+pub mod Forms
+pub mod Reduced
+pub mod RootRule
+pub mod SumRule
+pub mod ProductRule
+pub mod Digits
+pub mod DigitsRule
+pub mod Order
+pub mod Sound
+pub mod Monotone
+pub mod Optimum
+pub mod Turns
+pub mod Best
+pub mod Greedy
+pub mod Marks
+pub mod Solution

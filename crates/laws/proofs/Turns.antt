@@ -1,0 +1,171 @@
+-- What holds of a phase of the solver in which each turn takes a new target: its steps are accepted, at most one for each target, and
+-- after n turns none is left to choose.
+use Prim.Native.Nat.{ℕ, zero, suc, _+_, _≤_, _<_}
+use mathlib.Core.Path.{_≡_, refl, sym, ap}
+use mathlib.Core.Bool.{Bool, true, false, not}
+use mathlib.Core.List.{List, [], _∷_}
+use mathlib.Core.Option.{Option, none, some}
+use native.Mathlib.Omega.{arith}
+use native.Mathlib.Decide.{ℕ-discrete}
+use lib.Dec.{leb, eqb}
+use lib.ListN.{length}
+use borrow.Author.Tests.{leb-true, eq-eqb, ne-eqb}
+use Rattle.circuit.specs.Circuit.{Circuit}
+use Rattle.laws.specs.Sum.{sum, keep}
+use Rattle.laws.specs.Standing.{Standing, add}
+use Rattle.laws.specs.Step.{Step, within, fields, inRange, met, after, replay, accepted}
+use Rattle.laws.specs.Solver.{taken, turns, stepsFor}
+use Rattle.laws.proofs.Sum.{and-left, and-right, and-both, keep-true, keep-false, keep-le, sum-mono, sum-out}
+use Rattle.laws.proofs.Order.{add-same, add-other}
+
+pub within-says : (n s : ℕ) → within n s ≡ true → (1 ≤ s) × (s ≤ n)
+unfolding within
+within-says n s e = (leb-true 1 s (and-left _ (leb s n) e), leb-true s n (and-right (leb 1 s) _ e))
+
+pub target-within : (C : Circuit) (x : Step) → inRange C x ≡ true → (1 ≤ x .target) × (x .target ≤ C .n)
+unfolding inRange
+target-within C x e = within-says (C .n) (x .target) (and-left _ _ e)
+
+pub fields-fit : (C : Circuit) (x : Step) → inRange C x ≡ true
+    → fields (x .kind) (C .n) (C .m) (x .constraint) (x .reference) ≡ true
+unfolding inRange
+fields-fit C x e = and-right (within (C .n) (x .target)) _ e
+
+-- The targets that are not done
+
+unfoldable pub none-done : ℕ → Bool
+none-done s = false
+
+openAt : (ℕ → Bool) → ℕ → ℕ
+openAt done s = keep (not (done (suc s))) 1
+
+pub open-count : ℕ → (ℕ → Bool) → ℕ
+open-count n done = sum n (openAt done)
+
+count-most : (n : ℕ) (f : ℕ → ℕ) → ((s : ℕ) → f s ≤ 1) → sum n f ≤ n
+unfolding sum
+count-most zero f h = omega arith
+count-most (suc n) f h = omega (arith, h 0, count-most n (λ s. f (suc s)) (λ s. h (suc s)))
+
+pub open-most : (n : ℕ) (done : ℕ → Bool) → open-count n done ≤ n
+unfolding open-count openAt
+open-most n done = count-most n (openAt done) (λ s. keep-le (not (done (suc s))) 1)
+
+-- a new target leaves one fewer
+pub open-less : (n : ℕ) (done : ℕ → Bool) (t : ℕ) → 1 ≤ t → t ≤ n → done t ≡ false → open-count n (add done t) < open-count n done
+unfolding open-count openAt
+open-less n done zero l m e = absurd (omega arith)
+open-less n done (suc t) l m e =
+    omega (
+      arith,
+      sum-out n (openAt done) t (omega arith),
+      keep-true (not (done (suc t))) 1 (ap not e),
+      sum-mono n (openAt (add done (suc t))) (λ s. keep (not (eqb s t)) (openAt done s)) (λ s k. term s (ℕ-discrete s t)),
+    )
+  where
+    term : (s : ℕ) → Dec (s ≡ t) → openAt (add done (suc t)) s ≤ keep (not (eqb s t)) (openAt done s)
+    term s (yes q) =
+        let e : add done (suc t) (suc s) ≡ true = rw q (add-same done (suc t)) in
+        omega (arith, keep-false (not (add done (suc t) (suc s))) 1 (ap not e))
+    term s (no d) =
+        omega (
+          arith,
+          keep-true (not (eqb s t)) (openAt done s) (ap not (ne-eqb s t d)),
+          ap (λ (b : Bool). keep (not b) 1) (add-other done (suc t) (suc s) (λ (q : suc s ≡ suc t). d (omega arith))),
+        )
+
+-- a step that takes a new target is counted where it is done
+add-counts : (done : ℕ → Bool) (u t : ℕ) → done u ≡ false → keep (eqb u t) 1 + keep (done t) 1 ≡ keep (add done u t) 1
+add-counts done u t e = go (ℕ-discrete t u)
+  where
+    go : Dec (t ≡ u) → keep (eqb u t) 1 + keep (done t) 1 ≡ keep (add done u t) 1
+    go (yes q) =
+        rw q
+        (omega (
+          arith,
+          keep-true (eqb u u) 1 (eq-eqb u u refl),
+          keep-false (done u) 1 e,
+          keep-true (add done u u) 1 (add-same done u),
+        ))
+    go (no d) =
+        omega (
+          arith,
+          keep-false (eqb u t) 1 (ne-eqb u t (λ q. d (sym q))),
+          ap (λ (b : Bool). keep b 1) (add-other done u t d),
+        )
+
+-- Turns
+
+pub record Turn (C : Circuit) (Holds : (ℕ → Bool) → Standing → Type 0) (done : ℕ → Bool) (S : Standing) (x : Step) : Type 0 where
+  pub in-range : inRange C x ≡ true
+  pub is-met : met C S x ≡ true
+  pub new : done (x .target) ≡ false
+  pub holds : Holds (add done (x .target)) (after C S x)
+
+-- each turn takes a step that is in range and met, with a target that is not done, and keeps the invariant
+pub record Phase (C : Circuit) (choose : Standing → Option Step) (Holds : (ℕ → Bool) → Standing → Type 0) : Type 0 where
+  pub turn : (done : ℕ → Bool) (S : Standing) (x : Step) → Holds done S → choose S ≡ some x → Turn C Holds done S x
+
+module _ {C : Circuit} {choose : Standing → Option Step} {Holds : (ℕ → Bool) → Standing → Type 0} (phase : Phase C choose Holds) where
+  -- induction over the turns
+  turns-by : (P : ℕ → (ℕ → Bool) → Standing → List Step → Type 0)
+      → ((done : ℕ → Bool) (S : Standing) → Holds done S → P 0 done S [])
+      → ((fuel : ℕ) (done : ℕ → Bool) (S : Standing) → Holds done S → choose S ≡ none → P (suc fuel) done S [])
+      → ((fuel : ℕ) (done : ℕ → Bool) (S : Standing) (x : Step) (xs : List Step)
+      → Turn C Holds done S x → P fuel (add done (x .target)) (after C S x) xs → P (suc fuel) done S (x ∷ xs))
+      → (fuel : ℕ) (done : ℕ → Bool) (S : Standing) → Holds done S → P fuel done S (turns choose C fuel S)
+  unfolding turns
+  turns-by P ends stops goes zero done S h = ends done S h
+  turns-by P ends stops goes (suc fuel) done S h =
+      go (λ x u. turns-by P ends stops goes fuel (add done (x .target)) (after C S x) (u .holds)) (choose S) refl
+    where
+      go : ((x : Step) → Turn C Holds done S x → P fuel (add done (x .target)) (after C S x) (turns choose C fuel (after C S x)))
+          → (o : Option Step) → choose S ≡ o → P (suc fuel) done S (taken o (λ x. turns choose C fuel (after C S x)))
+      go rest none e = stops fuel done S h e
+      go rest (some x) e = let u = phase .turn done S x h e in goes fuel done S x _ u (rest x u)
+
+  turn-less : (done : ℕ → Bool) (S : Standing) (x : Step) → Turn C Holds done S x
+      → open-count (C .n) (add done (x .target)) < open-count (C .n) done
+  turn-less done S x u =
+      let w = target-within C x (u .in-range) in
+      open-less (C .n) done (x .target) (w .0) (w .1) (u .new)
+
+  finished : (done : ℕ → Bool) (S : Standing) → Holds done S → open-count (C .n) done ≡ 0
+      → (o : Option Step) → choose S ≡ o → choose S ≡ none
+  finished done S h z none e = e
+  finished done S h z (some x) e = absurd (omega (arith, turn-less done S x (phase .turn done S x h e)))
+
+  pub turns-accepted : (fuel : ℕ) (done : ℕ → Bool) (S : Standing) → Holds done S → accepted C S (turns choose C fuel S) ≡ true
+  unfolding accepted
+  turns-accepted =
+      turns-by (λ fuel done S xs. accepted C S xs ≡ true) (λ done S h. refl) (λ fuel done S h e. refl)
+      (λ fuel done S x xs u r. and-both _ _ (and-both _ _ (u .in-range) (u .is-met)) r)
+
+  pub turns-hold : (fuel : ℕ) (done : ℕ → Bool) (S : Standing) → Holds done S
+      → (last : ℕ → Bool) × Holds last (replay C S (turns choose C fuel S))
+  unfolding replay
+  turns-hold =
+      turns-by (λ fuel done S xs. (last : ℕ → Bool) × Holds last (replay C S xs)) (λ done S h. (done, h)) (λ fuel done S h e. (done, h))
+      (λ fuel done S x xs u r. r)
+
+  pub turns-once : (t fuel : ℕ) (done : ℕ → Bool) (S : Standing) → Holds done S
+      → stepsFor t (turns choose C fuel S) + keep (done t) 1 ≤ 1
+  unfolding stepsFor
+  turns-once t =
+      turns-by (λ fuel done S xs. stepsFor t xs + keep (done t) 1 ≤ 1) (λ done S h. omega (arith, keep-le (done t) 1))
+      (λ fuel done S h e. omega (arith, keep-le (done t) 1))
+      (λ fuel done S x xs u r. omega (arith, add-counts done (x .target) t (u .new)))
+
+  pub turns-short : (fuel : ℕ) (done : ℕ → Bool) (S : Standing) → Holds done S → length (turns choose C fuel S) ≤ fuel
+  turns-short =
+      turns-by (λ fuel done S xs. length xs ≤ fuel) (λ done S h. omega arith) (λ fuel done S h e. omega arith)
+      (λ fuel done S x xs u r. omega arith)
+
+  pub turns-end : (fuel : ℕ) (done : ℕ → Bool) (S : Standing) → Holds done S
+      → open-count (C .n) done ≤ fuel → choose (replay C S (turns choose C fuel S)) ≡ none
+  unfolding replay
+  turns-end =
+      turns-by (λ fuel done S xs. open-count (C .n) done ≤ fuel → choose (replay C S xs) ≡ none)
+      (λ done S h l. finished done S h (omega arith) (choose S) refl)
+      (λ fuel done S h e l. e)
+      (λ fuel done S x xs u r l. r (omega (arith, turn-less done S x u)))
