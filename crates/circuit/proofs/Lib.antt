@@ -4,3 +4,4 @@ pub mod BodyLaws
 pub mod HeaderLaws
 pub mod WellFormed
 pub mod Stored
+pub mod RunLaws

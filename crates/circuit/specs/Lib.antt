@@ -3,3 +3,4 @@ pub mod Circuit
 pub mod Reading
 pub mod Reader
 pub mod Answer
+pub mod Run

@@ -2,3 +2,4 @@
 
 pub mod bytes;
 pub mod reader;
+pub mod run;

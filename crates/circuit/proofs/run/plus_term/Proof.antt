@@ -1,0 +1,65 @@
+-- `circuit::run::plus_term`: the term is passed over, or added in 64 bits.
+use Prim.Native.Nat.{_+_, _*_}
+use native.Mathlib.Nat.{mod-lt}
+use native.Mathlib.Omega.{arith}
+use borrow.Author.Needs.{needs}
+use Rattle.circuit.proofs.RunLaws as laws
+use Rattle.circuit.proofs.run.plus_term.Statement.{statement}
+use Rattle.circuit.proofs.run.plus_term.Tie as tie
+
+u16-at-requires : tie.Need-u16-at-requires
+u16-at-requires c κs = search needs
+
+returns : tie.Need-returns
+returns c = laws.term-passed _ _ _ _ _ (omega arith)
+
+add-u32-at : tie.Need-add-u32-at
+add-u32-at c = search needs
+
+u32-at-requires : tie.Need-u32-at-requires
+u32-at-requires c κs = search needs
+
+cast-coefficient : tie.Need-cast-coefficient
+cast-coefficient c = search needs
+
+value-at-requires : tie.Need-value-at-requires
+value-at-requires c κs = search needs
+
+cast-value : tie.Need-cast-value
+cast-value c = search needs
+
+mul-result : tie.Need-mul-result
+mul-result c = omega (arith, laws.product-most (c .before .u32-at .result) (c .value-at .result) (omega arith) (omega arith))
+
+add-result : tie.Need-add-result
+add-result c = omega (arith, laws.product-most (c .before .u32-at .result) (c .value-at .result) (omega arith) (omega arith))
+
+rem-result : tie.Need-rem-result
+rem-result c = search needs
+
+cast-result : tie.Need-cast-result
+cast-result c =
+    let a = c .before .before .before .before .before .before .args in
+    omega (arith, mod-lt (a .sum + c .before .u32-at .result * c .value-at .result) {m = a .p} (omega arith))
+
+returns-2 : tie.Need-returns-2
+returns-2 c =
+    laws.term-added _ _ _ _ _ _ _ _ (c .before .before .before .u16-at .ensures .0) (c .before .u32-at .ensures) (c .value-at .ensures)
+    (c .before .before .if1 .left)
+
+pub plus-term-spec : {M : Type 1} → statement M
+plus-term-spec =
+    tie.close
+    (tie.spec
+    u16-at-requires
+    returns
+    add-u32-at
+    u32-at-requires
+    cast-coefficient
+    value-at-requires
+    cast-value
+    mul-result
+    add-result
+    rem-result
+    cast-result
+    returns-2)

@@ -1,0 +1,4 @@
+pub mod SearchLaws
+pub mod RunLaws
+pub mod CallLaws
+pub mod Exact

@@ -1,0 +1,56 @@
+-- `pair::runs::first_large`: at each turn the answer is what is found after value j.
+use Prim.Native.Nat.{_+_, _-_, _≤_}
+use mathlib.Core.Path.{_≡_}
+use native.Mathlib.Omega.{arith}
+use borrow.Author.Needs.{needs}
+use Rattle.pair.specs.Call.{firstFrom, below}
+use Rattle.pair.proofs.SearchLaws as laws
+use Rattle.pair.proofs.runs.first_large.Statement.{statement}
+use Rattle.pair.proofs.runs.first_large.Tie as tie
+
+abbrev Inv-loop : tie.InvT-loop
+Inv-loop pair p count j₀ j = (j ≤ count) × (firstFrom (below p pair) 1 count ≡ firstFrom (below p pair) (j + 1) (count - j))
+
+abbrev μ-loop : tie.MeasureT-loop
+μ-loop pair p count j₀ j = count - j
+
+loop-holds : tie.Need-loop-holds Inv-loop μ-loop
+loop-holds c = (omega arith, laws.first-start _ _)
+
+add-j : tie.Need-add-j Inv-loop μ-loop
+add-j c = search needs
+
+value-at-requires : tie.Need-value-at-requires Inv-loop μ-loop
+value-at-requires c κs = search needs
+
+returns : tie.Need-returns Inv-loop μ-loop
+returns c =
+    laws.first-found _ _ _ _ (c .before .before .before .loop .inv .1) (c .before .before .loop-test .taken)
+    (laws.below-no _ _ _ _ (c .before .value-at .ensures) (c .if1 .taken))
+
+loop-less : tie.Need-loop-less Inv-loop μ-loop
+loop-less c = search needs
+
+loop-again : tie.Need-loop-again Inv-loop μ-loop
+loop-again c = (
+  omega arith,
+  laws.first-again _ _ _ _ (c .before .before .before .loop .inv .1) (c .before .before .loop-test .taken)
+      (laws.below-yes _ _ _ _ (c .before .value-at .ensures) (c .if1 .left)),
+)
+
+returns-2 : tie.Need-returns-2 Inv-loop μ-loop
+returns-2 c = laws.first-none _ _ _ _ (c .before .loop .inv .1) (c .loop-test .left)
+
+pub first-large-spec : {M : Type 1} → statement M
+first-large-spec =
+    tie.close
+    (tie.spec
+    Inv-loop
+    μ-loop
+    loop-holds
+    add-j
+    value-at-requires
+    returns
+    loop-less
+    loop-again
+    returns-2)

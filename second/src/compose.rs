@@ -1,0 +1,215 @@
+//! Fills a file of test vectors: fixed calls for the limits, then random circuits until the file is as long as wished.
+
+use crate::damage::damaged;
+use crate::edge::{any_edge, listed_edges, tied, Edge};
+use crate::generate::{any, small, tiny, PRIMES};
+use crate::grow::grown;
+use crate::hand_in::{damaged_derivation, damaged_pair, padded, random_derivation, random_step, small_pairs, with_changed_field};
+use crate::marker::write_steps;
+use crate::pair::write_pair;
+use crate::planted::{planted, Planted};
+use crate::random::Random;
+use crate::reader::{read_circuit, Circuit};
+use crate::rules::Rules;
+use crate::solver::derive;
+use crate::vectors::{Record, DERIVATION, PAIR, READ, SOLVE};
+use crate::{brute, worst};
+
+/// The usual length of a file.
+pub const USUAL_SIZE: usize = 398_000;
+
+/// How many random circuits at the edge of a rule every file has.
+const EDGES: usize = 60;
+
+/// How many circuits with ties.
+const TIES: usize = 40;
+
+/// The records of a file of about this length. From 600,000 bytes on there is a file of exactly 60,000 bytes among them, from 1,500,000 on all
+/// worst circuits.
+pub fn compose(seed: u64, size: usize) -> Vec<Record> {
+    let mut maker = Maker { rng: Random::new(seed), records: Vec::new(), size: 9 };
+    maker.fixed_calls(size >= 600_000);
+    if size >= 1_500_000 {
+        worst::all().iter().for_each(|(_, circuit)| maker.solve_and_mark(circuit));
+    }
+    listed_edges(&mut maker.rng).iter().for_each(|edge| maker.edge(edge, true));
+    (0..EDGES).for_each(|_| maker.random_edge());
+    (0..TIES).for_each(|_| maker.ties());
+    while maker.size < size {
+        maker.random_circuit();
+    }
+    maker.records
+}
+
+/// The records so far, and how long a file they make.
+pub struct Maker {
+    pub rng: Random,
+    records: Vec<Record>,
+    size: usize,
+}
+
+impl Maker {
+    /// Adds a call with its answer.
+    pub fn call(&mut self, kind: u8, circuit: &[u8], hand_in: &[u8], lent: usize) {
+        let record = Record::answered(kind, circuit, hand_in, lent);
+        self.size += record.size(self.records.last().is_some_and(|last| last.circuit == circuit));
+        self.records.push(record);
+    }
+
+    /// The call of any kind with hand-ins that are good if the circuit is, or bad too.
+    pub fn call_any_kind(&mut self, circuit: &[u8]) {
+        let kind = self.rng.pick(&[READ, READ, DERIVATION, PAIR, SOLVE]);
+        let good = self.rng.once_in(2);
+        let hand_in = match kind {
+            DERIVATION if good => write_steps(&[]),
+            PAIR if good => write_pair(1, &[0], &[0]),
+            DERIVATION | PAIR => b"no hand-in"[..self.rng.below(10)].to_vec(),
+            _ => Vec::new(),
+        };
+        let lent = if kind.is_multiple_of(2) { self.rng.below(60) } else { 0 };
+        self.call(kind, circuit, &hand_in, lent);
+    }
+
+    /// The solver and its own derivation, followed by the marker.
+    pub fn solve_and_mark(&mut self, circuit: &[u8]) {
+        let read = read_circuit(circuit).expect("a valid circuit");
+        let n = usize::from(read.signals);
+        self.call(READ, circuit, &[], 0);
+        self.call(SOLVE, circuit, &[], 7 + 14 * n);
+        self.call(DERIVATION, circuit, &write_steps(&derive(&read).0), n);
+    }
+
+    /// A random circuit with some calls on it and on damaged versions of it.
+    fn random_circuit(&mut self) {
+        match self.rng.below(24) {
+            0 | 1 => return self.planted_pair(),
+            2 => return self.random_edge(),
+            3 => return self.ties(),
+            _ => (),
+        }
+        let circuit = self.any_circuit();
+        let read = read_circuit(&circuit).expect("generated circuits are valid");
+        if self.rng.once_in(6) {
+            self.call(READ, &circuit, &[], 0);
+        }
+        if self.rng.once_in(2) {
+            let lent = self.lent(7 + 14 * usize::from(read.signals));
+            self.call(SOLVE, &circuit, &[], lent);
+        }
+        if self.rng.once_in(2) {
+            self.derivations(&circuit, &read);
+        }
+        if brute::is_small(&read) && self.rng.once_in(4) {
+            self.pairs(&circuit, &read);
+        }
+        for _ in 0..self.rng.pick(&[0, 0, 1, 2]) {
+            let bytes = damaged(&mut self.rng, &circuit);
+            self.call_any_kind(&bytes);
+        }
+    }
+
+    /// The solver where many steps are on offer.
+    fn ties(&mut self) {
+        let circuit = tied(&mut self.rng);
+        let n = usize::from(read_circuit(&circuit).expect("tied circuits are valid").signals);
+        self.call(SOLVE, &circuit, &[], 7 + 14 * n);
+    }
+
+    fn random_edge(&mut self) {
+        let edge = any_edge(&mut self.rng);
+        let solve = self.rng.once_in(3);
+        self.edge(&edge, solve);
+    }
+
+    /// Derivations at the edge of a rule, and perhaps the solver on their circuit.
+    fn edge(&mut self, edge: &Edge, solve: bool) {
+        let n = usize::from(read_circuit(&edge.circuit).expect("edge circuits are valid").signals);
+        for steps in &edge.derivations {
+            self.call(DERIVATION, &edge.circuit, &write_steps(steps), n);
+        }
+        if solve {
+            self.call(SOLVE, &edge.circuit, &[], 7 + 14 * n);
+        }
+    }
+
+    /// A circuit of any sort, mostly tiny.
+    fn any_circuit(&mut self) -> Vec<u8> {
+        let rng = &mut self.rng;
+        let p = rng.pick(&PRIMES);
+        match rng.below(120) {
+            0..=74 => tiny(rng),
+            75..=99 => small(rng),
+            100..=104 => any(rng, 12),
+            105..=118 => {
+                let most = rng.range(2, 10) as u16;
+                grown(rng, p, most)
+            }
+            _ => grown(rng, p, 60),
+        }
+    }
+
+    /// A buffer length: the one needed, longer or shorter.
+    fn lent(&mut self, needed: usize) -> usize {
+        match self.rng.below(20) {
+            0 => needed - 1,
+            1 => self.rng.below(needed),
+            2..=4 => needed + 1,
+            5..=7 => needed + self.rng.below(40),
+            _ => needed,
+        }
+    }
+
+    /// One or two derivations: the solver's, or a random one, as it is or changed.
+    fn derivations(&mut self, circuit: &[u8], read: &Circuit) {
+        let rules = Rules::new(read);
+        for _ in 0..self.rng.range(1, 2) {
+            let rng = &mut self.rng;
+            let found = if rng.once_in(2) { derive(read).0 } else { random_derivation(rng, &rules, 40) };
+            let steps = match rng.below(6) {
+                0 => padded(rng, &found, (found.len() + 5).min(30)),
+                1 => {
+                    let mut steps = found;
+                    rng.shuffle(&mut steps);
+                    steps
+                }
+                2 => with_changed_field(rng, read, &found),
+                3 => {
+                    let mut steps = found;
+                    steps.extend(random_step(rng, read));
+                    steps
+                }
+                _ => found,
+            };
+            let mut derivation = write_steps(&steps);
+            if rng.once_in(6) {
+                derivation = damaged_derivation(rng, &derivation);
+            }
+            let lent = self.lent(usize::from(read.signals));
+            self.call(DERIVATION, circuit, &derivation, lent);
+        }
+    }
+
+    fn pairs(&mut self, circuit: &[u8], read: &Circuit) {
+        for pair in small_pairs(&mut self.rng, read) {
+            let pair = if self.rng.once_in(4) { damaged_pair(&mut self.rng, read, &pair) } else { pair };
+            if self.rng.below(3) > 0 {
+                self.call(PAIR, circuit, &pair, 0);
+            }
+        }
+    }
+
+    /// A circuit over any prime with two planted runs, handed in well and badly.
+    fn planted_pair(&mut self) {
+        let rng = &mut self.rng;
+        let (p, n, constraints) = (rng.pick(&PRIMES), rng.range(1, 6) as u16, rng.below(5));
+        let Planted { circuit, q, first, second } = planted(rng, p, n, constraints, 3);
+        let read = read_circuit(&circuit).expect("planted circuits are valid");
+        let pair = write_pair(q, &first, &second);
+        let broken = damaged_pair(rng, &read, &pair);
+        let reversed = damaged_pair(rng, &read, &write_pair(q, &second, &first));
+        for pair in [pair, broken, reversed] {
+            self.call(PAIR, &circuit, &pair, 0);
+        }
+        self.derivations(&circuit, &read);
+    }
+}

@@ -1,0 +1,142 @@
+//! Derivations and pairs to hand in, good and bad.
+
+use crate::brute;
+use crate::marker::MOST_STEPS;
+use crate::pair::write_pair;
+use crate::random::Random;
+use crate::reader::{number16, number32, Circuit};
+use crate::rules::{Rules, Standing, Step, ROOT, ZERO};
+
+/// A random step with its fields in range, if the circuit has any for the kind drawn.
+pub fn random_step(rng: &mut Random, circuit: &Circuit) -> Option<Step> {
+    let kind = rng.range(1, 5) as u8;
+    let mut signal = || rng.range(1, usize::from(circuit.signals)) as u16;
+    let (target, other) = (signal(), signal());
+    if kind == ZERO {
+        return Some(Step::new(kind, target, 0, 0));
+    }
+    if circuit.constraints.is_empty() {
+        return None;
+    }
+    let constraint = rng.below(circuit.constraints.len());
+    // Most steps look for their target in the constraint.
+    let forms = [&circuit.constraints[constraint].a, &circuit.constraints[constraint].b, &circuit.constraints[constraint].c];
+    let named: Vec<u16> = forms.iter().flat_map(|form| form.signals()).map(|&(signal, _)| signal).collect();
+    let target = if named.is_empty() || rng.once_in(4) { target } else { rng.pick(&named) };
+    let other = if named.is_empty() || rng.once_in(4) { other } else { rng.pick(&named) };
+    Some(Step::new(kind, target, constraint as u16 + 1, if kind == 5 { other } else { 0 }))
+}
+
+/// Random steps, each of which meets its rule where it stands; so many are tried.
+pub fn random_derivation(rng: &mut Random, rules: &Rules, tries: usize) -> Vec<Step> {
+    let mut standing = Standing::start(rules.circuit);
+    let mut steps = Vec::new();
+    for _ in 0..tries {
+        let step = random_step(rng, rules.circuit);
+        steps.extend(step.filter(|&step| rules.take(&mut standing, step)));
+    }
+    steps
+}
+
+/// The steps with earlier ones repeated among them: a rule once met stays met.
+pub fn padded(rng: &mut Random, steps: &[Step], length: usize) -> Vec<Step> {
+    let mut padded: Vec<Step> = steps.to_vec();
+    while !padded.is_empty() && padded.len() < length {
+        let from = rng.below(padded.len());
+        let to = rng.range(from + 1, padded.len());
+        padded.insert(to, padded[from]);
+    }
+    padded
+}
+
+/// The steps with one field of one of them changed.
+pub fn with_changed_field(rng: &mut Random, circuit: &Circuit, steps: &[Step]) -> Vec<Step> {
+    let mut changed = steps.to_vec();
+    if changed.is_empty() {
+        changed.push(Step::new(ROOT, 1, 1, 0));
+    }
+    let (n, m) = (circuit.signals, circuit.constraints.len() as u16);
+    let at = rng.below(changed.len());
+    let step = &mut changed[at];
+    match rng.below(8) {
+        0 => step.kind = rng.pick(&[0, 6, 7, 128, 255]),
+        1 => step.kind = rng.range(1, 5) as u8,
+        2 => step.target = rng.pick(&[0, n + 1, 65_535, step.target + 256]),
+        3 => step.target = rng.range(1, usize::from(n)) as u16,
+        4 => step.constraint = rng.pick(&[0, 1, m + 1, 65_535, step.constraint + 256]),
+        5 => step.constraint = rng.range(1, usize::from(m.max(1))) as u16,
+        6 => step.reference = rng.pick(&[0, 1, n, n + 1, 65_535]),
+        _ => step.reference = rng.range(1, usize::from(n)) as u16,
+    }
+    changed
+}
+
+/// A derivation file with a fault in its first bytes or its length, now and then with two.
+pub fn damaged_derivation(rng: &mut Random, derivation: &[u8]) -> Vec<u8> {
+    let bytes = fault_in_derivation(rng, derivation);
+    match bytes.len() >= 7 && rng.once_in(4) {
+        true => fault_in_derivation(rng, &bytes),
+        false => bytes,
+    }
+}
+
+fn fault_in_derivation(rng: &mut Random, derivation: &[u8]) -> Vec<u8> {
+    let mut bytes = derivation.to_vec();
+    let count = number16(&bytes, 5);
+    let put_count = |bytes: &mut Vec<u8>, count: u16| bytes[5..7].copy_from_slice(&count.to_le_bytes());
+    match rng.below(7) {
+        0 => bytes[rng.below(3)] = rng.pick(b"dqtCP\0"),
+        1 => bytes[rng.range(3, 4)] = rng.pick(&[2, 3, 255]),
+        2 => put_count(&mut bytes, count.wrapping_add(1)),
+        3 => put_count(&mut bytes, rng.pick(&[0, count.saturating_sub(1), MOST_STEPS as u16 + 1, 65_535, count.wrapping_add(256)])),
+        4 => bytes.truncate(rng.below(derivation.len())),
+        5 => bytes.extend((0..rng.range(1, 7)).map(|byte| byte as u8)),
+        _ => bytes.truncate(rng.below(8)),
+    }
+    bytes
+}
+
+/// A pair file with a fault in its first bytes, its length, its output or a value, now and then with two.
+pub fn damaged_pair(rng: &mut Random, circuit: &Circuit, pair: &[u8]) -> Vec<u8> {
+    let bytes = fault_in_pair(rng, circuit, pair);
+    match bytes.len() >= pair.len() && rng.once_in(4) {
+        true => fault_in_pair(rng, circuit, &bytes),
+        false => bytes,
+    }
+}
+
+fn fault_in_pair(rng: &mut Random, circuit: &Circuit, pair: &[u8]) -> Vec<u8> {
+    let mut bytes = pair.to_vec();
+    let (n, i, o, p) = (circuit.signals, circuit.inputs, circuit.outputs, circuit.field.prime() as u32);
+    let value = 7 + 4 * rng.below(2 * usize::from(n));
+    let old = number32(&bytes, value);
+    match rng.below(8) {
+        0 => bytes[rng.below(3)] = rng.pick(b"pqtCD\0"),
+        1 => bytes[rng.range(3, 4)] = rng.pick(&[2, 3, 255]),
+        2 => bytes[5..7].copy_from_slice(&rng.pick(&[0, i, i + o + 1, n + 1, 65_535, i + 1 + 256]).to_le_bytes()),
+        3 => bytes.truncate(rng.below(pair.len())),
+        4 => bytes.extend((0..rng.range(1, 8)).map(|byte| byte as u8)),
+        5 | 6 => bytes[value..value + 4].copy_from_slice(&rng.pick(&[p, p + 1, u32::MAX, old.wrapping_add(p), 0x8000_0000]).to_le_bytes()),
+        _ => bytes[value..value + 4].copy_from_slice(&(old.wrapping_add(1) % p).to_le_bytes()),
+    }
+    bytes
+}
+
+/// Pairs for a small circuit: accepted ones, and satisfying runs that agree at the output or differ in an input.
+pub fn small_pairs(rng: &mut Random, circuit: &Circuit) -> Vec<Vec<u8>> {
+    let runs = brute::satisfying_runs(circuit);
+    let output = |rng: &mut Random| rng.range(usize::from(circuit.inputs) + 1, usize::from(circuit.inputs + circuit.outputs)) as u16;
+    let mut result = Vec::new();
+    let found = brute::pairs(circuit, &runs, 20);
+    for _ in 0..found.len().min(2) {
+        let (q, first, second) = rng.pick(&found);
+        result.push(write_pair(q, &runs[first], &runs[second]));
+    }
+    if !runs.is_empty() {
+        let (first, second) = (rng.below(runs.len()), rng.below(runs.len()));
+        result.push(write_pair(output(rng), &runs[first], &runs[second]));
+        let values: Vec<u32> = (0..circuit.signals).map(|_| rng.below(circuit.field.prime() as usize) as u32).collect();
+        result.push(if rng.once_in(2) { write_pair(output(rng), &values, &runs[first]) } else { write_pair(output(rng), &runs[first], &values) });
+    }
+    result
+}

@@ -1,0 +1,40 @@
+//! A second solver, marker and pair checker for rank-1 circuits.
+//!
+//! Written from document 01 alone, in plain unverified Rust, so that its answers can be held against those of the verified program. It computes
+//! by other means: forms are sorted lists, inverses are Fermat powers, marks are sets, sums are 128 bits wide, and the solver keeps every sum and
+//! every set of digits up to date instead of searching anew for each step.
+//!
+//! The four calls take bytes and answer a result or a [`Refusal`]; a refusal writes nothing:
+//! - [`read_circuit`] reads a circuit (refusals 1 to 10);
+//! - [`check_derivation`] follows a derivation and writes its marks (1 to 17);
+//! - [`check_pair`] checks a pair of runs (1 to 10, 18 to 24);
+//! - [`solve`] writes the derivation that document 01 prescribes (1 to 10, 25).
+//!
+//! [`vectors`] is the file format of the test vectors, [`compose`] fills such a file, [`generate`], [`grow`] and [`planted`] make the
+//! circuits for it, and [`worst`] those on which a solver works longest.
+
+pub mod brute;
+pub mod cases;
+pub mod compose;
+pub mod damage;
+pub mod edge;
+pub mod field;
+pub mod generate;
+pub mod grow;
+pub mod hand_in;
+pub mod limits;
+pub mod marker;
+pub mod pair;
+pub mod planted;
+pub mod random;
+pub mod reader;
+pub mod rules;
+pub mod solver;
+pub mod vectors;
+pub mod worst;
+pub mod writer;
+
+pub use marker::check_derivation;
+pub use pair::check_pair;
+pub use reader::{read_circuit, Circuit, Refusal};
+pub use solver::solve;

@@ -1,0 +1,195 @@
+//! The file of test vectors: calls with the answers that they must get. Little-endian; `VQT`, 16-bit version 1, 32-bit count, then the records.
+
+use crate::reader::{number16, number32, Refusal};
+use crate::{check_derivation, check_pair, read_circuit, solve};
+
+pub const READ: u8 = 1;
+pub const DERIVATION: u8 = 2;
+pub const PAIR: u8 = 3;
+pub const SOLVE: u8 = 4;
+
+/// Stands for the length of a circuit that is the one of the record before.
+const SAME_CIRCUIT: u32 = u32::MAX;
+
+/// What a call must answer: a refusal (number and place) or values, and what it must have written.
+#[derive(Clone, Debug, Default, PartialEq, Eq)]
+pub struct Answer {
+    pub number: u16,
+    pub place: u32,
+    pub values: [u32; 5],
+    pub written: Vec<u8>,
+}
+
+/// One call: its kind, its arguments and its answer.
+#[derive(Clone, Debug, PartialEq, Eq)]
+pub struct Record {
+    pub kind: u8,
+    pub circuit: Vec<u8>,
+    pub hand_in: Vec<u8>,
+    pub lent: u32,
+    pub answer: Answer,
+}
+
+impl Record {
+    /// The call with the answer that this crate gives.
+    pub fn answered(kind: u8, circuit: &[u8], hand_in: &[u8], lent: usize) -> Record {
+        Record { kind, circuit: circuit.to_vec(), hand_in: hand_in.to_vec(), lent: lent as u32, answer: answer(kind, circuit, hand_in, lent) }
+    }
+
+    /// Whether this crate gives the same answer.
+    pub fn agrees(&self) -> bool {
+        self.answer == answer(self.kind, &self.circuit, &self.hand_in, self.lent as usize)
+    }
+
+    /// How many bytes the record takes in the file.
+    pub fn size(&self, same_circuit: bool) -> usize {
+        43 + if same_circuit { 0 } else { self.circuit.len() } + self.hand_in.len() + self.answer.written.len()
+    }
+}
+
+/// Makes the call on a buffer of the lent length and checks that no byte beyond the written ones has changed.
+pub fn answer(kind: u8, circuit: &[u8], hand_in: &[u8], lent: usize) -> Answer {
+    let filling: Vec<u8> = (0..lent).map(|index| (index * 37 + 90) as u8 | 2).collect();
+    let mut buffer = filling.clone();
+    let result = call(kind, circuit, hand_in, &mut buffer);
+    let written = result.map_or(0, |(_, written)| written);
+    assert_eq!(buffer[written..], filling[written..], "bytes beyond the written ones have changed");
+    buffer.truncate(written);
+    match result {
+        Ok((values, _)) => Answer { number: 0, place: 0, values, written: buffer },
+        Err(Refusal { number, place }) => Answer { number, place, ..Answer::default() },
+    }
+}
+
+/// The values that the call answers, and how many bytes it writes.
+fn call(kind: u8, circuit: &[u8], hand_in: &[u8], buffer: &mut [u8]) -> Result<([u32; 5], usize), Refusal> {
+    let read = read_circuit(circuit)?;
+    let [n, i, o] = [read.signals, read.inputs, read.outputs].map(u32::from);
+    Ok(match kind {
+        READ => ([read.field.prime() as u32, n, i, o, read.constraints.len() as u32], 0),
+        DERIVATION => {
+            let (count, fixed) = check_derivation(circuit, hand_in, buffer)?;
+            ([count as u32, u32::from(fixed), 0, 0, 0], n as usize)
+        }
+        PAIR => ([u32::from(check_pair(circuit, hand_in)?), 0, 0, 0, 0], 0),
+        _ => {
+            let (count, fixed, length) = solve(circuit, buffer)?;
+            ([count as u32, u32::from(fixed), length as u32, 0, 0], length)
+        }
+    })
+}
+
+/// The file with these records.
+pub fn write(records: &[Record]) -> Vec<u8> {
+    let mut file = b"VQT".to_vec();
+    file.extend(1u16.to_le_bytes());
+    file.extend((records.len() as u32).to_le_bytes());
+    let mut last: Option<&[u8]> = None;
+    for record in records {
+        file.push(record.kind);
+        if last == Some(&record.circuit) {
+            file.extend(SAME_CIRCUIT.to_le_bytes());
+        } else {
+            put_bytes(&mut file, &record.circuit);
+        }
+        last = Some(&record.circuit);
+        put_bytes(&mut file, &record.hand_in);
+        file.extend(record.lent.to_le_bytes());
+        file.extend(record.answer.number.to_le_bytes());
+        file.extend(record.answer.place.to_le_bytes());
+        record.answer.values.iter().for_each(|value| file.extend(value.to_le_bytes()));
+        put_bytes(&mut file, &record.answer.written);
+    }
+    file
+}
+
+fn put_bytes(file: &mut Vec<u8>, bytes: &[u8]) {
+    file.extend((bytes.len() as u32).to_le_bytes());
+    file.extend(bytes);
+}
+
+/// The records of a file, one after the other.
+pub struct Records<'a> {
+    file: &'a [u8],
+    at: usize,
+    left: u32,
+    circuit: Option<&'a [u8]>,
+}
+
+/// Starts reading a file of vectors.
+pub fn records(file: &[u8]) -> Result<Records<'_>, String> {
+    if file.len() < 9 || &file[..3] != b"VQT" || number16(file, 3) != 1 {
+        return Err("not a version 1 file of vectors".to_string());
+    }
+    Ok(Records { file, at: 9, left: number32(file, 5), circuit: None })
+}
+
+impl<'a> Records<'a> {
+    fn take(&mut self, length: usize) -> Result<&'a [u8], String> {
+        let part = self.file.get(self.at..self.at + length).ok_or(format!("the file ends within a record at {}", self.at))?;
+        self.at += length;
+        Ok(part)
+    }
+
+    fn number(&mut self) -> Result<u32, String> {
+        Ok(number32(self.take(4)?, 0))
+    }
+
+    fn bytes(&mut self) -> Result<&'a [u8], String> {
+        let length = self.number()? as usize;
+        self.take(length)
+    }
+
+    fn circuit(&mut self) -> Result<&'a [u8], String> {
+        let circuit = match self.number()? {
+            SAME_CIRCUIT => self.circuit.ok_or("the first record has no circuit")?,
+            length => self.take(length as usize)?,
+        };
+        self.circuit = Some(circuit);
+        Ok(circuit)
+    }
+
+    fn record(&mut self) -> Result<Record, String> {
+        let kind = self.take(1)?[0];
+        let (circuit, hand_in) = (self.circuit()?.to_vec(), self.bytes()?.to_vec());
+        let lent = self.number()?;
+        let number = number16(self.take(2)?, 0);
+        let place = self.number()?;
+        let mut values = [0; 5];
+        for value in &mut values {
+            *value = self.number()?;
+        }
+        let written = self.bytes()?.to_vec();
+        Ok(Record { kind, circuit, hand_in, lent, answer: Answer { number, place, values, written } })
+    }
+}
+
+impl Iterator for Records<'_> {
+    type Item = Result<Record, String>;
+
+    fn next(&mut self) -> Option<Self::Item> {
+        if self.left == 0 {
+            let rest = self.file.len() - self.at;
+            self.at = self.file.len();
+            return (rest > 0).then(|| Err(format!("{rest} bytes follow the last record")));
+        }
+        self.left -= 1;
+        Some(self.record().inspect_err(|_| (self.left, self.at) = (0, self.file.len())))
+    }
+}
+
+/// How many records of each kind there are, and how often each refusal occurs, at how many places.
+pub fn summary(records: &[Record]) -> String {
+    let mut text = format!("{} records\n", records.len());
+    for (kind, name) in [(READ, "read circuit"), (DERIVATION, "derivation"), (PAIR, "pair"), (SOLVE, "solve")] {
+        let all = records.iter().filter(|record| record.kind == kind);
+        let accepted = all.clone().filter(|record| record.answer.number == 0).count();
+        text += &format!("kind {kind} ({name}): {} records, {accepted} not refused\n", all.count());
+    }
+    for number in 1..=25 {
+        let places: Vec<u32> = records.iter().filter(|record| record.answer.number == number).map(|record| record.answer.place).collect();
+        let different: std::collections::BTreeSet<&u32> = places.iter().collect();
+        text += &format!("refusal {number}: {} records, {} places\n", places.len(), different.len());
+    }
+    text
+}
