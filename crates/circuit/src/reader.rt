@@ -131,7 +131,7 @@ pub(crate) fn check_constraint(s: &[u8], n: u32, p: u32) -> Found
 }
 
 // The rest after a form whose count byte stands first; nothing where the bytes end before.
-pub(crate) fn after_form(s: &[u8]) -> &[u8]
+pub fn after_form(s: &[u8]) -> &[u8]
     ensures { λ r. ⌜ now r ≡ afterForm (now (s .entry)) ⌝ }
 {
     let size = 1 + 6 * (byte_at(s, 0) as usize);

@@ -1,0 +1,90 @@
+-- The bytes of steps list them again, so steps that are accepted are an accepted derivation.
+use Prim.Native.Nat.{ℕ, suc, _+_, _*_, _≤_}
+use mathlib.Core.Path.{_≡_, refl, sym, ap, _∙_}
+use mathlib.Core.Bool.{true}
+use mathlib.Core.List.{List, [], _∷_, _++_}
+use mathlib.Core.Option.{some}
+use native.Mathlib.Nat.{div-add-mod'}
+use native.Mathlib.Omega.{arith}
+use lib.ListN.{length, drop}
+use lib.Seq.{drop-drop}
+use Rattle.circuit.specs.Bytes.{byteAt, u16At}
+use Rattle.circuit.specs.Circuit.{Circuit}
+use Rattle.circuit.specs.Reader.{marked}
+use Rattle.circuit.proofs.ByteLaws.{byte-drop, u16-drop}
+use Rattle.laws.specs.Standing.{start}
+use Rattle.laws.specs.Step.{Kind, Root, Sum, Zero, Product, Digits, Step, met, replay, accepted}
+use Rattle.laws.specs.Solver.{kindNumber}
+use Rattle.derivation.specs.Steps.{kindOf, stepStart, stepAt, stepsFrom, stepsOf}
+use Rattle.derivation.specs.Call.{Accepted, lastOf}
+use Rattle.derivation.specs.Encoded.{low, high, stepBytes, stepsBytes, encoded}
+use Rattle.derivation.proofs.Walks.{steps-known}
+use Rattle.derivation.proofs.Exact.{Lists, lists-accepted}
+
+low-high : (x : ℕ) → low x + 256 * high x ≡ x
+low-high x = omega (arith, div-add-mod' x 256)
+
+kind-numbered : (q : Kind) → kindOf (kindNumber q) ≡ some q
+unfolding kindOf
+kind-numbered Root = refl
+kind-numbered Sum = refl
+kind-numbered Zero = refl
+kind-numbered Product = refl
+kind-numbered Digits = refl
+
+bytes-length : (xs : List Step) → length (stepsBytes xs) ≡ 7 * length xs
+unfolding stepsBytes stepBytes
+bytes-length [] = refl
+bytes-length (x ∷ xs) = omega (arith, bytes-length xs)
+
+-- the bytes from step k on are those of the steps
+module _ (d : List ℕ) where
+  module _ (k : ℕ) (x : Step) (rest : List ℕ) (e : drop (stepStart k) d ≡ stepBytes x ++ rest) where
+    kind-read : kindOf (byteAt d (stepStart k)) ≡ some (x .kind)
+    unfolding stepBytes byteAt
+    kind-read =
+        ap (λ (j : ℕ). kindOf (byteAt d j)) (omega arith)
+        ∙ ap kindOf (sym (byte-drop (stepStart k) d 0) ∙ ap (λ (l : List ℕ). byteAt l 0) e)
+        ∙ kind-numbered (x .kind)
+
+    field-read : (j : ℕ) → u16At d (stepStart k + j) ≡ u16At (stepBytes x ++ rest) j
+    field-read j = sym (u16-drop (stepStart k) d j) ∙ ap (λ (l : List ℕ). u16At l j) e
+
+    step-read : stepAt (x .kind) d k ≡ x
+    unfolding stepAt stepBytes u16At byteAt
+    step-read =
+        let t : u16At d (stepStart k + 1) ≡ x .target = field-read 1 ∙ low-high (x .target) in
+        let con : u16At d (stepStart k + 3) ≡ x .constraint = field-read 3 ∙ low-high (x .constraint) in
+        let r : u16At d (stepStart k + 5) ≡ x .reference = field-read 5 ∙ low-high (x .reference) in
+        ap (λ (s : ℕ). record { kind = x .kind; target = s; constraint = u16At d (stepStart k + 3); reference = u16At d (stepStart k + 5) }) t
+        ∙ ap (λ (s : ℕ). record { kind = x .kind; target = x .target; constraint = s; reference = u16At d (stepStart k + 5) }) con
+        ∙ ap (λ (s : ℕ). record { kind = x .kind; target = x .target; constraint = x .constraint; reference = s }) r
+
+    rest-read : drop (stepStart (suc k)) d ≡ rest
+    unfolding stepStart stepBytes
+    rest-read =
+        let next : stepStart (suc k) ≡ stepStart k + 7 = omega arith in
+        ap (λ (j : ℕ). drop j d) next ∙ sym (drop-drop 7 (stepStart k) d) ∙ ap (drop 7) e
+
+  pub steps-listed : (k : ℕ) (xs : List Step) → drop (stepStart k) d ≡ stepsBytes xs → stepsFrom d k (length xs) ≡ xs
+  unfolding stepsFrom stepsBytes
+  steps-listed k [] e = refl
+  steps-listed k (x ∷ xs) e =
+      steps-known d k (length xs) (kind-read k x (stepsBytes xs) e)
+      ∙ rw (step-read k x (stepsBytes xs) e, steps-listed (suc k) xs (rest-read k x (stepsBytes xs) e))
+
+pub encoded-lists : (xs : List Step) → Lists (encoded xs) xs
+unfolding encoded marked u16At byteAt stepsOf stepStart
+encoded-lists xs =
+    record {
+      mark = refl;
+      version = refl;
+      count = low-high (length xs);
+      sized = omega (arith, bytes-length xs);
+      steps = ap (stepsFrom (encoded xs) 0) (low-high (length xs)) ∙ steps-listed (encoded xs) 0 xs refl;
+    }
+
+-- steps that are accepted, written as bytes, are an accepted derivation that leads where they lead
+pub encoded-accepted : (C : Circuit) (xs : List Step) → length xs ≤ 4096 → accepted C (start C) xs ≡ true
+    → Accepted C (encoded xs) × (lastOf C (encoded xs) ≡ replay C (start C) xs)
+encoded-accepted C xs few met = lists-accepted C (encoded xs) xs (encoded-lists xs) few met

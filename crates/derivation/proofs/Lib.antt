@@ -1,0 +1,9 @@
+pub mod Walks
+pub mod Exact
+pub mod Sound
+pub mod Encoding
+pub mod Cases
+pub mod OffsetLaws
+pub mod MarkLaws
+pub mod StepLaws
+pub mod CallLaws

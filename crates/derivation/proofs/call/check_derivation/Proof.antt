@@ -1,0 +1,52 @@
+-- `derivation::call::check_derivation`: the circuit first, then the call on it.
+use mathlib.Core.Path.{sym, ap, _∙_}
+use borrow.Author.Needs.{needs}
+use Rattle.circuit.specs.Answer.{paperOf}
+use Rattle.derivation.proofs.CallLaws as laws
+use Rattle.derivation.proofs.call.check_derivation.Statement.{statement}
+use Rattle.derivation.proofs.call.check_derivation.Tie as tie
+
+check-circuit-requires : tie.Need-check-circuit-requires
+check-circuit-requires c κs = search needs
+
+enum-known-answer : tie.Need-enum-known-answer
+enum-known-answer c = search needs
+
+enum-known-answer-2 : tie.Need-enum-known-answer-2
+enum-known-answer-2 c = search needs
+
+check-on-requires : tie.Need-check-on-requires
+check-on-requires c κs =
+    let told = c .before .before in
+    laws.circuit-sized _ (sym (ap paperOf (told .answer2 .given .1)) ∙ told .before .before .check-circuit .ensures)
+
+returns : tie.Need-returns
+returns c =
+    let e = c .before .before .before in
+    let a = e .before .before .before .before .args in
+    let r =
+    laws.circuit-refused (a .circuit .now) (a .derivation .now) (a .marks .now)
+    (sym (ap paperOf (c .before .answer .given .1)) ∙ e .check-circuit .ensures)
+    in
+    laws.call-keeps (a .circuit .now) (a .derivation .now) (a .marks .now) _ _ (r .0) (r .1)
+
+same-length : tie.Need-same-length
+same-length c = search needs
+
+returns-2 : tie.Need-returns-2
+returns-2 c =
+    let r = c .before .before in
+    let a = r .before .before .before .before .before .before .before .before .before .args in
+    laws.call-keeps (a .circuit .now) (a .derivation .now) (a .marks .now) _ _ (r .check-on .ensures .0) (r .check-on .ensures .1)
+
+pub check-derivation-spec : {M : Type 1} → statement M
+check-derivation-spec =
+    tie.close
+    (tie.spec
+    check-circuit-requires
+    enum-known-answer
+    enum-known-answer-2
+    check-on-requires
+    returns
+    same-length
+    returns-2)

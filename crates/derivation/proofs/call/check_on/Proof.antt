@@ -1,0 +1,119 @@
+-- `derivation::call::check_on`: the header, the steps, then the marks; each way out is one law.
+use mathlib.Core.Path.{_≡_}
+use native.Mathlib.Omega.{arith}
+use lib.ListN.{length}
+use borrow.Author.Needs.{needs}
+use Rattle.rules.specs.View.{viewOf}
+use Rattle.rules.specs.Promise.{view}
+use Rattle.derivation.proofs.CallLaws as laws
+use Rattle.derivation.proofs.call.check_on.Statement.{statement}
+use Rattle.derivation.proofs.call.check_on.Tie as tie
+
+abbrev entry : tie.After-walk → tie.Start
+entry c = c .before .before .before .before .before .before .before
+
+check-header-requires : tie.Need-check-header-requires
+check-header-requires c κs = search needs
+
+enum-known-header : tie.Need-enum-known-header
+enum-known-header c = search needs
+
+returns : tie.Need-returns
+returns c =
+    let h = c .before .before .before in
+    let e = h .before .before .before .before in
+    laws.head-refused (e .args .circuit .now) (e .args .derivation .now) (e .args .marks .now) _ _ _ (e .pre .0) _ (h .check-header .ensures) _ _
+    (c .before .header .given .1)
+
+enum-told : tie.Need-enum-told
+enum-told c = search needs
+
+walk-requires : tie.Need-walk-requires
+walk-requires c κs = search needs
+
+enum-known-way : tie.Need-enum-known-way
+enum-known-way c = search needs
+
+returns-2 : tie.Need-returns-2
+returns-2 c =
+    let w = c .before .before .before in
+    let e = entry w in
+    let o = w .walk .result in
+    laws.walk-refused (e .args .circuit .now) (e .args .derivation .now) (e .args .marks .now) _ _ _ (e .pre .0) _
+    (w .before .before .before .check-header .ensures)
+    (w .before .enum-told .given .1)
+    (o .way)
+    (view (e .args .p) (o .next))
+    (w .walk .ensures)
+    _ _
+    (c .before .way .given .1)
+
+enum-told-2 : tie.Need-enum-told-2
+enum-told-2 c = search needs
+
+slice-aggregate-write-marks : tie.Need-slice-aggregate-write-marks
+slice-aggregate-write-marks c = search needs
+
+write-marks-requires : tie.Need-write-marks-requires
+write-marks-requires c κs =
+    let long : length (c .before .before .before .before .before .before .walk .result .next .marks) ≡ 257 = search needs in
+    let w = c .before .before .before .before .before .before in
+    let e = entry w in (
+      omega (arith, long, laws.few-signals _ _ _ _ (e .pre .0)),
+      laws.head-roomy (e .args .circuit .now) (e .args .derivation .now) (e .args .marks .now) _ _ _ (e .pre .0) _
+          (w .before .before .before .check-header .ensures)
+          (w .before .enum-told .given .1),
+    )
+
+slice-aggregate-verdict-of : tie.Need-slice-aggregate-verdict-of
+slice-aggregate-verdict-of c = search needs
+
+verdict-of-requires : tie.Need-verdict-of-requires
+verdict-of-requires c κs =
+    let long : length (c .before .before .before .before .before .before .before .before .before .before .walk .result .next .marks) ≡ 257
+    = search needs in
+    let e = entry (c .before .before .before .before .before .before .before .before .before .before) in
+    omega (arith, long, laws.few-outputs _ _ _ _ (e .pre .0) _ _ (e .pre .1) (e .pre .2))
+
+same-length : tie.Need-same-length
+same-length c = search needs
+
+returns-3 : tie.Need-returns-3
+unfolding viewOf
+returns-3 c =
+    let m = c .before .before .before .before in
+    let on = m .before .before .before .before .before in
+    let w = on .before .before in
+    let e = entry w in
+    let o = w .walk .result in
+    laws.walk-accepts (e .args .circuit .now) (e .args .derivation .now) (e .args .marks .now) _ _ _ (e .pre .0) _
+    (w .before .before .before .check-header .ensures)
+    (w .before .enum-told .given .1)
+    (o .way)
+    (view (e .args .p) (o .next))
+    (w .walk .ensures)
+    (on .enum-told2 .given .1) _ _ _ _ _
+    (e .pre .1)
+    (e .pre .2)
+    (m .write-marks .ensures .0)
+    (c .verdict-of .ensures)
+    (m .write-marks .ensures .1)
+
+pub check-on-spec : {M : Type 1} → statement M
+check-on-spec =
+    tie.close
+    (tie.spec
+    check-header-requires
+    enum-known-header
+    returns
+    enum-told
+    walk-requires
+    enum-known-way
+    returns-2
+    enum-told-2
+    slice-aggregate-write-marks
+    write-marks-requires
+    slice-aggregate-verdict-of
+    verdict-of-requires
+    same-length
+    returns-3)

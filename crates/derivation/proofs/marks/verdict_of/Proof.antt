@@ -1,0 +1,64 @@
+-- `derivation::marks::verdict_of`: all outputs passed are marked.
+use Prim.Native.Nat.{ℕ, _-_, _≤_, _<_}
+use mathlib.Core.Bool.{true}
+use mathlib.Core.Path.{_≡_}
+use native.Mathlib.Omega.{arith}
+use borrow.Author.Tests.{not-true, not-false}
+use borrow.Author.Needs.{needs}
+use Rattle.rules.specs.View.{markIn}
+use Rattle.derivation.specs.Call.{outputMarked}
+use Rattle.derivation.proofs.MarkLaws as laws
+use Rattle.derivation.proofs.marks.verdict_of.Statement.{statement}
+use Rattle.derivation.proofs.marks.verdict_of.Tie as tie
+
+abbrev Inv-loop : tie.InvT-loop
+Inv-loop marks i o inputs outputs j₀ j =
+    (j ≤ outputs) × ((k : ℕ) → k < j → outputMarked (markIn marks) i k ≡ true)
+
+abbrev μ-loop : tie.MeasureT-loop
+μ-loop marks i o inputs outputs j₀ j = outputs - j
+
+loop-holds : tie.Need-loop-holds Inv-loop μ-loop
+loop-holds c = (search needs, λ (k : ℕ) (h : k < 0). absurd (omega arith))
+
+add-if1 : tie.Need-add-if1 Inv-loop μ-loop
+add-if1 c = search needs
+
+add-if1-2 : tie.Need-add-if1-2 Inv-loop μ-loop
+add-if1-2 c = search needs
+
+shared-slice-read-if1 : tie.Need-shared-slice-read-if1 Inv-loop μ-loop
+shared-slice-read-if1 c = search needs
+
+returns : tie.Need-returns Inv-loop μ-loop
+unfolding markIn
+returns c = laws.one-unmarked _ _ (c .before .before .before .loop .j) (search needs) (laws.output-at _ _ _ (not-true _ (c .if1 .taken)))
+
+add-j : tie.Need-add-j Inv-loop μ-loop
+add-j c = search needs
+
+loop-less : tie.Need-loop-less Inv-loop μ-loop
+loop-less c = search needs
+
+loop-again : tie.Need-loop-again Inv-loop μ-loop
+unfolding markIn
+loop-again c = (search needs, laws.marked-more _ _ _ (c .before .before .before .loop .inv .1) (laws.output-at _ _ _ (not-false _ (c .if1 .left))))
+
+returns-2 : tie.Need-returns-2 Inv-loop μ-loop
+returns-2 c = laws.all-marked _ _ λ (k : ℕ) (h : k < c .before .before .args .o). c .before .loop .inv .1 k (omega arith)
+
+pub verdict-of-spec : {M : Type 1} → statement M
+verdict-of-spec =
+    tie.close
+    (tie.spec
+    Inv-loop
+    μ-loop
+    loop-holds
+    add-if1
+    add-if1-2
+    shared-slice-read-if1
+    returns
+    add-j
+    loop-less
+    loop-again
+    returns-2)

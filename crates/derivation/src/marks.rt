@@ -1,0 +1,53 @@
+// What an accepted derivation hands over: the marks, written and counted, and the verdict.
+
+use crate::answer::Verdict;
+ghost use mathlib.Core.Path.{_≡_};
+ghost use mathlib.Core.List.{_++_};
+ghost use Prim.Native.Nat.{_+_, _≤_, _<_};
+ghost use lib.ListN.{length, drop};
+ghost use Rattle.laws.specs.Sum.{all};
+ghost use Rattle.rules.specs.View.{markIn};
+ghost use Rattle.derivation.specs.Call.{bit, marksFrom, total, outputMarked, verdictBy};
+ghost use Rattle.derivation.specs.Answer.{verdictIn};
+
+// 1 for marked and 0 for not.
+fn bit_of(marked: bool) -> u8
+    ensures { λ r. ⌜ r ≡ bit marked ⌝ }
+{
+    if marked { 1 } else { 0 }
+}
+
+// Writes one byte for each of the n signals, and counts what it writes.
+pub(crate) fn write_marks(out: &mut [u8], marks: &[bool], n: u32) -> u32
+    requires { ⌜ (n < length (now marks)) × (n ≤ length (now out)) ⌝ }
+    ensures count { λ r. ⌜ r ≡ total (marksFrom (markIn (now (marks .entry))) 0 n) ⌝ }
+    ensures written { λ r. ⌜ now (out .exit) ≡ marksFrom (markIn (now (marks .entry))) 0 n ++ drop n (now (out .entry)) ⌝ }
+{
+    let end = n as usize;
+    let mut count: u32 = 0;
+    let mut s: usize = 0;
+    while s < end {
+        let byte = bit_of(marks[s + 1]);
+        out[s] = byte;
+        count = count + byte as u32;
+        s = s + 1;
+    }
+    count
+}
+
+// Whether every output is marked.
+pub(crate) fn verdict_of(marks: &[bool], i: u32, o: u32) -> Verdict
+    requires { ⌜ i + o < length (now marks) ⌝ }
+    ensures { λ r. ⌜ verdictIn r ≡ verdictBy (all o (outputMarked (markIn (now (marks .entry))) i)) ⌝ }
+{
+    let inputs = i as usize;
+    let outputs = o as usize;
+    let mut j: usize = 0;
+    while j < outputs {
+        if !marks[inputs + j + 1] {
+            return Verdict::Open;
+        }
+        j = j + 1;
+    }
+    Verdict::Fixed
+}

@@ -1,0 +1,142 @@
+-- Tests on the forms of a constraint as the code asks them: what a form names, linear, root and product, and the roots.
+use Prim.Native.Nat.{ℕ, suc, _+_, _-_, _*_, _%_, _≤_, _<_, max}
+use mathlib.Core.Path.{_≡_, refl, sym, _∙_}
+use mathlib.Core.Bool.{Bool, true, false, not, _&&_, _||_}
+use mathlib.Core.List.{List, [], _∷_}
+use native.Mathlib.Nat.{zero-add, zero-mod, mul-zero, mod-mod}
+use native.Mathlib.Decide.{decLe}
+use native.Mathlib.Omega.{arith}
+use lib.Dec.{eqb}
+use lib.ListN.{replicate}
+use Rattle.field.specs.Residue.{opposite}
+use Rattle.field.specs.Inverse.{inverse}
+use Rattle.field.proofs.Euclid.{inverse-small}
+use Rattle.circuit.specs.Circuit.{Form, coef, names}
+use Rattle.circuit.specs.Reader.{afterForm, formIn, constraintIn}
+use Rattle.laws.specs.Standing.{Standing}
+use Rattle.laws.specs.Rules.{namesNone, linear, isZero, namesOnly, rootMet, root, rootBound, othersMarked, productMet}
+use Rattle.laws.proofs.Sum.{true-or-false}
+use Rattle.rules.specs.View.{markIn}
+use Rattle.rules.specs.Steps.{allMarked}
+use Rattle.rules.proofs.ViewLaws.{mark-none}
+
+or-twice : (a : Bool) → (a || a) ≡ a
+or-twice true = refl
+or-twice false = refl
+
+or-last : (a b : Bool) → (a || b || false) ≡ (a || b)
+or-last true b = refl
+or-last false true = refl
+or-last false false = refl
+
+-- where nothing is marked, the signals but t are marked if none but t is named
+pub unmarked-only : (S : Standing) (t : ℕ) (f : Form) → ((s : ℕ) → S .marked s ≡ false) → othersMarked S t f ≡ namesOnly t f
+unfolding othersMarked namesOnly
+unmarked-only S t [] h = refl
+unmarked-only S t (x ∷ f) h =
+    rw (h (x .signal), or-last (eqb (x .signal) 0) (eqb (x .signal) t), unmarked-only S t f h)
+
+pub only-none : (f : Form) → namesOnly 0 f ≡ namesNone f
+unfolding namesOnly namesNone
+only-none [] = refl
+only-none (x ∷ f) = rw (or-twice (eqb (x .signal) 0), only-none f)
+
+-- a form has no terms if it names neither a signal nor the constant
+pub zero-names : (f : Form) → isZero f ≡ (namesNone f && not (names f 0))
+unfolding isZero namesNone names
+zero-names [] = refl
+zero-names (x ∷ f) = go (eqb (x .signal) 0) (namesNone f) (names f 0)
+  where
+    go : (a b c : Bool) → false ≡ ((a && b) && not (a || c))
+    go true true c = refl
+    go true false c = refl
+    go false b c = refl
+
+-- what the walk finds where no signal is marked
+module _ (k t : ℕ) (f : Form) (r : Bool)
+    (found : (b : ℕ → ℕ) → r ≡ othersMarked (record { bound = b; marked = markIn (replicate k false) }) t f) where
+  pub found-only : r ≡ namesOnly t f
+  found-only = found (λ s. 0) ∙ unmarked-only _ t f (mark-none k)
+
+pub found-none : (k : ℕ) (f : Form) (r : Bool)
+    → ((b : ℕ → ℕ) → r ≡ othersMarked (record { bound = b; marked = markIn (replicate k false) }) 0 f)
+    → r ≡ namesNone f
+found-none k f r found = found-only k 0 f r found ∙ only-none f
+
+-- What the tests on a constraint say, as far as each was asked.
+module _ (s b c : List ℕ) (b-is : b ≡ afterForm s) (c-is : c ≡ afterForm b) where
+  forms : constraintIn s ≡ record { a = formIn s; b = formIn b; c = formIn c }
+  unfolding constraintIn
+  forms = rw (c-is, b-is)
+
+  module _ (t : ℕ) (z : Bool) (z-is : z ≡ isZero (formIn c)) where
+    pub root-zero : z ≡ false → false ≡ rootMet (constraintIn s) t
+    unfolding rootMet
+    root-zero e = rw (forms, sym z-is ∙ e)
+
+    module _ (yes-z : z ≡ true) (a : Bool) (a-is : a ≡ (names (formIn s) t && namesOnly t (formIn s))) where
+      pub root-first : a ≡ false → false ≡ rootMet (constraintIn s) t
+      unfolding rootMet
+      root-first e = rw (forms, sym z-is ∙ yes-z, sym a-is ∙ e)
+
+      pub root-second : a ≡ true → (r : Bool) → r ≡ (names (formIn b) t && namesOnly t (formIn b)) → r ≡ rootMet (constraintIn s) t
+      unfolding rootMet
+      root-second e r h = h ∙ rw (forms, sym z-is ∙ yes-z, sym a-is ∙ e)
+
+pub linear-first : (s : List ℕ) (r : Bool) → r ≡ namesNone (formIn s) → r ≡ true → true ≡ linear (constraintIn s)
+unfolding linear constraintIn
+linear-first s r h e = rw (sym h ∙ e)
+
+pub linear-second : (s b : List ℕ) → b ≡ afterForm s → (r q : Bool) → r ≡ namesNone (formIn s) → r ≡ false → q ≡ namesNone (formIn b)
+    → q ≡ linear (constraintIn s)
+unfolding linear constraintIn
+linear-second s b b-is r q h e g = g ∙ rw (b-is, sym h ∙ e)
+
+module _ (s : List ℕ) (S : Standing) (t : ℕ) (l : Bool) (l-is : l ≡ linear (constraintIn s)) where
+  pub product-linear : l ≡ true → false ≡ productMet (constraintIn s) S t
+  unfolding productMet
+  product-linear e = rw (sym l-is ∙ e)
+
+  module _ (b c : List ℕ) (b-is : b ≡ afterForm s) (c-is : c ≡ afterForm b) (not-l : l ≡ false) (stands : Bool)
+      (stands-is : stands ≡ (names (formIn c) t && not (names (formIn s) t) && not (names (formIn b) t))) where
+    pub product-elsewhere : stands ≡ false → false ≡ productMet (constraintIn s) S t
+    unfolding productMet
+    product-elsewhere e = rw (sym l-is ∙ not-l, forms s b c b-is c-is, sym stands-is ∙ e)
+
+    pub product-rest : stands ≡ true → (r : Bool) → r ≡ allMarked S t (formIn s) (formIn b) (formIn c) → r ≡ productMet (constraintIn s) S t
+    unfolding productMet
+    product-rest e r h = h ∙ rw (sym l-is ∙ not-l, forms s b c b-is c-is, sym stands-is ∙ e)
+
+-- Roots
+
+pub root-small : (p : ℕ) (f : Form) (t : ℕ) → p < 2 → 0 ≡ root p f t
+unfolding root
+root-small p f t h = rw (sym (inverse-small p (coef f t) h), mul-zero, zero-mod)
+
+pub inverse-residue : (p c : ℕ) → inverse p (c % p) ≡ inverse p c
+unfolding inverse
+inverse-residue p c = rw (mod-mod c p)
+
+pub root-made : (p : ℕ) (f : Form) (t c d scale r : ℕ) → c ≡ coef f 0 % p → d ≡ coef f t % p → scale ≡ inverse p d
+    → r ≡ (0 + (p - c) * scale) % p → r ≡ root p f t
+unfolding root opposite
+root-made p f t c d scale r c-is d-is scale-is r-is = r-is ∙ rw (zero-add, scale-is, d-is, inverse-residue p (coef f t), c-is)
+
+module _ (p t a c : ℕ) (s b : List ℕ) (b-is : b ≡ afterForm s) (a-is : a ≡ root p (formIn s) t) (c-is : c ≡ root p (formIn b) t) where
+  larger : max a c ≡ rootBound p (constraintIn s) t
+  unfolding rootBound constraintIn
+  larger = rw (a-is, c-is, b-is)
+
+  pub larger-second : a < c → c ≡ rootBound p (constraintIn s) t
+  larger-second h = omega (arith, larger)
+
+  pub larger-first : c ≤ a → a ≡ rootBound p (constraintIn s) t
+  larger-first h = omega (arith, larger)
+
+-- a test that fails for every signal above 256
+pub low-by : (b : Bool) (t : ℕ) → b ≡ true → (256 < t → b ≡ false) → t < 257
+low-by b t e h = go (decLe (suc t) 257)
+  where
+    go : Dec (suc t ≤ 257) → t < 257
+    go (yes l) = l
+    go (no d) = true-or-false b e (h (omega arith))

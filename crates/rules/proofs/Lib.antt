@@ -1,0 +1,10 @@
+pub mod Products
+pub mod FormTests
+pub mod SumLaws
+pub mod Ranks
+pub mod DigitsLaws
+pub mod LinearRules
+pub mod Outcomes
+pub mod ReducedForm
+pub mod ViewLaws
+pub mod Walk

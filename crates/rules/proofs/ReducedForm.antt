@@ -1,0 +1,207 @@
+-- The reduced form, made by adding multiples of the three forms: its coefficients are those of the definition.
+use Prim.Native.Nat.{ℕ, zero, suc, _+_, _-_, _*_, _%_, _≤_, _<_}
+use mathlib.Core.Path.{_≡_, refl, sym, ap, _∙_}
+use mathlib.Core.List.{List, [], _∷_}
+use native.Mathlib.Nat.{mod-lt, mod-mod, mod-add-mod, mod-eq-of-lt, zero-mod, mul-zero, add-zero}
+use native.Mathlib.Decide.{ℕ-discrete, decLe}
+use native.Mathlib.Omega.{arith}
+use lib.Dec.{ltb}
+use lib.ListN.{length, set, replicate, length-set, length-replicate}
+use lib.Seq.{getD-set-same, getD-set-other}
+use borrow.Author.Tests.{eq-eqb, ne-eqb, lt-ltb, le-ltb}
+use Rattle.field.specs.Residue.{Congruent, opposite}
+use Rattle.field.proofs.Residue.{congruent-multiples, congruent-refl, congruent-sym, congruent-trans, congruent-plus, congruent-times}
+use Rattle.field.proofs.Residue.{congruent-mod, congruent-shift, opposite-only, opposite-plus}
+use Rattle.circuit.specs.Circuit.{Term, Form, coef}
+use Rattle.circuit.specs.Reader.{afterForm, formIn, constraintIn}
+use Rattle.laws.specs.Sum.{keep}
+use Rattle.laws.specs.Rules.{constant, reduced}
+use Rattle.laws.proofs.Sum.{keep-true, keep-false}
+use Rattle.rules.specs.View.{coefIn}
+use Rattle.rules.specs.Steps.{added}
+use Rattle.rules.proofs.ViewLaws.{coef-past, coef-none}
+use Rattle.rules.proofs.Walk.{form-coef-beyond}
+
+-- A form added
+
+pub added-length : (p k : ℕ) (f : Form) (acc : List ℕ) → length (added p k f acc) ≡ length acc
+unfolding added
+added-length p k [] acc = refl
+added-length p k (x ∷ f) acc = added-length p k f _ ∙ length-set acc (x .signal) _
+
+coef-set-same : (acc : List ℕ) (s x : ℕ) → s < length acc → coefIn (set acc s x) s ≡ x
+unfolding coefIn
+coef-set-same acc s x h = getD-set-same acc s x 0 h
+
+coef-set-other : (acc : List ℕ) (t s x : ℕ) → (s ≡ t → ⊥) → coefIn (set acc t x) s ≡ coefIn acc s
+unfolding coefIn
+coef-set-other acc t s x d = getD-set-other acc t s x 0 d
+
+coef-first : (x : Term) (f : Form) (s : ℕ) → x .signal ≡ s → coef (x ∷ f) s ≡ x .coefficient + coef f s
+unfolding coef
+coef-first x f s e = rw (eq-eqb (x .signal) s e)
+
+coef-later : (x : Term) (f : Form) (s : ℕ) → (x .signal ≡ s → ⊥) → coef (x ∷ f) s ≡ coef f s
+unfolding coef
+coef-later x f s d = rw (ne-eqb (x .signal) s d) (omega arith)
+
+-- one term added: the coefficient stays below p, and what is left to add gives the same
+module _ (p k : ℕ) (x : Term) (f : Form) (acc : List ℕ) (s : ℕ) (h : s < length acc) (l : coefIn acc s < p) where
+  one : List ℕ
+  one = set acc (x .signal) ((coefIn acc (x .signal) + k * x .coefficient) % p)
+
+  one-below : coefIn one s < p
+  unfolding one
+  one-below = go (ℕ-discrete (x .signal) s)
+    where
+      go : Dec (x .signal ≡ s) → coefIn one s < p
+      go (yes e) = rw e (rw (coef-set-same acc s ((coefIn acc s + k * x .coefficient) % p) h) (mod-lt _ (omega arith)))
+      go (no d) = rw (coef-set-other acc (x .signal) s ((coefIn acc (x .signal) + k * x .coefficient) % p) (λ (e : s ≡ x .signal). d (sym e))) l
+
+  one-rest : (coefIn one s + k * coef f s) % p ≡ (coefIn acc s + k * coef (x ∷ f) s) % p
+  unfolding one
+  one-rest = go (ℕ-discrete (x .signal) s)
+    where
+      go : Dec (x .signal ≡ s) → (coefIn one s + k * coef f s) % p ≡ (coefIn acc s + k * coef (x ∷ f) s) % p
+      go (yes e) =
+          ap (λ (n : ℕ). (n + k * coef f s) % p)
+          (ap (λ (i : ℕ). coefIn (set acc i ((coefIn acc i + k * x .coefficient) % p)) s) e ∙ coef-set-same acc s _ h)
+          ∙ mod-add-mod (coefIn acc s + k * x .coefficient) p (k * coef f s)
+          ∙ ap (λ (n : ℕ). n % p) (omega (arith, ap (λ (n : ℕ). k * n) (coef-first x f s e)))
+      go (no d) =
+          ap (λ (n : ℕ). (n + k * coef f s) % p) (coef-set-other acc (x .signal) s _ (λ (e : s ≡ x .signal). d (sym e)))
+          ∙ ap (λ (n : ℕ). (coefIn acc s + k * n) % p) (sym (coef-later x f s d))
+
+coef-empty : (s : ℕ) → coef [] s ≡ 0
+unfolding coef
+coef-empty s = refl
+
+pub added-at : (p k : ℕ) (f : Form) (acc : List ℕ) (s : ℕ) → s < length acc → coefIn acc s < p
+    → coefIn (added p k f acc) s ≡ (coefIn acc s + k * coef f s) % p
+unfolding added one
+added-at p k [] acc s h l =
+    sym (ap (λ (n : ℕ). n % p) (omega (arith, ap (λ (n : ℕ). k * n) (coef-empty s))) ∙ mod-eq-of-lt l)
+added-at p k (x ∷ f) acc s h l =
+    added-at p k f (one p k x f acc s h l) s (rw (length-set acc (x .signal) ((coefIn acc (x .signal) + k * x .coefficient) % p)) h)
+    (one-below p k x f acc s h l)
+    ∙ one-rest p k x f acc s h l
+
+-- The coefficients, modulo p
+
+multiplied : {p x a b x′ a′ b′ : ℕ} → Congruent p x x′ → Congruent p a a′ → Congruent p b b′ → Congruent p ((x + a * b) % p) (x′ + a′ * b′)
+multiplied {p} hx ha hb = congruent-trans (congruent-mod p _) (congruent-plus hx (congruent-times ha hb))
+
+-- p - 1 times x is -x
+minus : (p q x : ℕ) → p ≡ suc q → Congruent p (q * x) (opposite p x)
+minus p q x e = opposite-only x (omega arith) (congruent-multiples p 0 x (omega (arith, ap (λ (n : ℕ). x * n) e)))
+
+-- three multiples added one after the other; A and B with the constants a0 and b0, C
+abbrev threeAdded : ℕ → ℕ → ℕ → ℕ → ℕ → ℕ → ℕ
+threeAdded p a0 b0 a b c = (((0 + a0 % p * b) % p + b0 % p * a) % p + (p - 1) * c) % p
+
+three : (p a0 b0 a b c : ℕ) → 1 < p → Congruent p (threeAdded p a0 b0 a b c) (a0 * b + b0 * a + opposite p c)
+three p a0 b0 a b c h =
+    congruent-trans
+    (multiplied
+    (multiplied (multiplied (congruent-refl p 0) (congruent-mod p a0) (congruent-refl p b)) (congruent-mod p b0) (congruent-refl p a))
+    (congruent-refl p (p - 1))
+    (congruent-refl p c))
+    (congruent-shift _ _ (minus p (p - 1) c (omega arith)) (omega arith))
+
+-- at a signal
+signal-value : (p a0 b0 a b c : ℕ) → 1 < p
+    → threeAdded p a0 b0 a b c ≡ (a0 * b + b0 * a + opposite p 0 + opposite p c) % p
+signal-value p a0 b0 a b c h =
+    sym (mod-mod _ p)
+    ∙ congruent-trans (three p a0 b0 a b c h) (congruent-shift _ _ (congruent-sym (opposite-plus {p = p} 0 (omega arith))) (omega arith)) .is
+
+-- at the constant, with a0·b0 taken off
+constant-value : (p a0 b0 c : ℕ) → 1 < p
+    → (threeAdded p a0 b0 a0 b0 c + (p - (0 + a0 % p * (b0 % p)) % p) * 1) % p ≡ (a0 * b0 + b0 * a0 + opposite p (a0 * b0) + opposite p c) % p
+unfolding opposite
+constant-value p a0 b0 c h =
+    let product : (0 + a0 % p * (b0 % p)) % p ≡ (a0 * b0) % p =
+    congruent-trans (congruent-plus (congruent-refl p 0) (congruent-times (congruent-mod p a0) (congruent-mod p b0)))
+    (congruent-refl p (0 + a0 * b0)) .is ∙ ap (λ (n : ℕ). n % p) (omega arith) in
+    ap (λ (m : ℕ). (threeAdded p a0 b0 a0 b0 c + (p - m) * 1) % p) product
+    ∙ congruent-shift _ _ (three p a0 b0 a0 b0 c h) (omega arith) .is
+
+-- the coefficients of the constraint's forms
+module _ (p : ℕ) (s : List ℕ) (h : 1 < p) where
+  reduced-signal : (t : ℕ)
+      → reduced p (constraintIn s) (suc t)
+      ≡ threeAdded p (coef (formIn s) 0) (coef (formIn (afterForm s)) 0) (coef (formIn s) (suc t)) (coef (formIn (afterForm s)) (suc t))
+      (coef (formIn (afterForm (afterForm s))) (suc t))
+  unfolding reduced constant constraintIn
+  reduced-signal t = sym (signal-value p _ _ _ _ _ h)
+
+  reduced-constant :
+      reduced p (constraintIn s) 0
+      ≡ (threeAdded p (coef (formIn s) 0) (coef (formIn (afterForm s)) 0) (coef (formIn s) 0) (coef (formIn (afterForm s)) 0)
+      (coef (formIn (afterForm (afterForm s))) 0)
+      + (p - (0 + coef (formIn s) 0 % p * (coef (formIn (afterForm s)) 0 % p)) % p) * 1)
+      % p
+  unfolding reduced constant constraintIn
+  reduced-constant = sym (constant-value p _ _ _ h)
+
+  -- no signal above 256 occurs
+  pub reduced-past : (t : ℕ) → 256 < t → reduced p (constraintIn s) t ≡ 0
+  reduced-past zero l = absurd (omega arith)
+  reduced-past (suc t) l =
+      reduced-signal t
+      ∙ rw (form-coef-beyond s (suc t) l, form-coef-beyond (afterForm s) (suc t) l, form-coef-beyond (afterForm (afterForm s)) (suc t) l)
+      (zeros (coef (formIn s) 0 % p) (coef (formIn (afterForm s)) 0 % p))
+    where
+      zeros : (x y : ℕ) → (((0 + x * 0) % p + y * 0) % p + (p - 1) * 0) % p ≡ 0
+      zeros x y = simp (mul-zero, zero-mod, add-zero)
+
+  -- the forms added one after the other, from nothing
+  module _
+      (b c : List ℕ) (b-is : b ≡ afterForm s) (c-is : c ≡ afterForm b)
+      (a0 b0 : ℕ) (a0-is : a0 ≡ coef (formIn s) 0 % p) (b0-is : b0 ≡ coef (formIn b) 0 % p)
+      (n : ℕ) (first second third : List ℕ)
+      (first-is : first ≡ added p a0 (formIn b) (replicate n 0))
+      (second-is : second ≡ added p b0 (formIn s) first)
+      (third-is : third ≡ added p (p - 1) (formIn c) second) where
+    third-length : length third ≡ n
+    third-length =
+        ap length third-is ∙ added-length p _ _ second ∙ ap length second-is ∙ added-length p _ _ first ∙ ap length first-is
+        ∙ added-length p _ _ (replicate n 0)
+        ∙ length-replicate {A = ℕ} n 0
+
+    third-at : (t : ℕ) → t < n
+        → coefIn third t
+        ≡ threeAdded p (coef (formIn s) 0) (coef (formIn (afterForm s)) 0) (coef (formIn s) t) (coef (formIn (afterForm s)) t)
+        (coef (formIn (afterForm (afterForm s))) t)
+    third-at t l =
+        let e₁ : coefIn first t ≡ (0 + a0 * coef (formIn b) t) % p =
+        ap (λ (x : List ℕ). coefIn x t) first-is
+        ∙ added-at p a0 (formIn b) (replicate n 0) t (rw (length-replicate {A = ℕ} n 0) l) (rw (coef-none n t) (omega arith))
+        ∙ ap (λ (x : ℕ). (x + a0 * coef (formIn b) t) % p) (coef-none n t) in
+        let l₁ : t < length first = rw (ap length first-is ∙ added-length p _ _ (replicate n 0) ∙ length-replicate {A = ℕ} n 0) l in
+        let e₂ : coefIn second t ≡ (coefIn first t + b0 * coef (formIn s) t) % p =
+        ap (λ (x : List ℕ). coefIn x t) second-is ∙ added-at p b0 (formIn s) first t l₁ (rw e₁ (mod-lt _ (omega arith))) in
+        let l₂ : t < length second = rw (ap length second-is ∙ added-length p _ _ first) l₁ in
+        let e₃ : coefIn third t ≡ (coefIn second t + (p - 1) * coef (formIn c) t) % p =
+        ap (λ (x : List ℕ). coefIn x t) third-is ∙ added-at p (p - 1) (formIn c) second t l₂ (rw e₂ (mod-lt _ (omega arith))) in
+        e₃ ∙ rw (e₂, e₁, a0-is, b0-is, c-is, b-is)
+
+    pub reduced-made : (m r : ℕ) → 256 < n → n ≤ 257 → m ≡ (0 + a0 * b0) % p → r ≡ (coefIn third 0 + (p - m) * 1) % p
+        → (t : ℕ) → coefIn (set third 0 r) t ≡ keep (ltb 1 p) (reduced p (constraintIn s) t)
+    reduced-made m r some most m-is r-is t = go t ∙ sym (keep-true (ltb 1 p) _ (lt-ltb 1 p h))
+      where
+        go : (t : ℕ) → coefIn (set third 0 r) t ≡ reduced p (constraintIn s) t
+        go zero =
+            coef-set-same third 0 r (rw third-length (omega arith)) ∙ r-is
+            ∙ rw (m-is, third-at 0 (omega arith), a0-is, b0-is, b-is) (sym reduced-constant)
+        go (suc t) = within (decLe (suc (suc t)) n)
+          where
+            within : Dec (suc (suc t) ≤ n) → coefIn (set third 0 r) (suc t) ≡ reduced p (constraintIn s) (suc t)
+            within (yes l) =
+                coef-set-other third 0 (suc t) r (λ (e : suc t ≡ 0). omega arith) ∙ third-at (suc t) l ∙ sym (reduced-signal t)
+            within (no d) =
+                coef-past (set third 0 r) (suc t) (rw (length-set third 0 r, third-length) (omega arith))
+                ∙ sym (reduced-past (suc t) (omega arith))
+
+pub reduced-small : (p n : ℕ) (s : List ℕ) → p < 2 → (t : ℕ) → coefIn (replicate n 0) t ≡ keep (ltb 1 p) (reduced p (constraintIn s) t)
+reduced-small p n s h t = coef-none n t ∙ sym (keep-false (ltb 1 p) _ (le-ltb 1 p (omega arith)))

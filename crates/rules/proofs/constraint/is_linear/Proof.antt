@@ -1,0 +1,28 @@
+-- `rules::constraint::is_linear`: A names no signal, or B does not.
+use borrow.Author.Needs.{needs}
+use Rattle.rules.proofs.FormTests as tests
+use Rattle.rules.proofs.constraint.is_linear.Statement.{statement}
+use Rattle.rules.proofs.constraint.is_linear.Tie as tie
+
+names-none-requires : tie.Need-names-none-requires
+names-none-requires c κs = search needs
+
+returns : tie.Need-returns
+returns c = tests.linear-first _ _ (c .before .names-none .ensures) (c .if1 .taken)
+
+after-form-requires : tie.Need-after-form-requires
+after-form-requires c κs = search needs
+
+names-none-requires-2 : tie.Need-names-none-requires-2
+names-none-requires-2 c κs = search needs
+
+returns-2 : tie.Need-returns-2
+returns-2 c =
+    let c₃ = c .before .before .before in
+    tests.linear-second _ _ (c .before .after-form .ensures) _ _ (c₃ .names-none .ensures) (c .before .before .if1 .left)
+    (c .names-none2 .ensures)
+
+pub is-linear-spec : {M : Type 1} → statement M
+is-linear-spec =
+    tie.close
+    (tie.spec names-none-requires returns after-form-requires names-none-requires-2 returns-2)

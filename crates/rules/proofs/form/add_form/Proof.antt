@@ -1,0 +1,111 @@
+-- `rules::form::add_form`: at each turn the whole is what is left of the form, added to what was reached.
+use borrow.Author.Needs.{needs}
+use Prim.Native.Nat.{_+_, _*_, _≤_}
+use mathlib.Core.Path.{_≡_, ap, _∙_}
+use mathlib.Core.Logic.{⊎-elim}
+use native.Mathlib.Omega.{arith}
+use lib.ListN.{length, length-set}
+use Rattle.rules.proofs.Walk as walk
+use Rattle.rules.specs.View.{coefIn}
+use Rattle.rules.specs.Steps.{added}
+use Rattle.circuit.specs.Reader.{formIn}
+use Rattle.rules.proofs.form.add_form.Statement.{statement}
+use Rattle.rules.proofs.form.add_form.Tie as tie
+
+abbrev Inv-loop : tie.InvT-loop
+Inv-loop acc₀ part factor p left₀ at₀ acc left at =
+    (at + 6 * left ≤ 1531) × (length acc ≡ length acc₀)
+    × (added p factor (formIn part) acc₀ ≡ added p factor (walk.termsFrom part left at) acc)
+
+abbrev μ-loop : tie.MeasureT-loop
+μ-loop acc₀ part factor p left₀ at₀ acc left at = left
+
+byte-at-requires : tie.Need-byte-at-requires Inv-loop μ-loop
+byte-at-requires c κs = search needs
+
+loop-holds : tie.Need-loop-holds Inv-loop μ-loop
+loop-holds c =
+    let c₃ = c .before .before .before in (
+      omega arith,
+      search needs,
+      ap (λ f. added (c₃ .args .p) (c₃ .args .factor) f (c₃ .args .acc .now))
+          (walk.form-start _ _ (c .byte-at .ensures .0)),
+    )
+
+u16-at-requires : tie.Need-u16-at-requires Inv-loop μ-loop
+u16-at-requires c κs = search needs
+
+cast-signal : tie.Need-cast-signal Inv-loop μ-loop
+cast-signal c = search needs
+
+mul-multiply-add : tie.Need-mul-multiply-add Inv-loop μ-loop
+mul-multiply-add c = search needs
+
+slice-read-multiply-add : tie.Need-slice-read-multiply-add Inv-loop μ-loop
+slice-read-multiply-add c = search needs
+
+add-u32-at : tie.Need-add-u32-at Inv-loop μ-loop
+add-u32-at c = omega arith
+
+u32-at-requires : tie.Need-u32-at-requires Inv-loop μ-loop
+u32-at-requires c κs = search needs
+
+multiply-add-requires : tie.Need-multiply-add-requires Inv-loop μ-loop
+multiply-add-requires c κs = search needs
+
+mul-acc : tie.Need-mul-acc Inv-loop μ-loop
+mul-acc c = search needs
+
+slice-write-acc : tie.Need-slice-write-acc Inv-loop μ-loop
+slice-write-acc c = search needs
+
+add-at : tie.Need-add-at Inv-loop μ-loop
+add-at c = omega arith
+
+sub-left : tie.Need-sub-left Inv-loop μ-loop
+sub-left c = search needs
+
+loop-less : tie.Need-loop-less Inv-loop μ-loop
+loop-less c = omega arith
+
+loop-again : tie.Need-loop-again Inv-loop μ-loop
+unfolding coefIn
+loop-again c =
+    let l = c .before .before .before .loop in
+    let sized : length (l .acc) ≤ 257 = omega arith in
+    let hit = walk.added-hit _ _ _ (c .before .before .loop-test .taken) _ (c .before .u16-at .ensures .0) _ _ _ _ (l .inv .2) sized in
+    let on = walk.added-on _ _ _ (c .before .before .loop-test .taken) _ (c .before .u16-at .ensures .0) _ _ _ _ (l .inv .2) sized in (
+      omega arith,
+      ⊎-elim (λ w. ap length (w .4) ∙ simp length-set (l .inv .1)) (λ w. ap length (w .1) ∙ l .inv .1) (c .if1 .came),
+      ⊎-elim (λ w. rw (w .4) (hit _ _ (w .2 .ensures) (w .3 .ensures .0))) (λ w. rw (w .1) (on (w .0 .left))) (c .if1 .came),
+    )
+
+same-length : tie.Need-same-length Inv-loop μ-loop
+same-length c = c .before .loop .inv .1
+
+returns : tie.Need-returns Inv-loop μ-loop
+returns c = walk.added-end _ _ _ (c .loop-test .left) _ _ _ _ (c .before .loop .inv .2)
+
+pub add-form-spec : {M : Type 1} → statement M
+add-form-spec =
+    tie.close
+    (tie.spec
+    Inv-loop
+    μ-loop
+    byte-at-requires
+    loop-holds
+    u16-at-requires
+    cast-signal
+    mul-multiply-add
+    slice-read-multiply-add
+    add-u32-at
+    u32-at-requires
+    multiply-add-requires
+    mul-acc
+    slice-write-acc
+    add-at
+    sub-left
+    loop-less
+    loop-again
+    same-length
+    returns)

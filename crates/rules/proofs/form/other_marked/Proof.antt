@@ -1,0 +1,26 @@
+-- `rules::form::other_marked`: one test after the other.
+use borrow.Author.Needs.{needs}
+use mathlib.Core.Path.{sym, _∙_}
+use borrow.Author.Tests.{eq-eqb, ne-eqb, lt-leb, le-leb}
+use Rattle.rules.proofs.form.other_marked.Statement.{statement}
+use Rattle.rules.proofs.form.other_marked.Tie as tie
+
+returns : tie.Need-returns
+returns c = rw (lt-leb _ _ (c .if1 .taken))
+
+returns-2 : tie.Need-returns-2
+returns-2 c = rw (le-leb _ _ (c .before .if1 .left), eq-eqb _ _ (c .if2 .taken))
+
+returns-3 : tie.Need-returns-3
+returns-3 c = rw (le-leb _ _ (c .before .before .if1 .left), ne-eqb _ _ (c .before .if2 .left), eq-eqb _ _ (c .if3 .taken))
+
+mark-at-requires : tie.Need-mark-at-requires
+mark-at-requires c κs = search needs
+
+returns-4 : tie.Need-returns-4
+returns-4 c =
+    let c₃ = c .before .before .before in
+    c .mark-at .ensures ∙ sym (rw (le-leb _ _ (c₃ .if1 .left), ne-eqb _ _ (c .before .before .if2 .left), ne-eqb _ _ (c .before .if3 .left)))
+
+pub other-marked-spec : {M : Type 1} → statement M
+other-marked-spec = tie.close (tie.spec returns returns-2 returns-3 mark-at-requires returns-4)

@@ -1,0 +1,30 @@
+-- `rules::standing::Standing::digits`: not met, or the target is marked.
+use borrow.Author.Needs.{needs}
+use mathlib.Core.Path.{sym, _∙_}
+use borrow.Author.Tests.{not-true, not-false}
+use Rattle.rules.proofs.Outcomes as laws
+use Rattle.rules.proofs.LinearRules as rule
+use Rattle.rules.proofs.standing.Standing.digits.Statement.{statement}
+use Rattle.rules.proofs.standing.Standing.digits.Tie as tie
+
+digits-met-requires : tie.Need-digits-met-requires
+digits-met-requires c κs = search needs
+
+unmet-requires : tie.Need-unmet-requires
+unmet-requires c κs = search needs
+
+returns : tie.Need-returns
+returns c = laws.gives-no _ _ _ _ _ (c .unmet .ensures) (sym (c .before .before .digits-met .ensures) ∙ not-true _ (c .before .if1 .taken))
+
+marked-requires : tie.Need-marked-requires
+marked-requires c κs = rule.digits-low _ _ _ _ _ _ (sym (c .before .digits-met .ensures) ∙ not-false _ (c .if1 .left))
+
+returns-2 : tie.Need-returns-2
+returns-2 c =
+    let c₉ = c .before .before .before .before .before .before .before .before .before in
+    laws.gives-yes _ _ _ _ _ (c .marked .ensures .0) (c .marked .ensures .1 (c₉ .args .p))
+    (sym (c .before .before .digits-met .ensures) ∙ not-false _ (c .before .if1 .left))
+
+pub digits-spec : {M : Type 1} → statement M
+digits-spec =
+    tie.close (tie.spec digits-met-requires unmet-requires returns marked-requires returns-2)

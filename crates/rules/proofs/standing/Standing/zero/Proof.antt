@@ -1,0 +1,51 @@
+-- `rules::standing::Standing::zero`: not met, or the target is marked.
+use borrow.Author.Needs.{needs}
+use native.Mathlib.Omega.{arith}
+use lib.ListN.{length}
+use mathlib.Core.Path.{_≡_}
+use Rattle.rules.proofs.Outcomes as laws
+use Rattle.rules.proofs.standing.Standing.zero.Statement.{statement}
+use Rattle.rules.proofs.standing.Standing.zero.Tie as tie
+
+unmet-requires : tie.Need-unmet-requires
+unmet-requires c κs = search needs
+
+returns : tie.Need-returns
+returns c =
+    let sized : length (c .before .before .args .t1 .bounds) ≡ 257 = search needs in
+    λ p h. laws.gives-no _ _ _ _ _ (c .unmet .ensures) (laws.zero-past p _ _ _ h (omega arith))
+
+mul-if2 : tie.Need-mul-if2
+mul-if2 c = search needs
+
+element-copy-out-if2 : tie.Need-element-copy-out-if2
+element-copy-out-if2 c = search needs
+
+unmet-requires-2 : tie.Need-unmet-requires-2
+unmet-requires-2 c κs = search needs
+
+returns-2 : tie.Need-returns-2
+returns-2 c =
+    let sized : length (c .before .before .before .before .args .t1 .bounds) ≡ 257 = search needs in
+    λ p h. laws.gives-no _ _ _ _ _ (c .unmet2 .ensures) (laws.zero-no p _ _ _ (omega arith) (c .before .if2 .taken))
+
+marked-requires : tie.Need-marked-requires
+marked-requires c κs = omega arith
+
+returns-3 : tie.Need-returns-3
+returns-3 c =
+    let sized : length (c .before .before .before .before .args .t1 .bounds) ≡ 257 = search needs in
+    λ p h. laws.gives-yes _ _ _ _ _ (c .marked .ensures .0) (c .marked .ensures .1 p) (laws.zero-yes p _ _ _ (omega arith) (c .before .if2 .left))
+
+pub zero-spec : {M : Type 1} → statement M
+zero-spec =
+    tie.close
+    (tie.spec
+    unmet-requires
+    returns
+    mul-if2
+    element-copy-out-if2
+    unmet-requires-2
+    returns-2
+    marked-requires
+    returns-3)

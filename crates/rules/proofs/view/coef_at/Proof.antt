@@ -1,0 +1,23 @@
+-- `rules::view::coef_at`: the element, or 0 past the end.
+use borrow.Author.Needs.{needs}
+use mathlib.Core.Path.{refl, sym}
+use Rattle.rules.proofs.ViewLaws.{coef-past}
+use Rattle.rules.specs.View.{coefIn}
+use Rattle.rules.proofs.view.coef_at.Statement.{statement}
+use Rattle.rules.proofs.view.coef_at.Tie as tie
+
+mul-result : tie.Need-mul-result
+mul-result c = search needs
+
+shared-slice-read-result : tie.Need-shared-slice-read-result
+shared-slice-read-result c = search needs
+
+returns : tie.Need-returns
+unfolding coefIn
+returns c = refl
+
+returns-2 : tie.Need-returns-2
+returns-2 c = sym (coef-past _ _ (c .if1 .left))
+
+pub coef-at-spec : {M : Type 1} → statement M
+coef-at-spec = tie.close (tie.spec mul-result shared-slice-read-result returns returns-2)

@@ -1,0 +1,26 @@
+// Arithmetic on 32-bit numbers that is exact in 64 bits.
+
+ghost use mathlib.Core.Path.{_≡_};
+ghost use Prim.Native.Nat.{_+_, _*_, _%_, _≤_, _<_, min};
+
+// x + a·b modulo p.
+pub(crate) fn multiply_add(x: u32, a: u32, b: u32, p: u32) -> u32
+    requires { ⌜ 0 < p ⌝ }
+    ensures { λ r. ⌜ (r ≡ (x + a * b) % p) × (r < p) ⌝ }
+{
+    ((x as u64 + a as u64 * b as u64) % p as u64) as u32
+}
+
+// a·b, which leaves room for a 32-bit number more.
+pub(crate) fn product(a: u32, b: u32) -> u64
+    ensures { λ r. ⌜ (r ≡ a * b) × (r ≤ 18446744065119617025) ⌝ }
+{
+    a as u64 * b as u64
+}
+
+// The lesser of two numbers.
+pub(crate) fn lesser(a: u32, b: u32) -> u32
+    ensures { λ r. ⌜ r ≡ min a b ⌝ }
+{
+    if a < b { a } else { b }
+}

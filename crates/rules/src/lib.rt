@@ -1,0 +1,9 @@
+// The five rules of document 01 as code over one constraint's part of the circuit bytes and the standing's arrays.
+
+mod arith;
+pub mod constraint;
+pub mod digits;
+pub mod form;
+pub mod standing;
+pub mod sums;
+mod view;

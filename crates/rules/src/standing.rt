@@ -1,0 +1,143 @@
+// The standing: a bound and a mark for each of up to 256 signals, and a method for each rule that gives the next standing.
+
+use crate::arith::lesser;
+use crate::constraint::product_met;
+use crate::constraint::root_bound;
+use crate::constraint::root_met;
+use crate::digits::digits_met;
+use crate::sums::sum_step;
+ghost use mathlib.Core.Path.{_≡_};
+ghost use mathlib.Core.Bool.{true, false};
+ghost use Prim.Native.Nat.{ℕ, _≤_, _<_, min};
+ghost use Rattle.circuit.specs.Reader.{constraintIn};
+ghost use Rattle.laws.specs.Standing.{largest, isInput, lower, mark};
+ghost use Rattle.laws.specs.Rules.{reduced, rootMet, rootBound, sumMet, sumBound, zeroMet, productMet, digitsMet};
+ghost use Rattle.rules.specs.Promise.{view, Gives};
+
+// Signal 0 is the constant one; bounds and marks of signals above 256 are those of the start.
+pub struct Standing {
+    pub bounds: [u32; 257],
+    pub marks: [bool; 257],
+}
+
+// The standing after a step, the same where the rule isn't met.
+pub struct Outcome {
+    pub next: Standing,
+    pub met: bool,
+}
+
+// The kinds of steps.
+pub enum Kind {
+    Root,
+    Sum,
+    Zero,
+    Product,
+    Digits,
+}
+
+impl Standing {
+    // The start: every bound is p - 1, and exactly the inputs 1 to i are marked.
+    pub fn start(p: u32, i: u32) -> Standing
+        ensures { λ r. ⌜ view p r ≡ record { bound = largest p; marked = isInput (min i 256) } ⌝ }
+    {
+        let mut bounds = [0u32; 257];
+        if 0 < p {
+            bounds = [p - 1; 257];
+        }
+        let mut marks = [false; 257];
+        let end = lesser(i, 256) as usize;
+        let mut s: usize = 0;
+        while s < end {
+            s = s + 1;
+            marks[s] = true;
+        }
+        Standing { bounds, marks }
+    }
+
+    fn unmet(self) -> Outcome
+        ensures { λ r. ⌜ (r .met ≡ false) × (r .next ≡ self) ⌝ }
+    {
+        Outcome {
+            next: self,
+            met: false,
+        }
+    }
+
+    // The target's bound becomes at most x.
+    fn lowered(mut self, t: u32, x: u32) -> Outcome
+        requires { ⌜ t < 257 ⌝ }
+        ensures { λ r. ⌜ (r .met ≡ true) × ((p : ℕ) → view p (r .next) ≡ lower (view p self) t x) ⌝ }
+    {
+        let at = t as usize;
+        self.bounds[at] = lesser(self.bounds[at], x);
+        Outcome {
+            next: self,
+            met: true,
+        }
+    }
+
+    // The target becomes marked.
+    fn marked(mut self, t: u32) -> Outcome
+        requires { ⌜ t < 257 ⌝ }
+        ensures { λ r. ⌜ (r .met ≡ true) × ((p : ℕ) → view p (r .next) ≡ mark (view p self) t) ⌝ }
+    {
+        let at = t as usize;
+        self.marks[at] = true;
+        Outcome {
+            next: self,
+            met: true,
+        }
+    }
+
+    pub fn root(self, part: &[u8], p: u32, t: u32) -> Outcome
+        ensures { λ r. ⌜ Gives p self r (rootMet (constraintIn (now (part .entry))) t)
+            (lower (view p self) t (rootBound p (constraintIn (now (part .entry))) t)) ⌝ }
+    {
+        if !root_met(part, t) {
+            return self.unmet();
+        }
+        self.lowered(t, root_bound(part, p, t))
+    }
+
+    pub fn sum(self, part: &[u8], n: u32, p: u32, t: u32) -> Outcome
+        ensures { λ r. ⌜ Gives p self r (sumMet p n (constraintIn (now (part .entry))) (view p self) t)
+            (lower (view p self) t (sumBound p n (reduced p (constraintIn (now (part .entry)))) (view p self) t)) ⌝ }
+    {
+        let bound = sum_step(part, &self.bounds, n, p, t);
+        if p as u64 <= bound {
+            return self.unmet();
+        }
+        self.lowered(t, bound as u32)
+    }
+
+    pub fn zero(self, t: u32) -> Outcome
+        ensures { λ r. ⌜ ((p : ℕ) → 1 < p → Gives p self r (zeroMet (view p self) t) (mark (view p self) t)) ⌝ }
+    {
+        if 256 < t {
+            return self.unmet();
+        }
+        let at = t as usize;
+        if self.bounds[at] != 0 {
+            return self.unmet();
+        }
+        self.marked(t)
+    }
+
+    pub fn product(self, part: &[u8], t: u32) -> Outcome
+        ensures { λ r. ⌜ ((p : ℕ) → 1 < p → Gives p self r (productMet (constraintIn (now (part .entry))) (view p self) t) (mark (view p self) t)) ⌝ }
+    {
+        if !product_met(part, &self.marks, t) {
+            return self.unmet();
+        }
+        self.marked(t)
+    }
+
+    pub fn digits(self, part: &[u8], n: u32, p: u32, t: u32, r: u32) -> Outcome
+        ensures { λ o. ⌜ Gives p self o (digitsMet p n (constraintIn (now (part .entry))) (view p self) t r) (mark (view p self) t) ⌝ }
+    {
+        if !digits_met(part, &self.bounds, &self.marks, n, p, t, r) {
+            return self.unmet();
+        }
+        self.marked(t)
+    }
+}
