@@ -72,19 +72,16 @@ derivation s steps = 68 ∷ 81 ∷ 84 ∷ 1 ∷ 0 ∷ s ∷ 0 ∷ steps
 abbrev circuit-a : Circuit
 circuit-a = record { p = 7; n = 2; i = 1; o = 1; m = 1; constraints = constraint (term 1 1 ∷ []) (term 1 1 ∷ []) (term 2 1 ∷ []) ∷ [] }
 
+-- p = 7, an input, an output and a third signal
+abbrev three : List Constraint → Circuit
+three Ks = record { p = 7; n = 3; i = 1; o = 1; m = 2; constraints = Ks }
+
 abbrev circuit-b : Circuit
 circuit-b =
-    record {
-      p = 7;
-      n = 3;
-      i = 1;
-      o = 1;
-      m = 2;
-      constraints =
-          constraint (term 3 1 ∷ []) (term 0 6 ∷ term 3 1 ∷ []) (term 1 6 ∷ [])
-          ∷ constraint (term 0 1 ∷ []) (term 0 1 ∷ term 2 6 ∷ term 3 1 ∷ []) []
-          ∷ [];
-    }
+    three
+    (constraint (term 3 1 ∷ []) (term 0 6 ∷ term 3 1 ∷ []) (term 1 6 ∷ [])
+    ∷ constraint (term 0 1 ∷ []) (term 0 1 ∷ term 2 6 ∷ term 3 1 ∷ []) []
+    ∷ [])
 
 -- s·(s - 1) = 0, modulo 13
 abbrev binary : ℕ → Constraint
@@ -114,17 +111,10 @@ circuit-f = record { p = 5; n = 1; i = 0; o = 1; m = 1; constraints = constraint
 
 abbrev circuit-g : Circuit
 circuit-g =
-    record {
-      p = 7;
-      n = 3;
-      i = 1;
-      o = 1;
-      m = 2;
-      constraints =
-          constraint (term 1 1 ∷ []) (term 3 1 ∷ []) (term 0 1 ∷ term 2 6 ∷ [])
-          ∷ constraint (term 1 1 ∷ []) (term 2 1 ∷ []) []
-          ∷ [];
-    }
+    three
+    (constraint (term 1 1 ∷ []) (term 3 1 ∷ []) (term 0 1 ∷ term 2 6 ∷ [])
+    ∷ constraint (term 1 1 ∷ []) (term 2 1 ∷ []) []
+    ∷ [])
 
 -- a circuit, a derivation's bytes, and what the call answers
 pub record Case : Type 0 where
@@ -136,7 +126,7 @@ abbrev cases : List Case
 cases =
     -- a: one step, product 2 by constraint 1
     record { circuit = circuit-a; bytes = derivation 1 (step 4 2 1 0); answer = accepted 2 Fixed }
-    -- b: open; neither the output nor w is settled by a product
+    -- b: open; steps for w and for the output are not met
     ∷ record { circuit = circuit-b; bytes = derivation 0 []; answer = accepted 1 Open }
     ∷ record { circuit = circuit-b; bytes = derivation 1 (step 4 3 1 0); answer = refused 17 1 }
     ∷ record { circuit = circuit-b; bytes = derivation 1 (step 5 2 2 2); answer = refused 17 1 }

@@ -153,7 +153,8 @@ pub(crate) fn take_step(
         r,
     );
     let next = outcome.next;
-    if !outcome.met {
+    let met = outcome.met;
+    if !met {
         return stop(next, 17, k + 1);
     }
     Turn { next, way: Way::On }

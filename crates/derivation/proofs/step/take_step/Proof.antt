@@ -120,14 +120,14 @@ ask-rule-requires : tie.Need-ask-rule-requires
 ask-rule-requires c κs = search needs
 
 add-stop-3 : tie.Need-add-stop-3
-add-stop-3 c = omega (arith, entry (c .before .before .before .before .before .before) .pre .0)
+add-stop-3 c = omega (arith, entry (c .before .before .before .before .before) .pre .0)
 
 stop-requires-3 : tie.Need-stop-requires-3
 stop-requires-3 c κs = search needs
 
 returns-3 : tie.Need-returns-3
 returns-3 c =
-    let asked = c .before .before .before .before in
+    let asked = c .before .before .before in
     let b = asked .before .before .before in
     let e = entry b in
     let rule = asked .ask-rule .ensures (laws.above-one _ _ _ _ (e .pre .1)) in
@@ -140,7 +140,7 @@ returns-3 c =
 
 returns-4 : tie.Need-returns-4
 returns-4 c =
-    let asked = c .before .before .before in
+    let asked = c .before .before in
     let b = asked .before .before .before in
     let e = entry b in
     let rule = asked .ask-rule .ensures (laws.above-one _ _ _ _ (e .pre .1)) in
