@@ -32,7 +32,7 @@ kind-numbered Zero = refl
 kind-numbered Product = refl
 kind-numbered Digits = refl
 
-bytes-length : (xs : List Step) → length (stepsBytes xs) ≡ 7 * length xs
+pub bytes-length : (xs : List Step) → length (stepsBytes xs) ≡ 7 * length xs
 unfolding stepsBytes stepBytes
 bytes-length [] = refl
 bytes-length (x ∷ xs) = omega (arith, bytes-length xs)

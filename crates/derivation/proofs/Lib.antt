@@ -2,7 +2,6 @@ pub mod Walks
 pub mod Exact
 pub mod Sound
 pub mod Encoding
-pub mod Cases
 pub mod OffsetLaws
 pub mod MarkLaws
 pub mod StepLaws

@@ -1,6 +1,7 @@
 // What an accepted derivation hands over: the marks, written and counted, and the verdict.
 
 use crate::answer::Verdict;
+use rules::view::mark_at;
 ghost use mathlib.Core.Path.{_≡_};
 ghost use mathlib.Core.List.{_++_};
 ghost use Prim.Native.Nat.{_+_, _≤_, _<_};
@@ -36,15 +37,14 @@ pub(crate) fn write_marks(out: &mut [u8], marks: &[bool], n: u32) -> u32
 }
 
 // Whether every output is marked.
-pub(crate) fn verdict_of(marks: &[bool], i: u32, o: u32) -> Verdict
-    requires { ⌜ i + o < length (now marks) ⌝ }
+pub fn verdict_of(marks: &[bool], i: u32, o: u32) -> Verdict
     ensures { λ r. ⌜ verdictIn r ≡ verdictBy (all o (outputMarked (markIn (now (marks .entry))) i)) ⌝ }
 {
     let inputs = i as usize;
     let outputs = o as usize;
     let mut j: usize = 0;
     while j < outputs {
-        if !marks[inputs + j + 1] {
+        if !mark_at(marks, inputs + j + 1) {
             return Verdict::Open;
         }
         j = j + 1;

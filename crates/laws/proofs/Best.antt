@@ -38,12 +38,12 @@ use Rattle.laws.proofs.Turns.{within-says, target-within, fields-fit}
 -- The order by several keys
 
 -- b is at most a, and on equal keys the rest doesn't decide for a
-first-by-says : (a b : ℕ) (rest : Bool) → firstBy a b rest ≡ false → (b ≤ a) × (a ≡ b → rest ≡ false)
+pub first-by-says : (a b : ℕ) (rest : Bool) → firstBy a b rest ≡ false → (b ≤ a) × (a ≡ b → rest ≡ false)
 unfolding firstBy
 first-by-says a b rest e =
     (ltb-false a b (or-false-left _ _ e), λ q. sym (rw (eq-eqb a b q) refl) ∙ or-false-right (ltb a b) (eqb a b && rest) e)
 
-first-by-holds : (a b : ℕ) (rest : Bool) → b ≤ a → (a ≡ b → rest ≡ false) → firstBy a b rest ≡ false
+pub first-by-holds : (a b : ℕ) (rest : Bool) → b ≤ a → (a ≡ b → rest ≡ false) → firstBy a b rest ≡ false
 unfolding firstBy
 first-by-holds a b rest l h = or-neither _ _ (le-ltb a b l) (go (ℕ-discrete a b))
   where
@@ -229,7 +229,7 @@ module _ (C : Circuit) (S : Standing) where
       go Product t k r l = absurd (omega (arith, l .less))
       go Digits t k r l = absurd (omega (arith, l .less))
 
-  bounding-fields : {q : Kind} (t k r : ℕ) → Bounding q → inRange C (step q t k r) ≡ true → ((1 ≤ k) × (k ≤ C .m)) × (r ≡ 0)
+  pub bounding-fields : {q : Kind} (t k r : ℕ) → Bounding q → inRange C (step q t k r) ≡ true → ((1 ≤ k) × (k ≤ C .m)) × (r ≡ 0)
   bounding-fields {q} t k r b e = go b (fields-fit C (step q t k r) e)
     where
       go : {q : Kind} → Bounding q → fields q (C .n) (C .m) k r ≡ true → ((1 ≤ k) × (k ≤ C .m)) × (r ≡ 0)

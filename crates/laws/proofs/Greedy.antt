@@ -121,7 +121,7 @@ pub record Reached (C : Circuit) (done : ℕ → Bool) (S : Standing) : Type 0 w
   pub low : (s : ℕ) → done s ≡ true → S .bound s ≤ level
   pub high : (y : Step) → lowers C S y ≡ true → level ≤ newBound C S y
 
-reached-start : (C : Circuit) (S : Standing) → Reached C none-done S
+pub reached-start : (C : Circuit) (S : Standing) → Reached C none-done S
 unfolding none-done
 reached-start C S = record { level = 0; low = λ s e. true-or-false false e refl; high = λ y e. omega arith }
 
@@ -162,7 +162,7 @@ module _ (C : Circuit) (S : Standing) (x : Step) (l : Lowering C S x)
             r .high x (lowers-holds C S x l),
           )
 
-bound-phase : (C : Circuit) → Phase C (bestBound C) (Reached C)
+pub bound-phase : (C : Circuit) → Phase C (bestBound C) (Reached C)
 bound-phase C = record { turn = turn }
   where
     turn : (done : ℕ → Bool) (S : Standing) (x : Step) → Reached C done S → bestBound C S ≡ some x → Turn C (Reached C) done S x

@@ -75,7 +75,7 @@ pick-keeps : (P : Option Step → Type 0) (b : Bool) (x : Step) (later : Option 
 pick-keeps P true x later h l = h refl
 pick-keeps P false x later h l = l
 
-within-holds : (n s : ℕ) → 1 ≤ s → s ≤ n → within n s ≡ true
+pub within-holds : (n s : ℕ) → 1 ≤ s → s ≤ n → within n s ≡ true
 unfolding within
 within-holds n s a b = and-both _ _ (le-leb 1 s a) (le-leb s n b)
 
@@ -148,14 +148,14 @@ module _ (C : Circuit) (S : Standing) where
       go (no h) rest = found-later (step Product t (suc k) 0) _ (rest (omega arith))
 
   -- the steps that mark t
-  abbrev Marks : ℕ → Step → Type 0
+  abbrev pub Marks : ℕ → Step → Type 0
   Marks t x = (x .target ≡ t) × Marker (x .kind) × (inRange C x ≡ true) × (met C S x ≡ true)
 
-  in-range-by : (q : Kind) (t k r : ℕ) → 1 ≤ t → t ≤ C .n → fields q (C .n) (C .m) k r ≡ true → inRange C (step q t k r) ≡ true
+  pub in-range-by : (q : Kind) (t k r : ℕ) → 1 ≤ t → t ≤ C .n → fields q (C .n) (C .m) k r ≡ true → inRange C (step q t k r) ≡ true
   unfolding inRange
   in-range-by q t k r a b e = and-both _ _ (within-holds (C .n) t a b) e
 
-  for-keeps : (P : Option Step → Type 0) (t : ℕ) (later : Option Step) → 1 ≤ t → t ≤ C .n
+  pub for-keeps : (P : Option Step → Type 0) (t : ℕ) (later : Option Step) → 1 ≤ t → t ≤ C .n
       → ((x : Step) → Marks t x → P (some x)) → P later → P (firstFor C S t later)
   unfolding firstFor
   for-keeps P t later a b h l =
@@ -240,7 +240,7 @@ pub record Marked (S₁ : Standing) (done : ℕ → Bool) (S : Standing) : Type 
   pub marks : (s : ℕ) → done s ≡ true → S .marked s ≡ true
   pub bounds : (s : ℕ) → S .bound s ≡ S₁ .bound s
 
-mark-phase : (C : Circuit) (S₁ : Standing) → Phase C (firstMark C) (Marked S₁)
+pub mark-phase : (C : Circuit) (S₁ : Standing) → Phase C (firstMark C) (Marked S₁)
 mark-phase C S₁ = record { turn = turn }
   where
     next : (done : ℕ → Bool) (S : Standing) (t : ℕ) → Marked S₁ done S → Marked S₁ (add done t) (mark S t)
@@ -260,7 +260,7 @@ mark-phase C S₁ = record { turn = turn }
           holds = rw (marking-after C S x (g .marker)) (next done S (x .target) h);
         }
 
-marked-start : (S₁ : Standing) → Marked S₁ none-done S₁
+pub marked-start : (S₁ : Standing) → Marked S₁ none-done S₁
 unfolding none-done
 marked-start S₁ = record { marks = λ s e. true-or-false false e refl; bounds = λ s. refl }
 

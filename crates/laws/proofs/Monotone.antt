@@ -94,6 +94,41 @@ module _ (S S′ : Standing) (below : (s : ℕ) → S′ .bound s ≤ S .bound s
       sum-mono (suc n) _ _
       (λ s l. keep-mono _ _ _ _ (same (not (eqb s t))) (λ e. mul-le-mul-left (sumWeight p (reduced p K) t s) (ceiling-mono s)))
 
+-- digits, where bounds are no higher and no more signals of the form are unmarked
+module _ (p : ℕ) (K : Constraint) (S S′ : Standing) (below : (s : ℕ) → S′ .bound s ≤ S .bound s)
+    (fewer : (s : ℕ) → live (reduced p K) S′ s ≡ true → live (reduced p K) S s ≡ true) where
+  differs-mono : (r s u : ℕ) → differs p (reduced p K) S r s u ≡ true → differs p (reduced p K) S′ r s u ≡ true
+  unfolding differs
+  differs-mono r s u = implies-mono (and-mono (fewer u) (same (not (eqb s u)))) (λ e h. h)
+
+  live-term-mono : (r u : ℕ) → liveTerm p (reduced p K) S′ r u ≤ liveTerm p (reduced p K) S r u
+  unfolding liveTerm
+  live-term-mono r u = keep-mono _ _ _ _ (fewer u) (λ e. mul-le-mul-left (weight p (reduced p K) r u) (below u))
+
+  smaller-sum-mono : (n r w : ℕ) → smallerSum p n (reduced p K) S′ r w ≤ smallerSum p n (reduced p K) S r w
+  unfolding smallerSum smallerTerm
+  smaller-sum-mono n r w =
+      sum-mono (suc n) _ _
+      (λ u l.
+      keep-mono _ _ _ _ (and-mono (fewer u) (same (ltb (weight p (reduced p K) r u) w)))
+      (λ e. mul-le-mul-left (weight p (reduced p K) r u) (below u)))
+
+  separate-mono : (n r s : ℕ) → separate p n (reduced p K) S r s ≡ true → separate p n (reduced p K) S′ r s ≡ true
+  unfolding separate
+  separate-mono n r s =
+      implies-mono (fewer s)
+      (λ l.
+      and-mono (all-mono (suc n) (differs-mono r s)) (ltb-mono (weight p (reduced p K) r s) (smaller-sum-mono n r (weight p (reduced p K) r s))))
+
+  pub separated-from : (n r : ℕ) → separated p n (reduced p K) S r ≡ true → separated p n (reduced p K) S′ r ≡ true
+  unfolding separated
+  separated-from n r =
+      and-mono (all-mono (suc n) (separate-mono n r)) (ltb-mono p (sum-mono (suc n) _ _ (λ u l. live-term-mono r u)))
+
+  pub digits-met-from : (n t r : ℕ) → digitsMet p n K S t r ≡ true → digitsMet p n K S′ t r ≡ true
+  unfolding digitsMet
+  digits-met-from n t r = and-mono (same (linear K && (occurs (reduced p K) t && occurs (reduced p K) r))) (separated-from n r)
+
 module _ {S S′ : Standing} (g : AtLeast S S′) where
   zero-met-mono : (t : ℕ) → zeroMet S t ≡ true → zeroMet S′ t ≡ true
   unfolding zeroMet
@@ -120,41 +155,14 @@ module _ {S S′ : Standing} (g : AtLeast S S′) where
   live-mono p K (suc s) =
       and-mono (same (occurs (reduced p K) (suc s))) (not-mono (S .marked (suc s)) (S′ .marked (suc s)) (g .marks (suc s)))
 
-  differs-mono : (p : ℕ) (K : Constraint) (r s u : ℕ) → differs p (reduced p K) S r s u ≡ true → differs p (reduced p K) S′ r s u ≡ true
-  unfolding differs
-  differs-mono p K r s u = implies-mono (and-mono (live-mono p K u) (same (not (eqb s u)))) (λ e h. h)
-
-  live-term-mono : (p : ℕ) (K : Constraint) (r u : ℕ) → liveTerm p (reduced p K) S′ r u ≤ liveTerm p (reduced p K) S r u
-  unfolding liveTerm
-  live-term-mono p K r u = keep-mono _ _ _ _ (live-mono p K u) (λ e. mul-le-mul-left (weight p (reduced p K) r u) (g .bounds u))
-
-  smaller-sum-mono : (p n : ℕ) (K : Constraint) (r w : ℕ) → smallerSum p n (reduced p K) S′ r w ≤ smallerSum p n (reduced p K) S r w
-  unfolding smallerSum smallerTerm
-  smaller-sum-mono p n K r w =
-      sum-mono (suc n) _ _
-      (λ u l.
-      keep-mono _ _ _ _ (and-mono (live-mono p K u) (same (ltb (weight p (reduced p K) r u) w)))
-      (λ e. mul-le-mul-left (weight p (reduced p K) r u) (g .bounds u)))
-
-  separate-mono : (p n : ℕ) (K : Constraint) (r s : ℕ) → separate p n (reduced p K) S r s ≡ true → separate p n (reduced p K) S′ r s ≡ true
-  unfolding separate
-  separate-mono p n K r s =
-      implies-mono (live-mono p K s)
-      (λ l.
-      and-mono (all-mono (suc n) (differs-mono p K r s)) (ltb-mono (weight p (reduced p K) r s) (smaller-sum-mono p n K r (weight p (reduced p K) r s))))
-
-  digits-met-mono : (p n : ℕ) (K : Constraint) (t r : ℕ) → digitsMet p n K S t r ≡ true → digitsMet p n K S′ t r ≡ true
-  unfolding digitsMet separated
-  digits-met-mono p n K t r =
-      and-mono (same (linear K && (occurs (reduced p K) t && occurs (reduced p K) r)))
-      (and-mono (all-mono (suc n) (separate-mono p n K r)) (ltb-mono p (sum-mono (suc n) _ _ (λ u l. live-term-mono p K r u))))
-
   met-by : (C : Circuit) (x : Step) (q : Kind) → metBy q C S x ≡ true → metBy q C S′ x ≡ true
   met-by C x Root = same _
   met-by C x Sum = sum-met-from (C .p) (C .n) _ S S′ (x .target) (sum-bound-mono S S′ (g .bounds) _ _ _ (x .target))
   met-by C x Zero = zero-met-mono (x .target)
   met-by C x Product = product-met-mono (constraintAt C (x .constraint)) (x .target)
-  met-by C x Digits = digits-met-mono (C .p) (C .n) (constraintAt C (x .constraint)) (x .target) (x .reference)
+  met-by C x Digits =
+      let K = constraintAt C (x .constraint) in
+      digits-met-from (C .p) K S S′ (g .bounds) (live-mono (C .p) K) (C .n) (x .target) (x .reference)
 
   pub met-mono : (C : Circuit) (x : Step) → met C S x ≡ true → met C S′ x ≡ true
   unfolding met

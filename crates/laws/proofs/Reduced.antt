@@ -9,11 +9,11 @@ use Rattle.field.specs.Residue.{Congruent, opposite}
 use Rattle.field.specs.Inverse.{IsInverse}
 use Rattle.field.proofs.Residue.{congruent-refl, congruent-sym, congruent-trans, congruent-plus, congruent-times, congruent-mod, congruent-shift}
 use Rattle.field.proofs.Residue.{congruent-below, opposite-plus}
-use Rattle.circuit.specs.Circuit.{Constraint, WellFormedConstraint, Satisfies, coef, eval}
+use Rattle.circuit.specs.Circuit.{Constraint, WellFormedConstraint, Satisfies, coef, names, eval}
 use Rattle.laws.specs.Sum.{sum, keep}
 use Rattle.laws.specs.Rules.{namesNone, linear, constant, reduced, occurs}
 use Rattle.laws.proofs.Sum.{or-cases, sum-cong, sum-plus, sum-scale, sum-zeros, sum-first}
-use Rattle.laws.proofs.Forms.{coef-beyond, eval-sum, eval-none}
+use Rattle.laws.proofs.Forms.{unnamed-coef, unnamed-beyond, eval-sum, eval-none}
 
 -- Sums modulo p
 
@@ -140,15 +140,21 @@ module _ {n p : ℕ} {K : Constraint} (W : WellFormedConstraint n p K) (h : 0 < 
   pub reduced-satisfies : linear K ≡ true → Congruent p (sum (suc n) (λ s. reduced p K s * v s)) 0 → Satisfies p K v
   reduced-satisfies e z = congruent-shift _ _ (congruent-plus (congruent-sym (reduced-value e)) z) (omega arith)
 
--- a signal above n does not occur
-pub reduced-beyond : {n p : ℕ} {K : Constraint} → WellFormedConstraint n p K → 0 < p → (s : ℕ) → n < suc s → reduced p K (suc s) ≡ 0
+-- a signal that no form names does not occur
+pub reduced-unnamed : (p : ℕ) (K : Constraint) (s : ℕ) → 0 < p
+    → names (K .a) (suc s) ≡ false → names (K .b) (suc s) ≡ false → names (K .c) (suc s) ≡ false → reduced p K (suc s) ≡ 0
 unfolding constant
-reduced-beyond {n} {p} {K} W h s l =
+reduced-unnamed p K s h a b c =
     congruent-below (reduced-below p K (suc s) h) h
     (congruent-shift _ _ (reduced-at p K (suc s) h)
     (omega (
       arith,
-      ap (λ (k : ℕ). coef (K .a) 0 * k) (coef-beyond (W .rises-b) (suc s) l),
-      ap (λ (k : ℕ). coef (K .b) 0 * k) (coef-beyond (W .rises-a) (suc s) l),
-      coef-beyond (W .rises-c) (suc s) l,
+      ap (λ (k : ℕ). coef (K .a) 0 * k) (unnamed-coef (K .b) (suc s) b),
+      ap (λ (k : ℕ). coef (K .b) 0 * k) (unnamed-coef (K .a) (suc s) a),
+      unnamed-coef (K .c) (suc s) c,
     )))
+
+-- a signal above n does not occur
+pub reduced-beyond : {n p : ℕ} {K : Constraint} → WellFormedConstraint n p K → 0 < p → (s : ℕ) → n < suc s → reduced p K (suc s) ≡ 0
+reduced-beyond {n} {p} {K} W h s l =
+    reduced-unnamed p K s h (unnamed-beyond (W .rises-a) (suc s) l) (unnamed-beyond (W .rises-b) (suc s) l) (unnamed-beyond (W .rises-c) (suc s) l)

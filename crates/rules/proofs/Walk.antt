@@ -72,7 +72,7 @@ kept-added p k false x f acc h = rw (set-out acc (x .signal) ((coefIn acc (x .si
 
 -- A turn of each walk at an offset where terms are left.
 module _ (s : List ℕ) (left at : ℕ) (some : 0 < left) (signal : ℕ) (known : signal ≡ u16At s at) where
-  turn : termsFrom s left at
+  pub turn : termsFrom s left at
       ≡ termKept (leb signal 256) (record { signal = signal; coefficient = u32At s (at + 2) }) (termsFrom s (left - 1) (at + 6))
   turn = ap (λ (k : ℕ). termsFrom s k at) (one-more some) ∙ terms-turn s (left - 1) at ∙ rw known
 
@@ -149,7 +149,7 @@ module _ (s : List ℕ) (count : ℕ) (known : count ≡ byteAt s 0) where
 
 -- and its end, where no terms are left
 module _ (s : List ℕ) (left at : ℕ) (none : left ≤ 0) where
-  terms-end : termsFrom s left at ≡ []
+  pub terms-end : termsFrom s left at ≡ []
   terms-end = ap (λ (k : ℕ). termsFrom s k at) (omega arith) ∙ terms-none s at
 
   pub names-end : (t : ℕ) (z : Bool) → z ≡ names (termsFrom s left at) t → z ≡ false

@@ -19,7 +19,7 @@ ghost use Rattle.rules.specs.View.{coefIn, markIn};
 ghost use Rattle.rules.specs.Steps.{added};
 
 // Whether the form at the start of the part names signal t.
-pub(crate) fn names_signal(part: &[u8], t: u32) -> bool
+pub fn names_signal(part: &[u8], t: u32) -> bool
     ensures { λ r. ⌜ r ≡ names (formIn (now (part .entry))) t ⌝ }
 {
     if 256 < t {

@@ -6,4 +6,4 @@ pub mod digits;
 pub mod form;
 pub mod standing;
 pub mod sums;
-mod view;
+pub mod view;

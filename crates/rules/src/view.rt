@@ -23,7 +23,7 @@ pub(crate) fn bound_at(bounds: &[u32], s: usize, p: u32) -> u32
 }
 
 // The mark of signal s.
-pub(crate) fn mark_at(marks: &[bool], s: usize) -> bool
+pub fn mark_at(marks: &[bool], s: usize) -> bool
     ensures { λ r. ⌜ r ≡ markIn (now (marks .entry)) s ⌝ }
 {
     if s < marks.len() { marks[s] } else { false }

@@ -69,11 +69,7 @@ slice-aggregate-verdict-of : tie.Need-slice-aggregate-verdict-of
 slice-aggregate-verdict-of c = search needs
 
 verdict-of-requires : tie.Need-verdict-of-requires
-verdict-of-requires c κs =
-    let long : length (c .before .before .before .before .before .before .before .before .before .before .walk .result .next .marks) ≡ 257
-    = search needs in
-    let e = entry (c .before .before .before .before .before .before .before .before .before .before) in
-    omega (arith, long, laws.few-outputs _ _ _ _ (e .pre .0) _ _ (e .pre .1) (e .pre .2))
+verdict-of-requires c κs = search needs
 
 same-length : tie.Need-same-length
 same-length c = search needs

@@ -1,7 +1,7 @@
 -- `derivation::marks::verdict_of`: all outputs passed are marked.
 use Prim.Native.Nat.{ℕ, _-_, _≤_, _<_}
 use mathlib.Core.Bool.{true}
-use mathlib.Core.Path.{_≡_}
+use mathlib.Core.Path.{_≡_, sym, _∙_}
 use native.Mathlib.Omega.{arith}
 use borrow.Author.Tests.{not-true, not-false}
 use borrow.Author.Needs.{needs}
@@ -21,18 +21,19 @@ abbrev μ-loop : tie.MeasureT-loop
 loop-holds : tie.Need-loop-holds Inv-loop μ-loop
 loop-holds c = (search needs, λ (k : ℕ) (h : k < 0). absurd (omega arith))
 
-add-if1 : tie.Need-add-if1 Inv-loop μ-loop
-add-if1 c = search needs
+add-mark-at : tie.Need-add-mark-at Inv-loop μ-loop
+add-mark-at c = search needs
 
-add-if1-2 : tie.Need-add-if1-2 Inv-loop μ-loop
-add-if1-2 c = search needs
+add-mark-at-2 : tie.Need-add-mark-at-2 Inv-loop μ-loop
+add-mark-at-2 c = search needs
 
-shared-slice-read-if1 : tie.Need-shared-slice-read-if1 Inv-loop μ-loop
-shared-slice-read-if1 c = search needs
+mark-at-requires : tie.Need-mark-at-requires Inv-loop μ-loop
+mark-at-requires c κs = search needs
 
 returns : tie.Need-returns Inv-loop μ-loop
-unfolding markIn
-returns c = laws.one-unmarked _ _ (c .before .before .before .loop .j) (search needs) (laws.output-at _ _ _ (not-true _ (c .if1 .taken)))
+returns c =
+    laws.one-unmarked _ _ (c .before .before .before .loop .j) (search needs)
+    (laws.output-at _ _ _ (sym (c .before .mark-at .ensures) ∙ not-true _ (c .if1 .taken)))
 
 add-j : tie.Need-add-j Inv-loop μ-loop
 add-j c = search needs
@@ -41,11 +42,14 @@ loop-less : tie.Need-loop-less Inv-loop μ-loop
 loop-less c = search needs
 
 loop-again : tie.Need-loop-again Inv-loop μ-loop
-unfolding markIn
-loop-again c = (search needs, laws.marked-more _ _ _ (c .before .before .before .loop .inv .1) (laws.output-at _ _ _ (not-false _ (c .if1 .left))))
+loop-again c = (
+  search needs,
+  laws.marked-more _ _ _ (c .before .before .before .loop .inv .1)
+      (laws.output-at _ _ _ (sym (c .before .mark-at .ensures) ∙ not-false _ (c .if1 .left))),
+)
 
 returns-2 : tie.Need-returns-2 Inv-loop μ-loop
-returns-2 c = laws.all-marked _ _ λ (k : ℕ) (h : k < c .before .before .args .o). c .before .loop .inv .1 k (omega arith)
+returns-2 c = laws.all-marked _ _ λ (k : ℕ) (h : k < c .before .before .before .args .o). c .before .loop .inv .1 k (omega arith)
 
 pub verdict-of-spec : {M : Type 1} → statement M
 verdict-of-spec =
@@ -54,9 +58,9 @@ verdict-of-spec =
     Inv-loop
     μ-loop
     loop-holds
-    add-if1
-    add-if1-2
-    shared-slice-read-if1
+    add-mark-at
+    add-mark-at-2
+    mark-at-requires
     returns
     add-j
     loop-less

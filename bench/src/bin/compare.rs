@@ -1,0 +1,28 @@
+//! compare CALLS [SEED]: makes at least so many calls of the proved library and of the second implementation on the same inputs and stops at the first
+//! that differs. Prints how many agree, by kind and by refusal.
+
+use std::collections::BTreeMap;
+
+use bench::proved;
+use second::compose::compose;
+
+fn main() {
+    let mut arguments = std::env::args().skip(1);
+    let wanted: u64 = arguments.next().and_then(|text| text.parse().ok()).expect("use: compare CALLS [SEED]");
+    let mut seed: u64 = arguments.next().map_or(1, |text| text.parse().expect("a seed is a number"));
+    let (mut calls, mut kinds, mut numbers) = (0, BTreeMap::<u8, u64>::new(), BTreeMap::<u16, u64>::new());
+    while calls < wanted {
+        for record in compose(seed, 400_000) {
+            let answer = proved(&record);
+            if answer != record.answer {
+                println!("seed {seed}: {record:?}\nproved: {answer:?}");
+                std::process::exit(1);
+            }
+            calls += 1;
+            *kinds.entry(record.kind).or_default() += 1;
+            *numbers.entry(record.answer.number).or_default() += 1;
+        }
+        seed += 1;
+    }
+    println!("{calls} calls agree; by kind {kinds:?}; by refusal {numbers:?}");
+}

@@ -1,0 +1,131 @@
+//! Times the proved library and the second implementation on the same inputs in one run and prints a table of ratios. Release builds; each buffer is
+//! filled once, before the timing; each figure is the shortest of several rounds, a round being as many calls as take some milliseconds.
+
+use std::hint::black_box;
+use std::time::Instant;
+
+use second::worst;
+
+/// One row: what is timed, and the two calls.
+struct Row {
+    name: String,
+    proved: f64,
+    second: f64,
+}
+
+/// The shortest time of a call, in microseconds.
+fn shortest(mut call: impl FnMut()) -> f64 {
+    let mut round = |calls: u32| {
+        let start = Instant::now();
+        (0..calls).for_each(|_| call());
+        start.elapsed().as_secs_f64() * 1e6 / f64::from(calls)
+    };
+    let once = round(1).max(0.01);
+    let calls = (3000.0 / once).clamp(1.0, 20_000.0) as u32;
+    (0..7).map(|_| round(calls)).fold(f64::INFINITY, f64::min)
+}
+
+fn row(name: impl Into<String>, proved: impl FnMut(), second: impl FnMut()) -> Row {
+    Row { name: name.into(), proved: shortest(proved), second: shortest(second) }
+}
+
+fn reading(name: &str, circuit: &[u8]) -> Row {
+    assert_eq!(yolqushek::read_circuit(circuit).map_err(|r| r.number).err(), second::read_circuit(circuit).map_err(|r| r.number.into()).err());
+    row(
+        format!("read {name}"),
+        || {
+            black_box(yolqushek::read_circuit(circuit));
+        },
+        || {
+            black_box(second::read_circuit(circuit));
+        },
+    )
+}
+
+/// Solving, and marking the derivation, also padded to 4,096 steps by repeating it.
+fn solving(name: &str, circuit: &[u8], rows: &mut Vec<Row>) {
+    let signals = second::read_circuit(circuit).expect("a valid circuit").signals as usize;
+    let (mut one, mut two) = (vec![0; 7 + 14 * signals], vec![0; 7 + 14 * signals]);
+    let (_, length) = yolqushek::solve(circuit, &mut one).expect("the buffer is long enough");
+    assert_eq!(second::solve(circuit, &mut two).map(|(_, _, length)| length), Ok(length));
+    assert_eq!(one, two);
+    rows.push(row(
+        format!("solve {name}"),
+        || {
+            black_box(yolqushek::solve(circuit, &mut one));
+        },
+        || {
+            black_box(second::solve(circuit, &mut two));
+        },
+    ));
+    rows.push(marking(&format!("mark {name}"), circuit, &one[..length], signals));
+    if length > 7 {
+        rows.push(marking(&format!("mark {name}, 4,096 steps"), circuit, &repeated(&one[7..length]), signals));
+    }
+}
+
+/// 4,096 steps: those given, again and again.
+fn repeated(steps: &[u8]) -> Vec<u8> {
+    let mut derivation = b"DQT\x01\x00\x00\x10".to_vec();
+    derivation.extend(steps.iter().cycle().take(7 * 4096));
+    derivation
+}
+
+fn marking(name: &str, circuit: &[u8], derivation: &[u8], signals: usize) -> Row {
+    let (mut one, mut two) = (vec![9; signals], vec![9; signals]);
+    assert!(yolqushek::check_derivation(circuit, derivation, &mut one).is_ok());
+    assert!(second::check_derivation(circuit, derivation, &mut two).is_ok());
+    assert_eq!(one, two);
+    row(
+        name,
+        || {
+            black_box(yolqushek::check_derivation(circuit, derivation, &mut one));
+        },
+        || {
+            black_box(second::check_derivation(circuit, derivation, &mut two));
+        },
+    )
+}
+
+/// The planted runs as a pair file.
+fn pair_file(planted: &second::planted::Planted) -> Vec<u8> {
+    let mut pair = b"PQT\x01\x00".to_vec();
+    pair.extend(planted.q.to_le_bytes());
+    planted.first.iter().chain(&planted.second).for_each(|value| pair.extend(value.to_le_bytes()));
+    pair
+}
+
+fn pairing(name: &str, circuit: &[u8], pair: &[u8]) -> Row {
+    assert_eq!(yolqushek::check_pair(circuit, pair).ok(), second::check_pair(circuit, pair).ok().map(u32::from));
+    row(
+        format!("pair {name}"),
+        || {
+            black_box(yolqushek::check_pair(circuit, pair));
+        },
+        || {
+            black_box(second::check_pair(circuit, pair));
+        },
+    )
+}
+
+fn main() {
+    let largest = worst::largest(1);
+    let bare = second::writer::Draft::new(2_147_483_647, 1, 0, 1).bytes();
+    let mut rows = vec![
+        reading("case c", &second::cases::case_c(13)),
+        reading("a circuit of the largest prime, no constraints", &bare),
+        reading("the largest circuit", &largest.circuit),
+        reading("the largest circuit, last byte missing", &largest.circuit[..largest.circuit.len() - 1]),
+        pairing("of the largest circuit", &largest.circuit, &pair_file(&largest)),
+    ];
+    for bits in [3, 7, 15, 30] {
+        solving(&format!("{bits} bits and their sum"), &worst::bits_and_long_sum(bits), &mut rows);
+    }
+    for (name, circuit) in worst::all() {
+        solving(&name.replace('_', " "), &circuit, &mut rows);
+    }
+    println!("| call | proved µs | second µs | ratio |\n|---|---:|---:|---:|");
+    for row in rows {
+        println!("| {} | {:.2} | {:.2} | {:.2} |", row.name, row.proved, row.second, row.proved / row.second);
+    }
+}

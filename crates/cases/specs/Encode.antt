@@ -1,0 +1,42 @@
+-- The bytes of circuits and pairs, for the table: the formats of document 01 written out.
+use Prim.Native.Nat.{ℕ, _/_, _%_}
+use mathlib.Core.List.{List, [], _∷_, _++_}
+use lib.ListN.{length}
+use Rattle.circuit.specs.Circuit.{Term, Form, Constraint, Circuit}
+
+-- "Little-endian throughout."
+unfoldable pub u16Bytes : ℕ → List ℕ
+u16Bytes x = x % 256 ∷ x / 256 ∷ []
+
+unfoldable pub u32Bytes : ℕ → List ℕ
+u32Bytes x = u16Bytes (x % 65536) ++ u16Bytes (x / 65536)
+
+unfoldable pub termsBytes : Form → List ℕ
+termsBytes [] = []
+termsBytes (t ∷ f) = u16Bytes (t .signal) ++ u32Bytes (t .coefficient) ++ termsBytes f
+
+unfoldable pub formBytes : Form → List ℕ
+formBytes f = length f ∷ termsBytes f
+
+unfoldable pub constraintsBytes : List Constraint → List ℕ
+constraintsBytes [] = []
+constraintsBytes (K ∷ Ks) = formBytes (K .a) ++ formBytes (K .b) ++ formBytes (K .c) ++ constraintsBytes Ks
+
+unfoldable pub circuitBytes : Circuit → List ℕ
+circuitBytes C =
+    67 ∷ 81 ∷ 84 ∷ 1 ∷ 0
+    ∷ u32Bytes (C .p) ++ u16Bytes (C .n) ++ u16Bytes (C .i) ++ u16Bytes (C .o) ++ u16Bytes (C .m)
+    ++ constraintsBytes (C .constraints)
+
+unfoldable pub valuesBytes : List ℕ → List ℕ
+valuesBytes [] = []
+valuesBytes (x ∷ xs) = u32Bytes x ++ valuesBytes xs
+
+-- a pair file: q, the first run, the second
+unfoldable pub pairBytes : ℕ → List ℕ → List ℕ → List ℕ
+pairBytes q first second = 80 ∷ 81 ∷ 84 ∷ 1 ∷ 0 ∷ u16Bytes q ++ valuesBytes first ++ valuesBytes second
+
+-- a derivation of one step with any four numbers
+unfoldable pub oneStep : ℕ → ℕ → ℕ → ℕ → List ℕ
+oneStep kind target constraint reference =
+    68 ∷ 81 ∷ 84 ∷ 1 ∷ 0 ∷ 1 ∷ 0 ∷ kind ∷ u16Bytes target ++ u16Bytes constraint ++ u16Bytes reference

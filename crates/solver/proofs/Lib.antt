@@ -1,0 +1,16 @@
+pub mod Demand
+pub mod Keys
+pub mod Candidate
+pub mod Untouched
+pub mod Progress
+pub mod BoundsPhase
+pub mod Written
+pub mod SearchLaws
+pub mod CandidateLaws
+pub mod BoundsTurn
+pub mod Floors
+pub mod MarkLaws
+pub mod MarkSearch
+pub mod NextMark
+pub mod MarksTurn
+pub mod SolveLaws

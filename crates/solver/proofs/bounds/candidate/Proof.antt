@@ -1,0 +1,127 @@
+-- `solver::bounds::candidate`: each way out is one law.
+use native.Mathlib.Omega.{arith}
+use borrow.Author.Needs.{needs}
+use borrow.Author.Tests.{not-true, not-false}
+use Rattle.rules.proofs.ViewLaws.{mark-none}
+use Rattle.solver.proofs.CandidateLaws as laws
+use Rattle.solver.proofs.bounds.candidate.Statement.{statement}
+use Rattle.solver.proofs.bounds.candidate.Tie as tie
+use Rattle.solver.proofs.bounds.candidate.Reads as reads
+use Rattle.solver.proofs.bounds.candidate.Lts as lts
+use Rattle.derivation.proofs.offsets.part_of.Reads as part-of-reads
+use Rattle.rules.proofs.constraint.is_linear.Reads as is-linear-reads
+use Rattle.rules.proofs.constraint.root_bound.Reads as root-bound-reads
+use Rattle.rules.proofs.constraint.root_met.Reads as root-met-reads
+use Rattle.rules.proofs.form.reduced_form.Reads as reduced-form-reads
+use Rattle.rules.proofs.sums.sum_bound.Reads as sum-bound-reads
+use Rattle.solver.proofs.bounds.key_of.Reads as key-of-reads
+use Rattle.solver.proofs.search.only_free.Reads as only-free-reads
+use Rattle.solver.proofs.search.unmarked_in.Reads as unmarked-in-reads
+
+part-of-requires : tie.Need-part-of-requires
+part-of-requires c κs = search needs
+
+is-linear-requires : tie.Need-is-linear-requires
+is-linear-requires c κs = search needs
+
+slice-aggregate-unmarked-in : tie.Need-slice-aggregate-unmarked-in
+slice-aggregate-unmarked-in c = search needs
+
+unmarked-in-requires : tie.Need-unmarked-in-requires
+unmarked-in-requires c κs = search needs
+
+returns : tie.Need-returns
+returns c = laws.root-unnamed _ _ _ _ _ _ (c .before .before .before .before .before .before .before .before .before .pre .0) (c .before .before .before .before .before .before .before .before .before .pre .1) (c .before .before .before .before .before .before .before .before .before .pre .2) _ (c .before .before .before .before .before .part-of .ensures) _ (c .before .before .before .before .is-linear .ensures) (not-true _ (c .before .before .before .if1 .taken)) _ (mark-none 1) _ (c .before .unmarked-in .ensures) (c .if2 .taken)
+
+root-met-requires : tie.Need-root-met-requires
+root-met-requires c κs = search needs
+
+returns-2 : tie.Need-returns-2
+returns-2 c = laws.root-unmet _ _ _ _ _ _ (c .before .before .before .before .before .before .before .before .before .before .before .pre .0) (c .before .before .before .before .before .before .before .before .before .before .before .pre .1) (c .before .before .before .before .before .before .before .before .before .before .before .pre .2) _ (c .before .before .before .before .before .before .before .part-of .ensures) _ (c .before .before .before .before .before .before .is-linear .ensures) (not-true _ (c .before .before .before .before .before .if1 .taken)) _ (mark-none 1) _ (c .before .before .before .unmarked-in .ensures) _ (c .before .root-met .ensures) (not-true _ (c .if3 .taken))
+
+root-bound-requires : tie.Need-root-bound-requires
+root-bound-requires c κs = search needs
+
+cast-if4 : tie.Need-cast-if4
+cast-if4 c = search needs
+
+mul-if4 : tie.Need-mul-if4
+mul-if4 c = search needs
+
+shared-slice-read-if4 : tie.Need-shared-slice-read-if4
+shared-slice-read-if4 c = omega (arith, c .before .before .before .before .before .before .before .before .before .before .before .before .before .pre .0 .sized, laws.root-small _ _ _ _ _ _ (c .before .before .before .before .before .before .before .before .before .before .before .before .before .pre .0) (c .before .before .before .before .before .before .before .before .before .before .before .before .before .pre .1) (c .before .before .before .before .before .before .before .before .before .before .before .before .before .pre .2) _ (c .before .before .before .before .before .before .before .before .before .part-of .ensures) _ (c .before .before .before .before .before .before .before .before .is-linear .ensures) (not-true _ (c .before .before .before .before .before .before .before .if1 .taken)) _ (mark-none 1) _ (c .before .before .before .before .before .unmarked-in .ensures))
+
+returns-3 : tie.Need-returns-3
+returns-3 c = laws.root-high _ _ _ _ _ _ (c .before .before .before .before .before .before .before .before .before .before .before .before .before .before .pre .0) (c .before .before .before .before .before .before .before .before .before .before .before .before .before .before .pre .1) (c .before .before .before .before .before .before .before .before .before .before .before .before .before .before .pre .2) _ (c .before .before .before .before .before .before .before .before .before .before .part-of .ensures) _ (c .before .before .before .before .before .before .before .before .before .is-linear .ensures) (not-true _ (c .before .before .before .before .before .before .before .before .if1 .taken)) _ (mark-none 1) _ (c .before .before .before .before .before .before .unmarked-in .ensures) _ (c .before .before .before .before .root-met .ensures) _ (c .before .before .root-bound .ensures) (c .if4 .taken)
+
+key-of-requires : tie.Need-key-of-requires
+key-of-requires c κs = (omega (arith, laws.root-small _ _ _ _ _ _ (c .before .before .before .before .before .before .before .before .before .before .before .before .before .before .pre .0) (c .before .before .before .before .before .before .before .before .before .before .before .before .before .before .pre .1) (c .before .before .before .before .before .before .before .before .before .before .before .before .before .before .pre .2) _ (c .before .before .before .before .before .before .before .before .before .before .part-of .ensures) _ (c .before .before .before .before .before .before .before .before .before .is-linear .ensures) (not-true _ (c .before .before .before .before .before .before .before .before .if1 .taken)) _ (mark-none 1) _ (c .before .before .before .before .before .before .unmarked-in .ensures)), omega arith)
+
+returns-4 : tie.Need-returns-4
+returns-4 c = laws.root-key _ _ _ _ _ _ (c .before .before .before .before .before .before .before .before .before .before .before .before .before .before .before .pre .0) (c .before .before .before .before .before .before .before .before .before .before .before .before .before .before .before .pre .1) (c .before .before .before .before .before .before .before .before .before .before .before .before .before .before .before .pre .2) _ (c .before .before .before .before .before .before .before .before .before .before .before .part-of .ensures) _ (c .before .before .before .before .before .before .before .before .before .before .is-linear .ensures) (not-true _ (c .before .before .before .before .before .before .before .before .before .if1 .taken)) _ (mark-none 1) _ (c .before .before .before .before .before .before .before .unmarked-in .ensures) _ (c .before .before .before .before .before .root-met .ensures) _ (c .before .before .before .root-bound .ensures) (c .before .before .before .before .before .before .if2 .left) (not-false _ (c .before .before .before .before .if3 .left)) (c .before .if4 .left) _ (c .key-of .ensures)
+
+reduced-form-requires : tie.Need-reduced-form-requires
+reduced-form-requires c κs = search needs
+
+slice-aggregate-only-free : tie.Need-slice-aggregate-only-free
+slice-aggregate-only-free c = search needs
+
+only-free-requires : tie.Need-only-free-requires
+only-free-requires c κs =
+    let s = laws.sizes (c .before .before .before .before .before .before .before .before .pre .0) in
+    let l = c .before .reduced-form .ok in
+    (omega arith, omega (arith, c .before .before .before .before .before .before .before .before .pre .0 .sized), omega arith)
+
+returns-5 : tie.Need-returns-5
+returns-5 c = laws.sum-none _ _ _ _ _ _ (c .before .before .before .before .before .before .before .before .before .before .pre .0) (c .before .before .before .before .before .before .before .before .before .before .pre .1) (c .before .before .before .before .before .before .before .before .before .before .pre .2) _ (c .before .before .before .before .before .before .part-of .ensures) _ (c .before .before .before .before .before .is-linear .ensures) (not-false _ (c .before .before .before .before .if1 .left)) _ (c .before .before .before .reduced-form .ensures) _ (c .before .only-free .ensures) (c .if5 .taken)
+
+slice-aggregate-sum-bound : tie.Need-slice-aggregate-sum-bound
+slice-aggregate-sum-bound c = search needs
+
+sum-bound-requires : tie.Need-sum-bound-requires
+sum-bound-requires c κs = search needs
+
+sub-if6 : tie.Need-sub-if6
+sub-if6 c = let s = laws.sizes (c .before .before .before .before .before .before .before .before .before .before .before .before .pre .0) in omega arith
+
+returns-6 : tie.Need-returns-6
+returns-6 c = laws.sum-high _ _ _ _ _ _ (c .before .before .before .before .before .before .before .before .before .before .before .before .before .pre .0) (c .before .before .before .before .before .before .before .before .before .before .before .before .before .pre .1) (c .before .before .before .before .before .before .before .before .before .before .before .before .before .pre .2) _ (c .before .before .before .before .before .before .before .before .before .part-of .ensures) _ (c .before .before .before .before .before .before .before .before .is-linear .ensures) (not-false _ (c .before .before .before .before .before .before .before .if1 .left)) _ (c .before .before .before .before .before .before .reduced-form .ensures) _ (c .before .before .before .before .only-free .ensures) _ (c .before .sum-bound .ensures) (c .if6 .taken)
+
+cast-key-of : tie.Need-cast-key-of
+cast-key-of c = let s = laws.sizes (c .before .before .before .before .before .before .before .before .before .before .before .before .before .pre .0) in record { fits = omega arith }
+
+key-of-requires-2 : tie.Need-key-of-requires-2
+key-of-requires-2 c κs = (omega (arith, laws.sum-small _ _ _ _ _ _ (c .before .before .before .before .before .before .before .before .before .before .before .before .before .pre .0) (c .before .before .before .before .before .before .before .before .before .before .before .before .before .pre .1) (c .before .before .before .before .before .before .before .before .before .before .before .before .before .pre .2) _ (c .before .before .before .before .before .before .before .before .before .part-of .ensures) _ (c .before .before .before .before .before .before .before .before .is-linear .ensures) (not-false _ (c .before .before .before .before .before .before .before .if1 .left)) _ (c .before .before .before .before .before .before .reduced-form .ensures) _ (c .before .before .before .before .only-free .ensures)), omega arith)
+
+returns-7 : tie.Need-returns-7
+returns-7 c = laws.sum-key _ _ _ _ _ _ (c .before .before .before .before .before .before .before .before .before .before .before .before .before .before .pre .0) (c .before .before .before .before .before .before .before .before .before .before .before .before .before .before .pre .1) (c .before .before .before .before .before .before .before .before .before .before .before .before .before .before .pre .2) _ (c .before .before .before .before .before .before .before .before .before .before .part-of .ensures) _ (c .before .before .before .before .before .before .before .before .before .is-linear .ensures) (not-false _ (c .before .before .before .before .before .before .before .before .if1 .left)) _ (c .before .before .before .before .before .before .before .reduced-form .ensures) _ (c .before .before .before .before .before .only-free .ensures) _ (c .before .before .sum-bound .ensures) (c .before .before .before .before .if5 .left) (c .before .if6 .left) _ (c .key-of2 .ensures)
+
+pub candidate-spec : {M : Type 1} → statement M
+candidate-spec =
+    tie.close
+    (tie.spec
+    part-of-requires
+    is-linear-requires
+    slice-aggregate-unmarked-in
+    unmarked-in-requires
+    returns
+    root-met-requires
+    returns-2
+    root-bound-requires
+    cast-if4
+    mul-if4
+    shared-slice-read-if4
+    returns-3
+    key-of-requires
+    returns-4
+    reduced-form-requires
+    slice-aggregate-only-free
+    only-free-requires
+    returns-5
+    slice-aggregate-sum-bound
+    sum-bound-requires
+    sub-if6
+    returns-6
+    cast-key-of
+    key-of-requires-2
+    returns-7)

@@ -1,0 +1,197 @@
+-- `solver::bounds::lower_bounds`: at each turn the steps so far, what is known of keys, and the bytes written.
+use Prim.Native.Nat.{_+_, _-_, _≤_}
+use mathlib.Core.Path.{_≡_, refl, sym, _∙_}
+use native.Mathlib.Omega.{arith}
+use borrow.Author.Needs.{needs}
+use lib.ListN.{length, length-set}
+use Rattle.solver.specs.Bounds.{withBounds}
+use Rattle.derivation.specs.Inner.{circuitOf}
+use Rattle.solver.proofs.CandidateLaws.{sizes, few-constraints}
+use Rattle.solver.proofs.BoundsPhase.{no-keys}
+use Rattle.solver.proofs.BoundsTurn as laws
+use mathlib.Core.Path.{_≡_, refl, _∙_}
+use Rattle.solver.proofs.CandidateLaws.{sizes}
+use Rattle.solver.proofs.bounds.lower_bounds.Statement.{statement}
+use Rattle.solver.proofs.bounds.lower_bounds.Tie as tie
+use Rattle.solver.proofs.bounds.lower_bounds.Reads as reads
+use Rattle.solver.proofs.bounds.lower_bounds.Lts as lts
+use Rattle.solver.proofs.bounds.refresh.Reads as refresh-reads
+use Rattle.solver.proofs.memo.forget.Reads as forget-reads
+use Rattle.solver.proofs.memo.least.Reads as least-reads
+use Rattle.solver.proofs.output.put_step.Reads as put-step-reads
+
+abbrev Inv-loop : tie.InvT-loop
+Inv-loop circuit table bounds₀ output₀ p n m keys₀ count₀ bounds output keys count =
+    (count ≤ n) × (length bounds ≡ 257) × (length keys ≡ 513) × (length output ≡ length output₀)
+    × laws.Turning circuit bounds keys output₀ output count
+
+abbrev μ-loop : tie.MeasureT-loop
+μ-loop circuit table bounds₀ output₀ p n m keys₀ count₀ bounds output keys count = n - count
+
+array-write-keys : tie.Need-array-write-keys Inv-loop μ-loop
+array-write-keys c = search needs
+
+loop-holds : tie.Need-loop-holds Inv-loop μ-loop
+loop-holds c =
+    let a = c .before .before .before in (
+      omega arith,
+      a .pre .0 .sized,
+      search needs,
+      refl,
+      laws.turning-start _ _ (a .pre .0 .prepared) _ _ _ (a .pre .2) (no-keys _ _ 512),
+    )
+
+slice-aggregate-refresh : tie.Need-slice-aggregate-refresh Inv-loop μ-loop
+slice-aggregate-refresh c = search needs
+
+refresh-requires : tie.Need-refresh-requires Inv-loop μ-loop
+refresh-requires c κs =
+    let a = c .before .before .before .before .before .before .before in
+    let l = c .before .before .before .loop in (
+      record {
+        prepared = a .pre .0 .prepared;
+        is-p = a .pre .0 .is-p;
+        is-n = a .pre .0 .is-n;
+        sized = l .inv .1;
+        settled = laws.turning-settled _ _ (a .pre .0 .prepared) _ _ _ _ _ (l .inv .4);
+      },
+      a .pre .1,
+      omega (arith, a .pre .1, few-constraints (a .pre .0 .prepared), l .inv .2),
+      l .inv .4 .keyed,
+    )
+
+slice-aggregate-least : tie.Need-slice-aggregate-least Inv-loop μ-loop
+slice-aggregate-least c = search needs
+
+least-requires : tie.Need-least-requires Inv-loop μ-loop
+least-requires c κs =
+    let a = c .before .before .before .before .before .before .before .before .before .before in
+    omega (arith, a .pre .1, few-constraints (a .pre .0 .prepared), c .before .before .before .before .before .before .loop .inv .2, c .before .before .refresh .kept .1 .1 .1 .0)
+
+same-length : tie.Need-same-length Inv-loop μ-loop
+same-length c = c .before .before .before .before .before .before .before .before .loop .inv .1 ∙ sym (c .before .before .before .before .before .before .before .before .before .before .before .before .pre .0 .sized)
+
+same-length-2 : tie.Need-same-length-2 Inv-loop μ-loop
+same-length-2 c = c .before .before .before .before .before .before .before .before .loop .inv .3
+
+returns : tie.Need-returns Inv-loop μ-loop
+returns c = laws.turning-none _ _ (c .before .before .before .before .before .before .before .before .before .before .before .before .pre .0 .prepared) _ _ _ _ _ (c .before .before .before .before .before .before .before .before .loop .inv .4) _ (c .before .before .before .before .refresh .ensures) _ _ (c .before .before .before .before .before .before .before .before .before .before .before .before .pre .1) (c .before .least .ensures) (c .if1 .taken)
+
+cast-key : tie.Need-cast-key Inv-loop μ-loop
+cast-key c = search needs
+
+mul-key : tie.Need-mul-key Inv-loop μ-loop
+mul-key c = search needs
+
+array-read-key : tie.Need-array-read-key Inv-loop μ-loop
+array-read-key c =
+    let a = c .before .before .before .before .before .before .before .before .before .before .before .before in
+    omega (arith, a .pre .1, few-constraints (a .pre .0 .prepared), c .before .least .ensures .within)
+
+cast-target : tie.Need-cast-target Inv-loop μ-loop
+cast-target c = search needs
+
+cast-put-step : tie.Need-cast-put-step Inv-loop μ-loop
+cast-put-step c = search needs
+
+put-step-requires : tie.Need-put-step-requires Inv-loop μ-loop
+put-step-requires c κs =
+    let a = c .before .before .before .before .before .before .before .before .before .before .before .before .before in
+    let l = c .before .before .before .before .before .before .before .before .before .loop in
+    let s = sizes (a .pre .0) in
+    let h = laws.target-small _ _ (c .before .before .before .before .before .before .before .before .before .before .before .before .before .pre .0 .prepared) _ _ _ _ _ (c .before .before .before .before .before .before .before .before .before .loop .inv .4) _ (c .before .before .before .before .before .refresh .ensures) _ _ (c .before .before .before .before .before .before .before .before .before .before .before .before .before .pre .1) (c .before .before .least .ensures) (c .before .if1 .left) in (
+      omega (arith, a .pre .3, l .inv .3, c .before .before .before .before .before .before .before .before .loop-test .taken),
+      omega arith,
+      omega (arith, h .1),
+      omega (arith, c .before .before .least .ensures .within, a .pre .1, few-constraints (a .pre .0 .prepared)),
+      omega arith,
+    )
+
+cast-bounds : tie.Need-cast-bounds Inv-loop μ-loop
+cast-bounds c =
+    let a = c .before .before .before .before .before .before .before .before .before .before .before .before .before .before .before .before in
+    let s = sizes (a .pre .0) in
+    let h = laws.bound-small _ _ (c .before .before .before .before .before .before .before .before .before .before .before .before .before .before .before .before .pre .0 .prepared) _ _ _ _ _ (c .before .before .before .before .before .before .before .before .before .before .before .before .loop .inv .4) _ (c .before .before .before .before .before .before .before .before .refresh .ensures) _ _ (c .before .before .before .before .before .before .before .before .before .before .before .before .before .before .before .before .pre .1) (c .before .before .before .before .before .least .ensures) (c .before .before .before .before .if1 .left) in
+    record { fits = omega (arith, h, s .p-most, a .pre .0 .is-p) }
+
+cast-bounds-2 : tie.Need-cast-bounds-2 Inv-loop μ-loop
+cast-bounds-2 c = search needs
+
+mul-bounds : tie.Need-mul-bounds Inv-loop μ-loop
+mul-bounds c = search needs
+
+slice-write-bounds : tie.Need-slice-write-bounds Inv-loop μ-loop
+slice-write-bounds c =
+    let h = laws.target-small _ _ (c .before .before .before .before .before .before .before .before .before .before .before .before .before .before .before .before .pre .0 .prepared) _ _ _ _ _ (c .before .before .before .before .before .before .before .before .before .before .before .before .loop .inv .4) _ (c .before .before .before .before .before .before .before .before .refresh .ensures) _ _ (c .before .before .before .before .before .before .before .before .before .before .before .before .before .before .before .before .pre .1) (c .before .before .before .before .before .least .ensures) (c .before .before .before .before .if1 .left) in
+    omega (arith, h .1, c .before .before .before .before .before .before .before .before .before .before .before .before .loop .inv .1)
+
+slice-aggregate-forget : tie.Need-slice-aggregate-forget Inv-loop μ-loop
+slice-aggregate-forget c = search needs
+
+forget-requires : tie.Need-forget-requires Inv-loop μ-loop
+forget-requires c κs =
+    let a = c .before .before .before .before .before .before .before .before .before .before .before .before .before .before .before .before .before in (
+      a .pre .0 .prepared,
+      a .pre .1,
+      omega (arith, a .pre .1, few-constraints (a .pre .0 .prepared), c .before .before .before .before .before .before .before .before .before .before .before .before .before .loop .inv .2, c .before .before .before .before .before .before .before .before .before .refresh .kept .1 .1 .1 .0),
+    )
+
+add-count : tie.Need-add-count Inv-loop μ-loop
+add-count c = search needs
+
+loop-less : tie.Need-loop-less Inv-loop μ-loop
+loop-less c = search needs
+
+loop-again : tie.Need-loop-again Inv-loop μ-loop
+loop-again c =
+    let a = c .before .before .before .before .before .before .before .before .before .before .before .before .before .before .before .before .before .before .before in
+    let l = c .before .before .before .before .before .before .before .before .before .before .before .before .before .before .before .loop in (
+      omega arith,
+      simp length-set (l .inv .1),
+      c .before .forget .kept .1 .1 .0 ∙ c .before .before .before .before .before .before .before .before .before .before .before .refresh .kept .1 .1 .1 .0 ∙ l .inv .2,
+      c .before .before .before .before .before .put-step .kept .0 ∙ l .inv .3,
+      laws.turning-next _ _ (c .before .before .before .before .before .before .before .before .before .before .before .before .before .before .before .before .before .before .before .pre .0 .prepared) _ _ _ _ _ (c .before .before .before .before .before .before .before .before .before .before .before .before .before .before .before .loop .inv .4) _ (c .before .before .before .before .before .before .before .before .before .before .before .refresh .ensures) _ _ (c .before .before .before .before .before .before .before .before .before .before .before .before .before .before .before .before .before .before .before .pre .1) (c .before .before .before .before .before .before .before .before .least .ensures) (c .before .before .before .before .before .before .before .if1 .left) (l .inv .1) (omega (arith, a .pre .0 .is-n)) _ _ (c .before .before .before .before .before .put-step .ensures) (c .before .forget .ensures),
+    )
+
+same-length-3 : tie.Need-same-length-3 Inv-loop μ-loop
+same-length-3 c = c .before .loop .inv .1 ∙ sym (c .before .before .before .before .before .pre .0 .sized)
+
+same-length-4 : tie.Need-same-length-4 Inv-loop μ-loop
+same-length-4 c = c .before .loop .inv .3
+
+returns-2 : tie.Need-returns-2 Inv-loop μ-loop
+returns-2 c = laws.turning-all _ _ (c .before .before .before .before .before .pre .0 .prepared) _ _ _ _ _ (c .before .loop .inv .4) (omega (arith, c .before .before .before .before .before .pre .0 .is-n))
+
+pub lower-bounds-spec : {M : Type 1} → statement M
+lower-bounds-spec =
+    tie.close
+    (tie.spec
+    Inv-loop
+    μ-loop
+    array-write-keys
+    loop-holds
+    slice-aggregate-refresh
+    refresh-requires
+    slice-aggregate-least
+    least-requires
+    same-length
+    same-length-2
+    returns
+    cast-key
+    mul-key
+    array-read-key
+    cast-target
+    cast-put-step
+    put-step-requires
+    cast-bounds
+    cast-bounds-2
+    mul-bounds
+    slice-write-bounds
+    slice-aggregate-forget
+    forget-requires
+    add-count
+    loop-less
+    loop-again
+    same-length-3
+    same-length-4
+    returns-2)

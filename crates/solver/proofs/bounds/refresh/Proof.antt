@@ -1,0 +1,93 @@
+-- `solver::bounds::refresh`: after k turns the keys of the first k constraints are known.
+use Prim.Native.Nat.{_+_, _-_, _≤_}
+use mathlib.Core.Path.{_≡_, refl, _∙_}
+use native.Mathlib.Omega.{arith}
+use borrow.Author.Needs.{needs}
+use lib.ListN.{length, length-set}
+use Rattle.solver.specs.Bounds.{withBounds}
+use Rattle.derivation.specs.Inner.{circuitOf}
+use Rattle.solver.proofs.BoundsPhase as laws
+use Rattle.solver.proofs.bounds.refresh.Statement.{statement}
+use Rattle.solver.proofs.bounds.refresh.Tie as tie
+use Rattle.solver.proofs.bounds.refresh.Reads as reads
+use Rattle.solver.proofs.bounds.refresh.Lts as lts
+use Rattle.solver.proofs.bounds.candidate.Reads as candidate-reads
+
+abbrev Inv-loop : tie.InvT-loop
+Inv-loop circuit table bounds keys₀ p n m k₀ keys k = (k ≤ m) × (length keys ≡ length keys₀) × laws.Refreshing (circuitOf circuit) (withBounds (circuitOf circuit) bounds) k keys
+
+abbrev μ-loop : tie.MeasureT-loop
+μ-loop circuit table bounds keys₀ p n m k₀ keys k = m - k
+
+loop-holds : tie.Need-loop-holds Inv-loop μ-loop
+loop-holds c = (omega arith, refl, laws.refreshing-start _ _ _ (c .before .before .before .pre .3))
+
+add-k : tie.Need-add-k Inv-loop μ-loop
+add-k c = search needs
+
+cast-if1 : tie.Need-cast-if1 Inv-loop μ-loop
+cast-if1 c = search needs
+
+mul-if1 : tie.Need-mul-if1 Inv-loop μ-loop
+mul-if1 c = search needs
+
+slice-read-if1 : tie.Need-slice-read-if1 Inv-loop μ-loop
+slice-read-if1 c = search needs
+
+candidate-requires : tie.Need-candidate-requires Inv-loop μ-loop
+candidate-requires c κs = (c .before .before .before .before .before .before .before .pre .0, omega arith, omega (arith, c .before .before .before .before .before .before .before .pre .1))
+
+cast-keys : tie.Need-cast-keys Inv-loop μ-loop
+cast-keys c = search needs
+
+mul-keys : tie.Need-mul-keys Inv-loop μ-loop
+mul-keys c = search needs
+
+slice-write-keys : tie.Need-slice-write-keys Inv-loop μ-loop
+slice-write-keys c = search needs
+
+loop-less : tie.Need-loop-less Inv-loop μ-loop
+loop-less c = search needs
+
+loop-again : tie.Need-loop-again Inv-loop μ-loop
+loop-again c =
+    let a = c .before .before .before .before .before .before .before .before in
+    let l = c .before .before .before .before .loop in (
+      omega arith,
+      length-set (l .keys) (l .k + 1) (c .candidate .result) ∙ l .inv .1,
+      laws.refreshing-set _ _ _ _ (l .inv .2) (omega (arith, a .pre .1)) _ (omega arith) (c .candidate .ensures),
+    )
+
+loop-less-2 : tie.Need-loop-less-2 Inv-loop μ-loop
+loop-less-2 c = search needs
+
+loop-again-2 : tie.Need-loop-again-2 Inv-loop μ-loop
+loop-again-2 c = (omega arith, c .before .before .before .loop .inv .1, laws.refreshing-on _ _ _ _ (c .before .before .before .loop .inv .2) (omega (arith, c .before .before .before .before .before .before .before .pre .1)) (c .if1 .left))
+
+same-length : tie.Need-same-length Inv-loop μ-loop
+same-length c = search needs
+
+returns : tie.Need-returns Inv-loop μ-loop
+returns c = laws.refreshing-end _ _ _ _ (c .before .loop .inv .2) (omega (arith, c .before .before .before .before .before .pre .1))
+
+pub refresh-spec : {M : Type 1} → statement M
+refresh-spec =
+    tie.close
+    (tie.spec
+    Inv-loop
+    μ-loop
+    loop-holds
+    add-k
+    cast-if1
+    mul-if1
+    slice-read-if1
+    candidate-requires
+    cast-keys
+    mul-keys
+    slice-write-keys
+    loop-less
+    loop-again
+    loop-less-2
+    loop-again-2
+    same-length
+    returns)

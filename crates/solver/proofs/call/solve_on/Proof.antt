@@ -1,0 +1,126 @@
+-- `solver::call::solve_on`: the two phases one after the other, then the header and the answer.
+use Prim.Native.Nat.{_+_, _*_, _≤_}
+use mathlib.Core.Path.{_≡_, refl, _∙_}
+use native.Mathlib.Omega.{arith}
+use borrow.Author.Needs.{needs}
+use lib.ListN.{length}
+use Rattle.solver.proofs.SolveLaws as laws
+use Rattle.solver.proofs.call.solve_on.Statement.{statement}
+use Rattle.solver.proofs.call.solve_on.Tie as tie
+use Rattle.solver.proofs.call.solve_on.Reads as reads
+use Rattle.solver.proofs.call.solve_on.Lts as lts
+use Rattle.derivation.proofs.marks.verdict_of.Reads as verdict-of-reads
+use Rattle.derivation.proofs.offsets.offsets.Reads as offsets-reads
+use Rattle.rules.proofs.standing.Standing.start.Reads as start-reads
+use Rattle.solver.proofs.bounds.lower_bounds.Reads as lower-bounds-reads
+use Rattle.solver.proofs.call.count_marks.Reads as count-marks-reads
+use Rattle.solver.proofs.marks.add_marks.Reads as add-marks-reads
+use Rattle.solver.proofs.output.put_header.Reads as put-header-reads
+
+mul-if1 : tie.Need-mul-if1
+mul-if1 c = search needs
+
+add-if1 : tie.Need-add-if1
+add-if1 c = search needs
+
+returns : tie.Need-returns
+returns c = laws.room-short _ _ _ _ _ _ (c .before .before .before .pre .0) (c .before .before .before .pre .1) (c .before .before .before .pre .2) _ (c .if1 .taken)
+
+offsets-requires : tie.Need-offsets-requires
+offsets-requires c κs = search needs
+
+start-requires : tie.Need-start-requires
+start-requires c κs = search needs
+
+slice-aggregate-lower-bounds : tie.Need-slice-aggregate-lower-bounds
+slice-aggregate-lower-bounds c = search needs
+
+lower-bounds-requires : tie.Need-lower-bounds-requires
+lower-bounds-requires c κs =
+    let long : length (c .before .before .before .before .before .start .result .bounds) ≡ 257 = search needs in (
+      laws.bounds-of _ _ _ _ _ _ (c .before .before .before .before .before .before .before .before .before .before .pre .0) (c .before .before .before .before .before .before .before .before .before .before .pre .1) (c .before .before .before .before .before .before .before .before .before .before .pre .2) _ (c .before .before .before .before .before .before .offsets .ensures) _ _ (c .before .before .before .before .before .start .ensures) long,
+      c .before .before .before .before .before .before .before .before .before .before .pre .0 .is-m,
+      laws.start-bounds _ _ _ _ _ _ (c .before .before .before .before .before .before .before .before .before .before .pre .0) (c .before .before .before .before .before .before .before .before .before .before .pre .1) (c .before .before .before .before .before .before .before .before .before .before .pre .2) _ (c .before .before .before .before .before .before .offsets .ensures) _ _ (c .before .before .before .before .before .start .ensures) long,
+      c .before .before .before .before .before .before .before .if1 .left,
+    )
+
+slice-aggregate-add-marks : tie.Need-slice-aggregate-add-marks
+slice-aggregate-add-marks c = search needs
+
+slice-aggregate-add-marks-2 : tie.Need-slice-aggregate-add-marks-2
+slice-aggregate-add-marks-2 c = search needs
+
+add-marks-requires : tie.Need-add-marks-requires
+add-marks-requires c κs =
+    let long : length (c .before .before .before .before .before .before .before .before .before .before .before .before .before .start .result .bounds) ≡ 257 = search needs in
+    let wide : length (c .before .before .before .before .before .before .before .before .before .before .before .before .before .start .result .marks) ≡ 257 = search needs in (
+      laws.standing-of _ _ _ _ _ _ (c .before .before .before .before .before .before .before .before .before .before .before .before .before .before .before .before .before .before .pre .0) (c .before .before .before .before .before .before .before .before .before .before .before .before .before .before .before .before .before .before .pre .1) (c .before .before .before .before .before .before .before .before .before .before .before .before .before .before .before .before .before .before .pre .2) _ (c .before .before .before .before .before .before .before .before .before .before .before .before .before .before .offsets .ensures) _ _ (c .before .before .before .before .before .before .before .before .before .before .before .before .before .start .ensures) long _ (c .before .before .before .before .before .before .before .before .before .before .before .before .before .before .before .if1 .left) _ _ _ (c .before .before .before .before .before .before .before .lower-bounds .ensures) (c .before .before .before .before .before .before .before .lower-bounds .kept .1 .1 .0 ∙ long) wide,
+      c .before .before .before .before .before .before .before .before .before .before .before .before .before .before .before .before .before .before .pre .0 .is-m,
+      laws.bounded-view _ _ _ _ _ _ (c .before .before .before .before .before .before .before .before .before .before .before .before .before .before .before .before .before .before .pre .0) (c .before .before .before .before .before .before .before .before .before .before .before .before .before .before .before .before .before .before .pre .1) (c .before .before .before .before .before .before .before .before .before .before .before .before .before .before .before .before .before .before .pre .2) _ (c .before .before .before .before .before .before .before .before .before .before .before .before .before .before .offsets .ensures) _ _ (c .before .before .before .before .before .before .before .before .before .before .before .before .before .start .ensures) long _ (c .before .before .before .before .before .before .before .before .before .before .before .before .before .before .before .if1 .left) _ _ _ (c .before .before .before .before .before .before .before .lower-bounds .ensures) (c .before .before .before .before .before .before .before .lower-bounds .kept .1 .1 .0 ∙ long) wide,
+      laws.base-small _ _ _ _ _ _ (c .before .before .before .before .before .before .before .before .before .before .before .before .before .before .before .before .before .before .pre .0) (c .before .before .before .before .before .before .before .before .before .before .before .before .before .before .before .before .before .before .pre .1) (c .before .before .before .before .before .before .before .before .before .before .before .before .before .before .before .before .before .before .pre .2) _ (c .before .before .before .before .before .before .before .before .before .before .before .before .before .before .offsets .ensures) _ _ (c .before .before .before .before .before .before .before .before .before .before .before .before .before .start .ensures) long _ (c .before .before .before .before .before .before .before .before .before .before .before .before .before .before .before .if1 .left) _ _ _ (c .before .before .before .before .before .before .before .lower-bounds .ensures) (c .before .before .before .before .before .before .before .lower-bounds .kept .1 .1 .0 ∙ long) wide,
+      omega (arith, c .before .before .before .before .before .before .before .before .before .before .before .before .before .before .before .if1 .left, c .before .before .before .before .before .before .before .lower-bounds .kept .1 .1 .1 .0),
+    )
+
+put-header-requires : tie.Need-put-header-requires
+put-header-requires c κs =
+    let long : length (c .before .before .before .before .before .before .before .before .before .before .before .before .before .before .before .before .before .before .start .result .bounds) ≡ 257 = search needs in
+    let wide : length (c .before .before .before .before .before .before .before .before .before .before .before .before .before .before .before .before .before .before .start .result .marks) ≡ 257 = search needs in
+    let few = laws.steps-small _ _ _ _ _ _ (c .before .before .before .before .before .before .before .before .before .before .before .before .before .before .before .before .before .before .before .before .before .before .before .pre .0) (c .before .before .before .before .before .before .before .before .before .before .before .before .before .before .before .before .before .before .before .before .before .before .before .pre .1) (c .before .before .before .before .before .before .before .before .before .before .before .before .before .before .before .before .before .before .before .before .before .before .before .pre .2) _ (c .before .before .before .before .before .before .before .before .before .before .before .before .before .before .before .before .before .before .before .offsets .ensures) _ _ (c .before .before .before .before .before .before .before .before .before .before .before .before .before .before .before .before .before .before .start .ensures) long _ (c .before .before .before .before .before .before .before .before .before .before .before .before .before .before .before .before .before .before .before .before .if1 .left) _ _ _ (c .before .before .before .before .before .before .before .before .before .before .before .before .lower-bounds .ensures) (c .before .before .before .before .before .before .before .before .before .before .before .before .lower-bounds .kept .1 .1 .0 ∙ long) wide _ _ _ (c .before .before .before .before .add-marks .ensures) in
+    (omega (arith, c .before .before .before .before .before .before .before .before .before .before .before .before .before .before .before .before .before .before .before .before .if1 .left, c .before .before .before .before .before .before .before .before .before .before .before .before .lower-bounds .kept .1 .1 .1 .0, c .before .before .before .before .add-marks .kept .1 .1 .1 .1 .0), omega arith)
+
+slice-aggregate-count-marks : tie.Need-slice-aggregate-count-marks
+slice-aggregate-count-marks c = search needs
+
+count-marks-requires : tie.Need-count-marks-requires
+count-marks-requires c κs = search needs
+
+slice-aggregate-verdict-of : tie.Need-slice-aggregate-verdict-of
+slice-aggregate-verdict-of c = search needs
+
+verdict-of-requires : tie.Need-verdict-of-requires
+verdict-of-requires c κs = search needs
+
+cast-t14 : tie.Need-cast-t14
+cast-t14 c = search needs
+
+mul-t15 : tie.Need-mul-t15
+mul-t15 c = search needs
+
+add-t16 : tie.Need-add-t16
+add-t16 c = search needs
+
+same-length : tie.Need-same-length
+same-length c = c .before .before .before .before .before .before .put-header .kept .0 ∙ c .before .before .before .before .before .before .before .before .before .before .before .add-marks .kept .1 .1 .1 .1 .0 ∙ c .before .before .before .before .before .before .before .before .before .before .before .before .before .before .before .before .before .before .before .lower-bounds .kept .1 .1 .1 .0
+
+returns-2 : tie.Need-returns-2
+returns-2 c =
+    let long : length (c .before .before .before .before .before .before .before .before .before .before .before .before .before .before .before .before .before .before .before .before .before .before .before .before .before .start .result .bounds) ≡ 257 = search needs in
+    let wide : length (c .before .before .before .before .before .before .before .before .before .before .before .before .before .before .before .before .before .before .before .before .before .before .before .before .before .start .result .marks) ≡ 257 = search needs in (
+      laws.solved-answer _ _ _ _ _ _ (c .before .before .before .before .before .before .before .before .before .before .before .before .before .before .before .before .before .before .before .before .before .before .before .before .before .before .before .before .before .before .pre .0) (c .before .before .before .before .before .before .before .before .before .before .before .before .before .before .before .before .before .before .before .before .before .before .before .before .before .before .before .before .before .before .pre .1) (c .before .before .before .before .before .before .before .before .before .before .before .before .before .before .before .before .before .before .before .before .before .before .before .before .before .before .before .before .before .before .pre .2) _ (c .before .before .before .before .before .before .before .before .before .before .before .before .before .before .before .before .before .before .before .before .before .before .before .before .before .before .offsets .ensures) _ _ (c .before .before .before .before .before .before .before .before .before .before .before .before .before .before .before .before .before .before .before .before .before .before .before .before .before .start .ensures) long _ (c .before .before .before .before .before .before .before .before .before .before .before .before .before .before .before .before .before .before .before .before .before .before .before .before .before .before .before .if1 .left) _ _ _ (c .before .before .before .before .before .before .before .before .before .before .before .before .before .before .before .before .before .before .before .lower-bounds .ensures) (c .before .before .before .before .before .before .before .before .before .before .before .before .before .before .before .before .before .before .before .lower-bounds .kept .1 .1 .0 ∙ long) wide _ _ _ (c .before .before .before .before .before .before .before .before .before .before .before .add-marks .ensures) _ _ _ (c .before .before .count-marks .ensures) (c .verdict-of .ensures) refl,
+      laws.solved-output _ _ _ _ _ _ (c .before .before .before .before .before .before .before .before .before .before .before .before .before .before .before .before .before .before .before .before .before .before .before .before .before .before .before .before .before .before .pre .0) (c .before .before .before .before .before .before .before .before .before .before .before .before .before .before .before .before .before .before .before .before .before .before .before .before .before .before .before .before .before .before .pre .1) (c .before .before .before .before .before .before .before .before .before .before .before .before .before .before .before .before .before .before .before .before .before .before .before .before .before .before .before .before .before .before .pre .2) _ (c .before .before .before .before .before .before .before .before .before .before .before .before .before .before .before .before .before .before .before .before .before .before .before .before .before .before .offsets .ensures) _ _ (c .before .before .before .before .before .before .before .before .before .before .before .before .before .before .before .before .before .before .before .before .before .before .before .before .before .start .ensures) long _ (c .before .before .before .before .before .before .before .before .before .before .before .before .before .before .before .before .before .before .before .before .before .before .before .before .before .before .before .if1 .left) _ _ _ (c .before .before .before .before .before .before .before .before .before .before .before .before .before .before .before .before .before .before .before .lower-bounds .ensures) (c .before .before .before .before .before .before .before .before .before .before .before .before .before .before .before .before .before .before .before .lower-bounds .kept .1 .1 .0 ∙ long) wide _ _ _ (c .before .before .before .before .before .before .before .before .before .before .before .add-marks .ensures) _ (c .before .before .before .before .before .before .put-header .ensures),
+    )
+
+pub solve-on-spec : {M : Type 1} → statement M
+solve-on-spec =
+    tie.close
+    (tie.spec
+    mul-if1
+    add-if1
+    returns
+    offsets-requires
+    start-requires
+    slice-aggregate-lower-bounds
+    lower-bounds-requires
+    slice-aggregate-add-marks
+    slice-aggregate-add-marks-2
+    add-marks-requires
+    put-header-requires
+    slice-aggregate-count-marks
+    count-marks-requires
+    slice-aggregate-verdict-of
+    verdict-of-requires
+    cast-t14
+    mul-t15
+    add-t16
+    same-length
+    returns-2)

@@ -1,0 +1,173 @@
+-- `solver::marks::add_marks`: at each turn the steps so far, the floors, and the bytes written.
+use Prim.Native.Nat.{_+_, _-_, _≤_}
+use mathlib.Core.Path.{_≡_, refl, sym, _∙_}
+use native.Mathlib.Omega.{arith}
+use borrow.Author.Needs.{needs}
+use lib.ListN.{length, length-set}
+use Rattle.solver.proofs.CandidateLaws.{few-constraints}
+use Rattle.solver.proofs.MarkLaws.{sizes}
+use Rattle.solver.proofs.MarksTurn as laws
+use Rattle.solver.proofs.marks.add_marks.Statement.{statement}
+use Rattle.solver.proofs.marks.add_marks.Tie as tie
+use Rattle.solver.proofs.marks.add_marks.Reads as reads
+use Rattle.solver.proofs.marks.add_marks.Lts as lts
+use Rattle.solver.proofs.marks.next_mark.Reads as next-mark-reads
+use Rattle.solver.proofs.marks.number_of.Reads as number-of-reads
+use Rattle.solver.proofs.marks.raise_floors.Reads as raise-floors-reads
+use Rattle.solver.proofs.memo.forget.Reads as forget-reads
+use Rattle.solver.proofs.output.put_step.Reads as put-step-reads
+
+abbrev Inv-loop : tie.InvT-loop
+Inv-loop circuit table bounds marks₀ output₀ p n m base floors₀ count₀ marks output floors count =
+    (count ≤ n) × (length marks ≡ 257) × (length floors ≡ 513) × (length output ≡ length output₀)
+    × laws.Turning circuit bounds marks floors output₀ output p base count
+
+abbrev μ-loop : tie.MeasureT-loop
+μ-loop circuit table bounds marks₀ output₀ p n m base floors₀ count₀ marks output floors count = n - count
+
+array-write-floors : tie.Need-array-write-floors Inv-loop μ-loop
+array-write-floors c = search needs
+
+loop-holds : tie.Need-loop-holds Inv-loop μ-loop
+loop-holds c =
+    let a = c .before .before .before .before in (
+      omega arith,
+      a .pre .0 .marks-sized,
+      search needs,
+      refl,
+      laws.turning-start _ _ _ _ _ _ (a .pre .0) _ _ 512 (a .pre .2),
+    )
+
+slice-aggregate-raise-floors : tie.Need-slice-aggregate-raise-floors Inv-loop μ-loop
+slice-aggregate-raise-floors c = search needs
+
+raise-floors-requires : tie.Need-raise-floors-requires Inv-loop μ-loop
+raise-floors-requires c κs = (
+  (laws.standing-on (c .before .before .before .before .before .before .before .before .pre .0) _ (c .before .before .before .loop .inv .1)),
+  c .before .before .before .before .before .before .before .before .pre .1,
+  omega (arith, c .before .before .before .before .before .before .before .before .pre .1, few-constraints (c .before .before .before .before .before .before .before .before .pre .0 .prepared), c .before .before .before .loop .inv .2),
+  c .before .before .before .loop .inv .4 .floored,
+)
+
+slice-aggregate-next-mark : tie.Need-slice-aggregate-next-mark Inv-loop μ-loop
+slice-aggregate-next-mark c = search needs
+
+next-mark-requires : tie.Need-next-mark-requires Inv-loop μ-loop
+next-mark-requires c κs = (
+  (laws.standing-on (c .before .before .before .before .before .before .before .before .before .before .before .before .pre .0) _ (c .before .before .before .before .before .before .before .loop .inv .1)),
+  c .before .before .before .before .before .before .before .before .before .before .before .before .pre .1,
+  omega (arith, c .before .before .before .before .before .before .before .before .before .before .before .before .pre .1, few-constraints (c .before .before .before .before .before .before .before .before .before .before .before .before .pre .0 .prepared), c .before .before .before .before .before .before .before .loop .inv .2, c .before .before .before .raise-floors .kept .1 .1 .1 .1 .0),
+  c .before .before .before .raise-floors .ensures,
+)
+
+enum-known-choice : tie.Need-enum-known-choice Inv-loop μ-loop
+enum-known-choice c = search needs
+
+enum-told : tie.Need-enum-told Inv-loop μ-loop
+enum-told c = search needs
+
+add-result : tie.Need-add-result Inv-loop μ-loop
+add-result c = let s = sizes (c .before .before .before .before .before .before .before .before .before .before .before .before .before .before .before .pre .0) in omega arith
+
+same-length : tie.Need-same-length Inv-loop μ-loop
+same-length c = c .before .before .before .before .before .before .before .before .before .before .loop .inv .1 ∙ sym (c .before .before .before .before .before .before .before .before .before .before .before .before .before .before .before .pre .0 .marks-sized)
+
+same-length-2 : tie.Need-same-length-2 Inv-loop μ-loop
+same-length-2 c = c .before .before .before .before .before .before .before .before .before .before .loop .inv .3
+
+returns : tie.Need-returns Inv-loop μ-loop
+returns c = laws.turning-none _ _ _ _ _ _ (laws.standing-on (c .before .before .before .before .before .before .before .before .before .before .before .before .before .before .before .pre .0) _ (c .before .before .before .before .before .before .before .before .before .before .loop .inv .1)) _ _ _ _ _ (c .before .before .before .before .before .before .before .before .before .before .loop .inv .4) _ (c .before .before .next-mark .ensures) (c .enum-told .given .1)
+
+add-put-step : tie.Need-add-put-step Inv-loop μ-loop
+add-put-step c = let s = sizes (c .before .before .before .before .before .before .before .before .before .before .before .before .before .before .before .before .before .pre .0) in omega arith
+
+number-of-requires : tie.Need-number-of-requires Inv-loop μ-loop
+number-of-requires c κs = search needs
+
+put-step-requires : tie.Need-put-step-requires Inv-loop μ-loop
+put-step-requires c κs =
+    let t = laws.target-small _ _ _ _ _ _ (laws.standing-on (c .before .before .before .before .before .before .before .before .before .before .before .before .before .before .before .before .before .before .pre .0) _ (c .before .before .before .before .before .before .before .before .before .before .before .before .before .loop .inv .1)) _ _ _ _ _ (c .before .before .before .before .before .before .before .before .before .before .before .before .before .loop .inv .4) _ (c .before .before .before .before .before .next-mark .ensures) _ _ _ _ (c .before .before .before .choice .given .1) in
+    let f = laws.fields-small _ _ _ _ _ _ (laws.standing-on (c .before .before .before .before .before .before .before .before .before .before .before .before .before .before .before .before .before .before .pre .0) _ (c .before .before .before .before .before .before .before .before .before .before .before .before .before .loop .inv .1)) _ _ _ _ _ (c .before .before .before .before .before .before .before .before .before .before .before .before .before .loop .inv .4) _ (c .before .before .before .before .before .next-mark .ensures) _ _ _ _ (c .before .before .before .choice .given .1) in (
+      omega (arith, c .before .before .before .before .before .before .before .before .before .before .before .before .before .before .before .before .before .before .pre .3, c .before .before .before .before .before .before .before .before .before .before .before .before .before .before .before .before .before .before .pre .4, c .before .before .before .before .before .before .before .before .before .before .before .before .before .loop .inv .3, c .before .before .before .before .before .before .before .before .before .before .before .before .loop-test .taken),
+      c .number-of .ensures .1,
+      omega (arith, t .1),
+      omega (arith, f .0),
+      omega (arith, f .1),
+    )
+
+cast-marks : tie.Need-cast-marks Inv-loop μ-loop
+cast-marks c = search needs
+
+slice-write-marks : tie.Need-slice-write-marks Inv-loop μ-loop
+slice-write-marks c = omega (arith, laws.target-small _ _ _ _ _ _ (laws.standing-on (c .before .before .before .before .before .before .before .before .before .before .before .before .before .before .before .before .before .before .before .before .before .pre .0) _ (c .before .before .before .before .before .before .before .before .before .before .before .before .before .before .before .before .loop .inv .1)) _ _ _ _ _ (c .before .before .before .before .before .before .before .before .before .before .before .before .before .before .before .before .loop .inv .4) _ (c .before .before .before .before .before .before .before .before .next-mark .ensures) _ _ _ _ (c .before .before .before .before .before .before .choice .given .1) .1, c .before .before .before .before .before .before .before .before .before .before .before .before .before .before .before .before .loop .inv .1)
+
+slice-aggregate-forget : tie.Need-slice-aggregate-forget Inv-loop μ-loop
+slice-aggregate-forget c = search needs
+
+forget-requires : tie.Need-forget-requires Inv-loop μ-loop
+forget-requires c κs = (
+  c .before .before .before .before .before .before .before .before .before .before .before .before .before .before .before .before .before .before .before .before .before .before .pre .0 .prepared,
+  c .before .before .before .before .before .before .before .before .before .before .before .before .before .before .before .before .before .before .before .before .before .before .pre .1,
+  omega (arith, c .before .before .before .before .before .before .before .before .before .before .before .before .before .before .before .before .before .before .before .before .before .before .pre .1, few-constraints (c .before .before .before .before .before .before .before .before .before .before .before .before .before .before .before .before .before .before .before .before .before .before .pre .0 .prepared), c .before .before .before .before .before .before .before .before .before .before .before .before .before .before .before .before .before .loop .inv .2, c .before .before .before .before .before .before .before .before .before .before .before .before .before .raise-floors .kept .1 .1 .1 .1 .0),
+)
+
+add-count : tie.Need-add-count Inv-loop μ-loop
+add-count c = let s = sizes (c .before .before .before .before .before .before .before .before .before .before .before .before .before .before .before .before .before .before .before .before .before .before .before .before .pre .0) in omega (arith, c .before .before .before .before .before .before .before .before .before .before .before .before .before .before .before .before .before .before .loop-test .taken)
+
+loop-less : tie.Need-loop-less Inv-loop μ-loop
+loop-less c = search needs
+
+loop-again : tie.Need-loop-again Inv-loop μ-loop
+loop-again c =
+    let l = c .before .before .before .before .before .before .before .before .before .before .before .before .before .before .before .before .before .before .before .loop in (
+      omega arith,
+      simp length-set (l .inv .1),
+      c .before .forget .kept .1 .1 .0 ∙ c .before .before .before .before .before .before .before .before .before .before .before .before .before .before .before .raise-floors .kept .1 .1 .1 .1 .0 ∙ l .inv .2,
+      c .before .before .before .before .before .put-step .kept .0 ∙ l .inv .3,
+      laws.turning-next _ _ _ _ _ _ (laws.standing-on (c .before .before .before .before .before .before .before .before .before .before .before .before .before .before .before .before .before .before .before .before .before .before .before .before .pre .0) _ (c .before .before .before .before .before .before .before .before .before .before .before .before .before .before .before .before .before .before .before .loop .inv .1)) _ _ _ _ _ (c .before .before .before .before .before .before .before .before .before .before .before .before .before .before .before .before .before .before .before .loop .inv .4) _ (c .before .before .before .before .before .before .before .before .before .before .before .next-mark .ensures) _ _ _ _ (c .before .before .before .before .before .before .before .before .before .choice .given .1) (c .before .before .before .before .before .before .before .before .before .before .before .before .before .before .before .before .before .before .loop-test .taken) _ _ _ _ (c .before .before .before .before .before .before .number-of .ensures .0) (c .before .before .before .before .before .put-step .ensures) (c .before .before .before .before .before .before .before .before .before .before .before .before .before .before .before .raise-floors .ensures) (c .before .forget .ensures),
+    )
+
+add-result-2 : tie.Need-add-result-2 Inv-loop μ-loop
+add-result-2 c = let s = sizes (c .before .before .before .before .before .before .pre .0) in omega arith
+
+same-length-3 : tie.Need-same-length-3 Inv-loop μ-loop
+same-length-3 c = c .before .loop .inv .1 ∙ sym (c .before .before .before .before .before .before .pre .0 .marks-sized)
+
+same-length-4 : tie.Need-same-length-4 Inv-loop μ-loop
+same-length-4 c = c .before .loop .inv .3
+
+returns-2 : tie.Need-returns-2 Inv-loop μ-loop
+returns-2 c = laws.turning-all _ _ _ _ _ _ (laws.standing-on (c .before .before .before .before .before .before .pre .0) _ (c .before .loop .inv .1)) _ _ _ _ _ (c .before .loop .inv .4) (c .loop-test .left)
+
+pub add-marks-spec : {M : Type 1} → statement M
+add-marks-spec =
+    tie.close
+    (tie.spec
+    Inv-loop
+    μ-loop
+    array-write-floors
+    loop-holds
+    slice-aggregate-raise-floors
+    raise-floors-requires
+    slice-aggregate-next-mark
+    next-mark-requires
+    enum-known-choice
+    enum-told
+    add-result
+    same-length
+    same-length-2
+    returns
+    add-put-step
+    number-of-requires
+    put-step-requires
+    cast-marks
+    slice-write-marks
+    slice-aggregate-forget
+    forget-requires
+    add-count
+    loop-less
+    loop-again
+    add-result-2
+    same-length-3
+    same-length-4
+    returns-2)

@@ -1,0 +1,214 @@
+-- `solver::marks::digits_for`: what is left of the search is what it has still to find.
+use Prim.Native.Nat.{_+_, _-_, _≤_}
+use mathlib.Core.Path.{_≡_, refl}
+use native.Mathlib.Omega.{arith}
+use borrow.Author.Needs.{needs}
+use Rattle.rules.specs.View.{viewOf}
+use Rattle.derivation.specs.Inner.{circuitOf}
+use Rattle.solver.proofs.MarkLaws as laws
+use Rattle.solver.proofs.MarkSearch as left
+use Rattle.solver.proofs.marks.digits_for.Statement.{statement}
+use Rattle.solver.proofs.marks.digits_for.Tie as tie
+use Rattle.solver.proofs.marks.digits_for.Reads as reads
+use Rattle.solver.proofs.marks.digits_for.Lts as lts
+use Rattle.derivation.proofs.offsets.part_of.Reads as part-of-reads
+use Rattle.rules.proofs.constraint.is_linear.Reads as is-linear-reads
+use Rattle.rules.proofs.digits.separated.Reads as separated-reads
+use Rattle.rules.proofs.form.reduced_form.Reads as reduced-form-reads
+
+abbrev Inv-loop : tie.InvT-loop
+Inv-loop circuit table bounds marks floors p n m t constraint₀ reference₀ k form r₀ constraint reference r = (r ≤ n) × (constraint ≡ 0) × (reference ≡ 0) × left.ReferenceFrom (circuitOf circuit) (viewOf p bounds marks) t m k r
+
+abbrev μ-loop : tie.MeasureT-loop
+μ-loop circuit table bounds marks floors p n m t constraint₀ reference₀ k form r₀ constraint reference r = n - r
+
+abbrev Inv-search : tie.InvT-search
+Inv-search circuit table bounds marks floors p n m t constraint₀ reference₀ k₀ constraint reference k = (k ≤ m) × (constraint ≡ 0) × (reference ≡ 0) × left.DigitsFrom (circuitOf circuit) (viewOf p bounds marks) t m k
+
+abbrev μ-search : tie.MeasureT-search
+μ-search circuit table bounds marks floors p n m t constraint₀ reference₀ k₀ constraint reference k = m - k
+
+search-holds : tie.Need-search-holds Inv-loop μ-loop Inv-search μ-search
+search-holds c = (omega arith, refl, refl, left.digits-start _ _ _ _)
+
+add-k : tie.Need-add-k Inv-loop μ-loop Inv-search μ-search
+add-k c = search needs
+
+cast-if1 : tie.Need-cast-if1 Inv-loop μ-loop Inv-search μ-search
+cast-if1 c = search needs
+
+mul-if1 : tie.Need-mul-if1 Inv-loop μ-loop Inv-search μ-search
+mul-if1 c = search needs
+
+shared-slice-read-if1 : tie.Need-shared-slice-read-if1 Inv-loop μ-loop Inv-search μ-search
+shared-slice-read-if1 c = search needs
+
+part-of-requires : tie.Need-part-of-requires Inv-loop μ-loop Inv-search μ-search
+part-of-requires c κs = search needs
+
+is-linear-requires : tie.Need-is-linear-requires Inv-loop μ-loop Inv-search μ-search
+is-linear-requires c κs = search needs
+
+reduced-form-requires : tie.Need-reduced-form-requires Inv-loop μ-loop Inv-search μ-search
+reduced-form-requires c κs = search needs
+
+mul-if3 : tie.Need-mul-if3 Inv-loop μ-loop Inv-search μ-search
+mul-if3 c = search needs
+
+array-read-if3 : tie.Need-array-read-if3 Inv-loop μ-loop Inv-search μ-search
+array-read-if3 c = let s = laws.sizes (c .before .before .before .before .before .before .before .before .before .before .before .before .before .pre .0) in omega (arith, c .before .before .before .before .before .before .before .before .before .before .before .before .before .pre .4)
+
+loop-holds : tie.Need-loop-holds Inv-loop μ-loop Inv-search μ-search
+loop-holds c = (
+  omega arith,
+  c .before .before .before .before .before .before .before .before .before .search .inv .1,
+  c .before .before .before .before .before .before .before .before .before .search .inv .2,
+  left.digits-enter _ _ _ _ _ (c .before .before .before .before .before .before .before .before .before .search .inv .3) (c .before .before .before .before .before .before .before .before .search-test .taken),
+)
+
+search-less : tie.Need-search-less Inv-loop μ-loop Inv-search μ-search
+search-less c = search needs
+
+search-again : tie.Need-search-again Inv-loop μ-loop Inv-search μ-search
+search-again c = (
+  omega arith,
+  c .before .loop .inv .1,
+  c .before .loop .inv .2,
+  left.reference-end _ _ _ _ _ _ (c .before .loop .inv .3) (omega (arith, c .before .before .before .before .before .before .before .before .before .before .before .before .before .before .before .before .pre .0 .is-n)),
+)
+
+add-r : tie.Need-add-r Inv-loop μ-loop Inv-search μ-search
+add-r c = search needs
+
+cast-if4 : tie.Need-cast-if4 Inv-loop μ-loop Inv-search μ-search
+cast-if4 c = search needs
+
+mul-if4 : tie.Need-mul-if4 Inv-loop μ-loop Inv-search μ-search
+mul-if4 c = search needs
+
+array-read-if4 : tie.Need-array-read-if4 Inv-loop μ-loop Inv-search μ-search
+array-read-if4 c = let s = laws.sizes (c .before .before .before .before .before .before .before .before .before .before .before .before .before .before .before .before .pre .0) in omega arith
+
+slice-aggregate-separated : tie.Need-slice-aggregate-separated Inv-loop μ-loop Inv-search μ-search
+slice-aggregate-separated c = search needs
+
+separated-requires : tie.Need-separated-requires Inv-loop μ-loop Inv-search μ-search
+separated-requires c κs = search needs
+
+loop-less : tie.Need-loop-less Inv-loop μ-loop Inv-search μ-search
+loop-less c = search needs
+
+loop-again : tie.Need-loop-again Inv-loop μ-loop Inv-search μ-search
+loop-again c = (
+  omega arith,
+  c .before .before .before .before .before .loop .inv .1,
+  c .before .before .before .before .before .loop .inv .2,
+  left.reference-on _ _ _ _ _ _ (c .before .before .before .before .before .loop .inv .3) (omega (arith, c .before .before .before .before .before .before .before .before .before .before .before .before .before .before .before .before .before .before .before .before .pre .0 .is-n))
+      (laws.reference-unmet _ _ _ _ _ _ _ (c .before .before .before .before .before .before .before .before .before .before .before .before .before .before .before .before .before .before .before .before .pre .0) (omega arith) (omega (arith, c .before .before .before .before .before .before .before .before .before .before .before .before .before .before .before .before .before .before .before .before .pre .1)) _ (c .before .before .before .before .before .before .before .before .before .before .part-of .ensures) _ (c .before .before .before .before .before .before .before .before .before .is-linear .ensures) (c .before .before .before .before .before .before .before .before .if2 .taken) _ (c .before .before .before .before .before .before .before .reduced-form .ensures) _ _ _ (c .before .separated .ensures) (c .if5 .left)),
+)
+
+loop-less-2 : tie.Need-loop-less-2 Inv-loop μ-loop Inv-search μ-search
+loop-less-2 c = search needs
+
+loop-again-2 : tie.Need-loop-again-2 Inv-loop μ-loop Inv-search μ-search
+loop-again-2 c = (
+  omega arith,
+  c .before .before .loop .inv .1,
+  c .before .before .loop .inv .2,
+  left.reference-on _ _ _ _ _ _ (c .before .before .loop .inv .3) (omega (arith, c .before .before .before .before .before .before .before .before .before .before .before .before .before .before .before .before .before .pre .0 .is-n))
+      (laws.reference-absent _ _ _ _ _ _ _ (c .before .before .before .before .before .before .before .before .before .before .before .before .before .before .before .before .before .pre .0) (omega arith) (omega (arith, c .before .before .before .before .before .before .before .before .before .before .before .before .before .before .before .before .before .pre .1)) _ (c .before .before .before .before .before .before .before .part-of .ensures) _ (c .before .before .before .before .before .before .is-linear .ensures) (c .before .before .before .before .before .if2 .taken) _ (c .before .before .before .before .reduced-form .ensures) _ _ (c .if4 .left)),
+)
+
+search-less-2 : tie.Need-search-less-2 Inv-loop μ-loop Inv-search μ-search
+search-less-2 c = search needs
+
+search-again-2 : tie.Need-search-again-2 Inv-loop μ-loop Inv-search μ-search
+search-again-2 c = (
+  omega arith,
+  c .before .before .before .before .before .before .before .before .before .search .inv .1,
+  c .before .before .before .before .before .before .before .before .before .search .inv .2,
+  left.digits-on _ _ _ _ _ (c .before .before .before .before .before .before .before .before .before .search .inv .3) (omega (arith, c .before .before .before .before .before .before .before .before .search-test .taken))
+      (λ u l h. laws.target-absent _ _ _ _ _ _ _ (c .before .before .before .before .before .before .before .before .before .before .before .before .before .before .pre .0) (omega arith) (omega (arith, c .before .before .before .before .before .before .before .before .before .before .before .before .before .before .pre .1)) _ (c .before .before .before .before .part-of .ensures) _ (c .before .before .before .is-linear .ensures) (c .before .before .if2 .taken) _ (c .before .reduced-form .ensures) _ (c .if3 .left) u),
+)
+
+search-less-3 : tie.Need-search-less-3 Inv-loop μ-loop Inv-search μ-search
+search-less-3 c = search needs
+
+search-again-3 : tie.Need-search-again-3 Inv-loop μ-loop Inv-search μ-search
+search-again-3 c = (
+  omega arith,
+  c .before .before .before .before .before .before .before .search .inv .1,
+  c .before .before .before .before .before .before .before .search .inv .2,
+  left.digits-on _ _ _ _ _ (c .before .before .before .before .before .before .before .search .inv .3) (omega (arith, c .before .before .before .before .before .before .search-test .taken))
+      (λ u l h. laws.nonlinear-unmet _ _ _ _ _ _ _ (c .before .before .before .before .before .before .before .before .before .before .before .before .pre .0) (omega arith) (omega (arith, c .before .before .before .before .before .before .before .before .before .before .before .before .pre .1)) _ (c .before .before .part-of .ensures) _ (c .before .is-linear .ensures) (c .if2 .left) _ u),
+)
+
+search-less-4 : tie.Need-search-less-4 Inv-loop μ-loop Inv-search μ-search
+search-less-4 c = search needs
+
+search-again-4 : tie.Need-search-again-4 Inv-loop μ-loop Inv-search μ-search
+search-again-4 c =
+    let a = c .before .before .before .before .before .before .before .before in (
+      omega arith,
+      c .before .before .before .search .inv .1,
+      c .before .before .before .search .inv .2,
+      left.digits-on _ _ _ _ _ (c .before .before .before .search .inv .3) (omega (arith, c .before .before .search-test .taken))
+          (λ u l h. laws.below-digits _ _ _ (a .pre .6) _ _ (omega arith) (omega (arith, a .pre .1)) (a .pre .3) (laws.view-marked _ _ _ _ (a .pre .5)) (c .if1 .left) u l h),
+    )
+
+returns : tie.Need-returns Inv-loop μ-loop Inv-search μ-search
+returns c =
+    let l = c .before .search in (
+      omega arith,
+      omega arith,
+      λ later. rw (l .inv .1) (left.digits-end _ _ _ _ _ (l .inv .3) (c .search-test .left) _ later),
+    )
+
+returns-2 : tie.Need-returns-2 Inv-loop μ-loop Inv-search μ-search
+returns-2 c = (
+  omega arith,
+  omega arith,
+  λ later.
+      left.reference-hit _ _ _ _ _ _ (c .before .before .before .before .before .loop .inv .3) (omega arith) (omega (arith, c .before .before .before .before .before .before .before .before .before .before .before .before .before .before .before .before .before .before .before .before .pre .0 .is-n))
+      (laws.reference-met _ _ _ _ _ _ _ (c .before .before .before .before .before .before .before .before .before .before .before .before .before .before .before .before .before .before .before .before .pre .0) (omega arith) (omega (arith, c .before .before .before .before .before .before .before .before .before .before .before .before .before .before .before .before .before .before .before .before .pre .1)) _ (c .before .before .before .before .before .before .before .before .before .before .part-of .ensures) _ (c .before .before .before .before .before .before .before .before .before .is-linear .ensures) (c .before .before .before .before .before .before .before .before .if2 .taken) _ (c .before .before .before .before .before .before .before .reduced-form .ensures) _ _ _ (c .before .separated .ensures) (c .before .before .before .before .before .before .if3 .taken) (c .before .before .before .if4 .taken) (c .if5 .taken)) later,
+)
+
+pub digits-for-spec : {M : Type 1} → statement M
+digits-for-spec =
+    tie.close
+    (tie.spec
+    Inv-loop
+    μ-loop
+    Inv-search
+    μ-search
+    search-holds
+    add-k
+    cast-if1
+    mul-if1
+    shared-slice-read-if1
+    part-of-requires
+    is-linear-requires
+    reduced-form-requires
+    mul-if3
+    array-read-if3
+    loop-holds
+    search-less
+    search-again
+    add-r
+    cast-if4
+    mul-if4
+    array-read-if4
+    slice-aggregate-separated
+    separated-requires
+    loop-less
+    loop-again
+    loop-less-2
+    loop-again-2
+    search-less-2
+    search-again-2
+    search-less-3
+    search-again-3
+    search-less-4
+    search-again-4
+    returns
+    returns-2)

@@ -1,0 +1,120 @@
+-- `solver::marks::floor_of`: each way out is one law.
+use native.Mathlib.Omega.{arith}
+use borrow.Author.Needs.{needs}
+use borrow.Author.Tests.{not-true, not-false}
+use Rattle.solver.proofs.MarkLaws as laws
+use Rattle.solver.proofs.marks.floor_of.Statement.{statement}
+use Rattle.solver.proofs.marks.floor_of.Tie as tie
+use Rattle.solver.proofs.marks.floor_of.Reads as reads
+use Rattle.solver.proofs.marks.floor_of.Lts as lts
+use Rattle.circuit.proofs.reader.after_form.Reads as after-form-reads
+use Rattle.derivation.proofs.offsets.part_of.Reads as part-of-reads
+use Rattle.rules.proofs.constraint.is_linear.Reads as is-linear-reads
+use Rattle.rules.proofs.constraint.product_met.Reads as product-met-reads
+use Rattle.rules.proofs.form.reduced_form.Reads as reduced-form-reads
+use Rattle.solver.proofs.marks.first_live.Reads as first-live-reads
+use Rattle.solver.proofs.marks.has_reference.Reads as has-reference-reads
+use Rattle.solver.proofs.marks.is_crowded.Reads as is-crowded-reads
+use Rattle.solver.proofs.search.unmarked_in.Reads as unmarked-in-reads
+
+part-of-requires : tie.Need-part-of-requires
+part-of-requires c κs = search needs
+
+is-linear-requires : tie.Need-is-linear-requires
+is-linear-requires c κs = search needs
+
+after-form-requires : tie.Need-after-form-requires
+after-form-requires c κs = search needs
+
+after-form-requires-2 : tie.Need-after-form-requires-2
+after-form-requires-2 c κs = search needs
+
+unmarked-in-requires : tie.Need-unmarked-in-requires
+unmarked-in-requires c κs = search needs
+
+returns : tie.Need-returns
+returns c = laws.floor-unnamed _ _ _ _ _ _ _ (c .before .before .before .before .before .before .before .before .before .before .before .pre .0) (c .before .before .before .before .before .before .before .before .before .before .before .pre .1) (c .before .before .before .before .before .before .before .before .before .before .before .pre .2) _ (c .before .before .before .before .before .before .part-of .ensures) _ (c .before .before .before .before .before .is-linear .ensures) (not-true _ (c .before .before .before .before .if1 .taken)) _ _ (c .before .before .before .after-form .ensures) (c .before .before .after-form2 .ensures) _ (c .before .unmarked-in .ensures) (c .if2 .taken)
+
+product-met-requires : tie.Need-product-met-requires
+product-met-requires c κs = search needs
+
+returns-2 : tie.Need-returns-2
+returns-2 c = laws.floor-unmet _ _ _ _ _ _ _ (c .before .before .before .before .before .before .before .before .before .before .before .before .before .pre .0) (c .before .before .before .before .before .before .before .before .before .before .before .before .before .pre .1) (c .before .before .before .before .before .before .before .before .before .before .before .before .before .pre .2) _ (c .before .before .before .before .before .before .before .before .part-of .ensures) _ (c .before .before .before .before .before .before .before .is-linear .ensures) (not-true _ (c .before .before .before .before .before .before .if1 .taken)) _ _ (c .before .before .before .before .before .after-form .ensures) (c .before .before .before .before .after-form2 .ensures) _ (c .before .before .before .unmarked-in .ensures) _ (c .before .product-met .ensures) (not-true _ (c .if3 .taken))
+
+cast-result : tie.Need-cast-result
+cast-result c = search needs
+
+returns-3 : tie.Need-returns-3
+returns-3 c = laws.floor-product _ _ _ _ _ _ _ (c .before .before .before .before .before .before .before .before .before .before .before .before .before .pre .0) (c .before .before .before .before .before .before .before .before .before .before .before .before .before .pre .1) (c .before .before .before .before .before .before .before .before .before .before .before .before .before .pre .2) _ (c .before .before .before .before .before .before .before .before .part-of .ensures) _ (c .before .before .before .before .before .before .before .is-linear .ensures) (not-true _ (c .before .before .before .before .before .before .if1 .taken)) _ _ (c .before .before .before .before .before .after-form .ensures) (c .before .before .before .before .after-form2 .ensures) _ (c .before .before .before .unmarked-in .ensures)
+
+reduced-form-requires : tie.Need-reduced-form-requires
+reduced-form-requires c κs = search needs
+
+slice-aggregate-first-live : tie.Need-slice-aggregate-first-live
+slice-aggregate-first-live c = search needs
+
+first-live-requires : tie.Need-first-live-requires
+first-live-requires c κs =
+    let s = laws.sizes (c .before .before .before .before .before .before .before .before .before .pre .0) in
+    let l = c .before .reduced-form .ok in
+    (omega arith, omega (arith, c .before .before .before .before .before .before .before .before .before .pre .0 .marks-sized))
+
+returns-4 : tie.Need-returns-4
+returns-4 c = laws.floor-none _ _ _ _ _ _ _ (c .before .before .before .before .before .before .before .before .before .before .before .pre .0) (c .before .before .before .before .before .before .before .before .before .before .before .pre .1) (c .before .before .before .before .before .before .before .before .before .before .before .pre .2) _ (c .before .before .before .before .before .before .part-of .ensures) _ (c .before .before .before .before .before .is-linear .ensures) (not-false _ (c .before .before .before .before .if1 .left)) _ (c .before .before .before .reduced-form .ensures) _ (c .before .first-live .ensures) (c .if4 .taken)
+
+slice-aggregate-is-crowded : tie.Need-slice-aggregate-is-crowded
+slice-aggregate-is-crowded c = search needs
+
+is-crowded-requires : tie.Need-is-crowded-requires
+is-crowded-requires c κs =
+    let s = laws.sizes (c .before .before .before .before .before .before .before .before .before .before .before .before .pre .0) in
+    let l = c .before .before .before .before .reduced-form .ok in
+    (omega arith, omega (arith, c .before .before .before .before .before .before .before .before .before .before .before .before .pre .0 .bounds-sized), omega (arith, c .before .before .before .before .before .before .before .before .before .before .before .before .pre .0 .marks-sized), omega arith)
+
+returns-5 : tie.Need-returns-5
+returns-5 c = laws.floor-crowded _ _ _ _ _ _ _ (c .before .before .before .before .before .before .before .before .before .before .before .before .before .before .pre .0) (c .before .before .before .before .before .before .before .before .before .before .before .before .before .before .pre .1) (c .before .before .before .before .before .before .before .before .before .before .before .before .before .before .pre .2) _ (c .before .before .before .before .before .before .before .before .before .part-of .ensures) _ (c .before .before .before .before .before .before .before .before .is-linear .ensures) (not-false _ (c .before .before .before .before .before .before .before .if1 .left)) _ (c .before .before .before .before .before .before .reduced-form .ensures) (c .before .is-crowded .ensures (c .if5 .taken))
+
+slice-aggregate-has-reference : tie.Need-slice-aggregate-has-reference
+slice-aggregate-has-reference c = search needs
+
+has-reference-requires : tie.Need-has-reference-requires
+has-reference-requires c κs =
+    let s = laws.sizes (c .before .before .before .before .before .before .before .before .before .before .before .before .before .before .before .pre .0) in
+    let l = c .before .before .before .before .before .before .before .reduced-form .ok in
+    (omega arith, omega arith)
+
+returns-6 : tie.Need-returns-6
+returns-6 c = laws.floor-unreferred _ _ _ _ _ _ _ (c .before .before .before .before .before .before .before .before .before .before .before .before .before .before .before .before .before .pre .0) (c .before .before .before .before .before .before .before .before .before .before .before .before .before .before .before .before .before .pre .1) (c .before .before .before .before .before .before .before .before .before .before .before .before .before .before .before .before .before .pre .2) _ (c .before .before .before .before .before .before .before .before .before .before .before .before .part-of .ensures) _ (c .before .before .before .before .before .before .before .before .before .before .before .is-linear .ensures) (not-false _ (c .before .before .before .before .before .before .before .before .before .before .if1 .left)) _ (c .before .before .before .before .before .before .before .before .before .reduced-form .ensures) (c .before .has-reference .ensures (not-true _ (c .if6 .taken)))
+
+cast-result-2 : tie.Need-cast-result-2
+cast-result-2 c = search needs
+
+returns-7 : tie.Need-returns-7
+returns-7 c = laws.floor-digits _ _ _ _ _ _ _ (c .before .before .before .before .before .before .before .before .before .before .before .before .before .before .before .before .before .pre .0) (c .before .before .before .before .before .before .before .before .before .before .before .before .before .before .before .before .before .pre .1) (c .before .before .before .before .before .before .before .before .before .before .before .before .before .before .before .before .before .pre .2) _ (c .before .before .before .before .before .before .before .before .before .before .before .before .part-of .ensures) _ (c .before .before .before .before .before .before .before .before .before .before .before .is-linear .ensures) (not-false _ (c .before .before .before .before .before .before .before .before .before .before .if1 .left)) _ (c .before .before .before .before .before .before .before .before .before .reduced-form .ensures) _ (c .before .before .before .before .before .before .before .first-live .ensures)
+
+pub floor-of-spec : {M : Type 1} → statement M
+floor-of-spec =
+    tie.close
+    (tie.spec
+    part-of-requires
+    is-linear-requires
+    after-form-requires
+    after-form-requires-2
+    unmarked-in-requires
+    returns
+    product-met-requires
+    returns-2
+    cast-result
+    returns-3
+    reduced-form-requires
+    slice-aggregate-first-live
+    first-live-requires
+    returns-4
+    slice-aggregate-is-crowded
+    is-crowded-requires
+    returns-5
+    slice-aggregate-has-reference
+    has-reference-requires
+    returns-6
+    cast-result-2
+    returns-7)

@@ -1,0 +1,26 @@
+-- `solver::marks::is_live`: by the coefficient and the mark.
+use borrow.Author.Needs.{needs}
+use Rattle.solver.proofs.MarkLaws as laws
+use Rattle.solver.proofs.marks.is_live.Statement.{statement}
+use Rattle.solver.proofs.marks.is_live.Tie as tie
+use Rattle.solver.proofs.marks.is_live.Reads as reads
+use Rattle.solver.proofs.marks.is_live.Lts as lts
+
+mul-if1 : tie.Need-mul-if1
+mul-if1 c = search needs
+
+shared-slice-read-if1 : tie.Need-shared-slice-read-if1
+shared-slice-read-if1 c = search needs
+
+returns : tie.Need-returns
+returns c = λ b. laws.live-absent _ b _ _ (c .before .before .pre .0) (c .if1 .taken)
+
+shared-slice-read-result : tie.Need-shared-slice-read-result
+shared-slice-read-result c = search needs
+
+returns-2 : tie.Need-returns-2
+returns-2 c = λ b. laws.live-read _ b _ _ (c .before .before .before .pre .0) (c .before .if1 .left)
+
+pub is-live-spec : {M : Type 1} → statement M
+is-live-spec =
+    tie.close (tie.spec mul-if1 shared-slice-read-if1 returns shared-slice-read-result returns-2)

@@ -1,0 +1,139 @@
+-- `solver::marks::next_mark`: each way out is one law.
+use Prim.Native.Nat.{_-_, _≤_}
+use mathlib.Core.Path.{_∙_}
+use native.Mathlib.Omega.{arith}
+use borrow.Author.Needs.{needs}
+use Rattle.rules.specs.View.{viewOf}
+use Rattle.derivation.specs.Inner.{circuitOf}
+use Rattle.solver.proofs.MarkLaws.{sizes}
+use Rattle.solver.proofs.MarkSearch.{TargetFrom, target-start}
+use Rattle.solver.proofs.NextMark as laws
+use Rattle.solver.proofs.marks.next_mark.Statement.{statement}
+use Rattle.solver.proofs.marks.next_mark.Tie as tie
+use Rattle.solver.proofs.marks.next_mark.Reads as reads
+use Rattle.solver.proofs.marks.next_mark.Lts as lts
+use Rattle.solver.proofs.marks.digits_for.Reads as digits-for-reads
+use Rattle.solver.proofs.marks.product_for.Reads as product-for-reads
+use Rattle.solver.proofs.marks.taken.Reads as taken-reads
+use Rattle.solver.proofs.memo.least.Reads as least-reads
+
+abbrev Inv-loop : tie.InvT-loop
+Inv-loop circuit table bounds marks floors p n m lowest t₀ t = (t ≤ n) × TargetFrom (circuitOf circuit) (viewOf p bounds marks) t
+
+abbrev μ-loop : tie.MeasureT-loop
+μ-loop circuit table bounds marks floors p n m lowest t₀ t = n - t
+
+least-requires : tie.Need-least-requires Inv-loop μ-loop
+least-requires c κs = search needs
+
+cast-lowest : tie.Need-cast-lowest Inv-loop μ-loop
+cast-lowest c = search needs
+
+mul-lowest : tie.Need-mul-lowest Inv-loop μ-loop
+mul-lowest c = search needs
+
+shared-slice-read-lowest : tie.Need-shared-slice-read-lowest Inv-loop μ-loop
+shared-slice-read-lowest c = omega (arith, c .before .least .ensures .within)
+
+loop-holds : tie.Need-loop-holds Inv-loop μ-loop
+loop-holds c = (omega arith, target-start _ _)
+
+add-t : tie.Need-add-t Inv-loop μ-loop
+add-t c = search needs
+
+cast-if1 : tie.Need-cast-if1 Inv-loop μ-loop
+cast-if1 c = search needs
+
+shared-slice-read-if1 : tie.Need-shared-slice-read-if1 Inv-loop μ-loop
+shared-slice-read-if1 c = let s = sizes (c .before .before .before .before .before .before .before .before .before .pre .0) in omega (arith, c .before .before .before .before .before .before .before .before .before .pre .0 .marks-sized)
+
+cast-if2 : tie.Need-cast-if2 Inv-loop μ-loop
+cast-if2 c = search needs
+
+mul-if2 : tie.Need-mul-if2 Inv-loop μ-loop
+mul-if2 c = search needs
+
+shared-slice-read-if2 : tie.Need-shared-slice-read-if2 Inv-loop μ-loop
+shared-slice-read-if2 c = let s = sizes (c .before .before .before .before .before .before .before .before .before .before .before .pre .0) in omega (arith, c .before .before .before .before .before .before .before .before .before .before .before .pre .0 .bounds-sized)
+
+taken-requires : tie.Need-taken-requires Inv-loop μ-loop
+taken-requires c κs = search needs
+
+returns : tie.Need-returns Inv-loop μ-loop
+returns c = c .taken .ensures ∙ laws.next-zero _ _ _ _ _ _ _ (c .before .before .before .before .before .before .before .before .before .before .before .before .before .pre .0) (c .before .before .before .before .before .before .before .before .before .before .before .before .before .pre .1) _ (c .before .before .before .before .before .before .before .before .before .before .before .before .before .pre .3) _ (c .before .before .before .before .before .before .loop .inv .1) (c .before .before .before .before .before .loop-test .taken) (c .before .before .before .if1 .taken) (c .before .if2 .taken)
+
+cast-if3 : tie.Need-cast-if3 Inv-loop μ-loop
+cast-if3 c = search needs
+
+product-for-requires : tie.Need-product-for-requires Inv-loop μ-loop
+product-for-requires c κs = (c .before .before .before .before .before .before .before .before .before .before .before .before .before .pre .0 .prepared, c .before .before .before .before .before .before .before .before .before .before .before .before .before .pre .1, c .before .before .before .before .before .before .before .before .before .before .before .before .before .pre .2, omega arith, laws.unmarked _ _ _ _ _ _ _ (c .before .before .before .before .before .before .before .before .before .before .before .before .before .pre .0) (c .before .before .before .before .before .before .before .before .before .before .before .before .before .pre .1) _ (c .before .before .before .before .before .before .before .before .before .before .before .before .before .pre .3) _ (c .before .before .before .before .before .before .loop .inv .1) (c .before .before .before .before .before .loop-test .taken) (c .before .before .before .if1 .taken))
+
+taken-requires-2 : tie.Need-taken-requires-2 Inv-loop μ-loop
+taken-requires-2 c κs = search needs
+
+returns-2 : tie.Need-returns-2 Inv-loop μ-loop
+returns-2 c = c .taken2 .ensures ∙ laws.next-product _ _ _ _ _ _ _ (c .before .before .before .before .before .before .before .before .before .before .before .before .before .before .before .before .pre .0) (c .before .before .before .before .before .before .before .before .before .before .before .before .before .before .before .before .pre .1) _ (c .before .before .before .before .before .before .before .before .before .before .before .before .before .before .before .before .pre .3) _ (c .before .before .before .before .before .before .before .before .before .loop .inv .1) (c .before .before .before .before .before .before .before .before .loop-test .taken) (c .before .before .before .before .before .before .if1 .taken) (c .before .before .before .before .if2 .left) _ (c .before .before .product-for .ensures .1) (c .before .if4 .taken)
+
+digits-for-requires : tie.Need-digits-for-requires Inv-loop μ-loop
+digits-for-requires c κs = (c .before .before .before .before .before .before .before .before .before .before .before .before .before .before .before .pre .0, c .before .before .before .before .before .before .before .before .before .before .before .before .before .before .before .pre .1, c .before .before .before .before .before .before .before .before .before .before .before .before .before .before .before .pre .2, omega arith, omega arith, laws.unmarked _ _ _ _ _ _ _ (c .before .before .before .before .before .before .before .before .before .before .before .before .before .before .before .pre .0) (c .before .before .before .before .before .before .before .before .before .before .before .before .before .before .before .pre .1) _ (c .before .before .before .before .before .before .before .before .before .before .before .before .before .before .before .pre .3) _ (c .before .before .before .before .before .before .before .before .loop .inv .1) (c .before .before .before .before .before .before .before .loop-test .taken) (c .before .before .before .before .before .if1 .taken), c .before .before .before .before .before .before .before .before .before .before .before .before .before .before .before .pre .3)
+
+taken-requires-3 : tie.Need-taken-requires-3 Inv-loop μ-loop
+taken-requires-3 c κs = search needs
+
+returns-3 : tie.Need-returns-3 Inv-loop μ-loop
+returns-3 c = c .taken3 .ensures ∙ laws.next-digits _ _ _ _ _ _ _ (c .before .before .before .before .before .before .before .before .before .before .before .before .before .before .before .before .before .before .before .pre .0) (c .before .before .before .before .before .before .before .before .before .before .before .before .before .before .before .before .before .before .before .pre .1) _ (c .before .before .before .before .before .before .before .before .before .before .before .before .before .before .before .before .before .before .before .pre .3) _ (c .before .before .before .before .before .before .before .before .before .before .before .before .loop .inv .1) (c .before .before .before .before .before .before .before .before .before .before .before .loop-test .taken) (c .before .before .before .before .before .before .before .before .before .if1 .taken) (c .before .before .before .before .before .before .before .if2 .left) _ (c .before .before .before .before .before .product-for .ensures .1) (c .before .before .before .before .if4 .left) _ _ (c .before .before .before .digits-for .ensures .2) (c .before .if5 .taken)
+
+loop-less : tie.Need-loop-less Inv-loop μ-loop
+loop-less c = search needs
+
+loop-again : tie.Need-loop-again Inv-loop μ-loop
+loop-again c = (omega arith, laws.next-on _ _ _ _ _ _ _ (c .before .before .before .before .before .before .before .before .before .before .before .before .before .before .before .before .before .before .pre .0) (c .before .before .before .before .before .before .before .before .before .before .before .before .before .before .before .before .before .before .pre .1) _ (c .before .before .before .before .before .before .before .before .before .before .before .before .before .before .before .before .before .before .pre .3) _ (c .before .before .before .before .before .before .before .before .before .before .before .loop .inv .1) (c .before .before .before .before .before .before .before .before .before .before .loop-test .taken) (c .before .before .before .before .before .before .before .before .if1 .taken) (c .before .before .before .before .before .before .if2 .left) _ (c .before .before .before .before .product-for .ensures .1) (c .before .before .before .if4 .left) _ _ (c .before .before .digits-for .ensures .2) (c .if5 .left))
+
+loop-less-2 : tie.Need-loop-less-2 Inv-loop μ-loop
+loop-less-2 c = search needs
+
+loop-again-2 : tie.Need-loop-again-2 Inv-loop μ-loop
+loop-again-2 c = (omega arith, laws.next-below _ _ _ _ _ _ _ (c .before .before .before .before .before .before .before .before .before .before .before .before .before .pre .0) (c .before .before .before .before .before .before .before .before .before .before .before .before .before .pre .1) _ (c .before .before .before .before .before .before .before .before .before .before .before .before .before .pre .3) _ (c .before .before .before .before .before .before .loop .inv .1) (c .before .before .before .before .before .loop-test .taken) (c .before .before .before .if1 .taken) (c .before .if2 .left) _ (c .before .before .before .before .before .before .before .before .least .ensures) (c .if3 .left))
+
+loop-less-3 : tie.Need-loop-less-3 Inv-loop μ-loop
+loop-less-3 c = search needs
+
+loop-again-3 : tie.Need-loop-again-3 Inv-loop μ-loop
+loop-again-3 c = (omega arith, laws.next-marked _ _ _ _ _ _ _ (c .before .before .before .before .before .before .before .before .before .before .pre .0) (c .before .before .before .before .before .before .before .before .before .before .pre .1) _ (c .before .before .before .before .before .before .before .before .before .before .pre .3) _ (c .before .before .before .loop .inv .1) (c .before .before .loop-test .taken) (c .if1 .left))
+
+returns-4 : tie.Need-returns-4 Inv-loop μ-loop
+returns-4 c = laws.next-end _ _ _ _ _ _ _ (c .before .before .before .before .before .before .before .before .pre .0) (c .before .before .before .before .before .before .before .before .pre .1) _ (c .before .before .before .before .before .before .before .before .pre .3) _ (c .before .loop .inv .1) (c .loop-test .left)
+
+pub next-mark-spec : {M : Type 1} → statement M
+next-mark-spec =
+    tie.close
+    (tie.spec
+    Inv-loop
+    μ-loop
+    least-requires
+    cast-lowest
+    mul-lowest
+    shared-slice-read-lowest
+    loop-holds
+    add-t
+    cast-if1
+    shared-slice-read-if1
+    cast-if2
+    mul-if2
+    shared-slice-read-if2
+    taken-requires
+    returns
+    cast-if3
+    product-for-requires
+    taken-requires-2
+    returns-2
+    digits-for-requires
+    taken-requires-3
+    returns-3
+    loop-less
+    loop-again
+    loop-less-2
+    loop-again-2
+    loop-less-3
+    loop-again-3
+    returns-4)

@@ -1,0 +1,98 @@
+-- `solver::marks::product_for`: no constraint passed marks t by a product.
+use Prim.Native.Nat.{ℕ, _-_, _≤_}
+use mathlib.Core.Path.{_∙_}
+use native.Mathlib.Omega.{arith}
+use borrow.Author.Needs.{needs}
+use Rattle.derivation.specs.Inner.{circuitOf}
+use Rattle.solver.specs.Marks.{withMarks, Floors}
+use Rattle.solver.proofs.MarkLaws.{below-product, product-part}
+use Rattle.solver.proofs.MarkSearch as laws
+use Rattle.solver.proofs.marks.product_for.Statement.{statement}
+use Rattle.solver.proofs.marks.product_for.Tie as tie
+use Rattle.solver.proofs.marks.product_for.Reads as reads
+use Rattle.solver.proofs.marks.product_for.Lts as lts
+use Rattle.derivation.proofs.offsets.part_of.Reads as part-of-reads
+use Rattle.rules.proofs.constraint.product_met.Reads as product-met-reads
+
+abbrev Inv-loop : tie.InvT-loop
+Inv-loop circuit table marks floors m t k₀ k =
+    (k ≤ m)
+    × ((b : ℕ → ℕ) → Floors (circuitOf circuit) (withMarks b marks) floors → laws.ProductFrom (circuitOf circuit) (withMarks b marks) t m k)
+
+abbrev μ-loop : tie.MeasureT-loop
+μ-loop circuit table marks floors m t k₀ k = m - k
+
+loop-holds : tie.Need-loop-holds Inv-loop μ-loop
+loop-holds c = (omega arith, λ b F. laws.product-start _ _ _ _)
+
+add-k : tie.Need-add-k Inv-loop μ-loop
+add-k c = search needs
+
+cast-if1 : tie.Need-cast-if1 Inv-loop μ-loop
+cast-if1 c = search needs
+
+mul-if1 : tie.Need-mul-if1 Inv-loop μ-loop
+mul-if1 c = search needs
+
+shared-slice-read-if1 : tie.Need-shared-slice-read-if1 Inv-loop μ-loop
+shared-slice-read-if1 c = omega arith
+
+part-of-requires : tie.Need-part-of-requires Inv-loop μ-loop
+part-of-requires c κs = search needs
+
+product-met-requires : tie.Need-product-met-requires Inv-loop μ-loop
+product-met-requires c κs = search needs
+
+returns : tie.Need-returns Inv-loop μ-loop
+returns c = (
+  omega arith,
+  λ b F later.
+      laws.product-hit _ _ _ _ _ (c .before .before .before .before .before .before .before .loop .inv .1 b F) (c .before .before .before .before .before .before .loop-test .taken)
+      (product-part _ _ (c .before .before .before .before .before .before .before .before .before .before .before .pre .0) _ (omega arith) (omega (arith, c .before .before .before .before .before .before .before .before .before .before .before .pre .1)) _ (c .before .before .part-of .ensures) b _ _ _ (c .before .product-met .ensures) ∙ c .if2 .taken)
+      later,
+)
+
+loop-less : tie.Need-loop-less Inv-loop μ-loop
+loop-less c = search needs
+
+loop-again : tie.Need-loop-again Inv-loop μ-loop
+loop-again c = (
+  omega arith,
+  λ b F.
+      laws.product-on _ _ _ _ _ (c .before .before .before .before .before .before .before .loop .inv .1 b F) (c .before .before .before .before .before .before .loop-test .taken)
+      (product-part _ _ (c .before .before .before .before .before .before .before .before .before .before .before .pre .0) _ (omega arith) (omega (arith, c .before .before .before .before .before .before .before .before .before .before .before .pre .1)) _ (c .before .before .part-of .ensures) b _ _ _ (c .before .product-met .ensures) ∙ c .if2 .left),
+)
+
+loop-less-2 : tie.Need-loop-less-2 Inv-loop μ-loop
+loop-less-2 c = search needs
+
+loop-again-2 : tie.Need-loop-again-2 Inv-loop μ-loop
+loop-again-2 c = (
+  omega arith,
+  λ b F.
+      laws.product-on _ _ _ _ _ (c .before .before .before .loop .inv .1 b F) (c .before .before .loop-test .taken)
+      (below-product _ _ _ F _ _ (omega arith) (omega (arith, c .before .before .before .before .before .before .before .pre .1)) (c .before .before .before .before .before .before .before .pre .3) (c .before .before .before .before .before .before .before .pre .4) (c .if1 .left)),
+)
+
+returns-2 : tie.Need-returns-2 Inv-loop μ-loop
+returns-2 c = (omega arith, λ b F later. laws.product-end _ _ _ _ _ (c .before .loop .inv .1 b F) (c .loop-test .left) later)
+
+pub product-for-spec : {M : Type 1} → statement M
+product-for-spec =
+    tie.close
+    (tie.spec
+    Inv-loop
+    μ-loop
+    loop-holds
+    add-k
+    cast-if1
+    mul-if1
+    shared-slice-read-if1
+    part-of-requires
+    product-met-requires
+    returns
+    loop-less
+    loop-again
+    loop-less-2
+    loop-again-2
+    returns-2)

@@ -1,0 +1,7 @@
+pub mod Bytes
+pub mod Call
+pub mod Demand
+pub mod Bounds
+pub mod Search
+pub mod Marks
+pub mod Answer

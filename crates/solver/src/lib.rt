@@ -1,0 +1,9 @@
+// The solver call: first bounds, then marks; the steps are written into the lent output buffer as a derivation.
+
+pub mod answer;
+mod bounds;
+pub mod call;
+mod marks;
+mod memo;
+mod output;
+mod search;

@@ -1,0 +1,82 @@
+// Signals in forms: whether a constraint involves one, an unmarked one, and the only one whose bound is still p - 1.
+
+use circuit::bytes::byte_at;
+use circuit::bytes::u16_at;
+use circuit::reader::after_form;
+use rules::form::names_signal;
+ghost use mathlib.Core.Path.{_≡_};
+ghost use mathlib.Core.Bool.{not, _&&_};
+ghost use Prim.Native.Nat.{_<_};
+ghost use lib.ListN.{length};
+ghost use lib.Dec.{ltb, leb};
+ghost use Rattle.circuit.specs.Reader.{formIn, constraintIn};
+ghost use Rattle.rules.specs.View.{markIn};
+ghost use Rattle.solver.specs.Search as search;
+ghost use Rattle.solver.specs.Search.{SomeUnmarked, Only, free};
+
+// Whether one of the three forms names the signal.
+pub(crate) fn involves(part: &[u8], signal: u32) -> bool
+    ensures { λ r. ⌜ r ≡ search.involves (constraintIn (now (part .entry))) signal ⌝ }
+{
+    if names_signal(part, signal) {
+        return true;
+    }
+    let b = after_form(part);
+    if names_signal(b, signal) {
+        return true;
+    }
+    names_signal(after_form(b), signal)
+}
+
+// An unmarked signal of the form at the start of the part, 0 where it has none.
+pub(crate) fn unmarked_in(part: &[u8], marks: &[bool]) -> u32
+    ensures { λ r. ⌜ SomeUnmarked (markIn (now (marks .entry))) (formIn (now (part .entry))) r ⌝ }
+{
+    let mut left = byte_at(part, 0);
+    let mut at: usize = 1;
+    while 0 < left {
+        let signal = u16_at(part, at);
+        if is_unmarked(marks, signal) {
+            return signal;
+        }
+        at = at + 6;
+        left = left - 1;
+    }
+    0
+}
+
+// Whether a term on this signal names an unmarked signal. Signals above 256 are passed over.
+fn is_unmarked(marks: &[bool], signal: u32) -> bool
+    ensures { λ r. ⌜ r ≡ (ltb 0 signal && leb signal 256 && not (markIn (now (marks .entry)) signal)) ⌝ }
+{
+    if signal == 0 {
+        return false;
+    }
+    if 256 < signal {
+        return false;
+    }
+    let at = signal as usize;
+    if at < marks.len() { !marks[at] } else { true }
+}
+
+// The only signal of the form whose bound is still p - 1; 0 where there is none or several.
+pub(crate) fn only_free(form: &[u32], bounds: &[u32], n: u32, p: u32) -> u32
+    requires { ⌜ (n < length (now form)) × (n < length (now bounds)) × (0 < p) ⌝ }
+    ensures { λ r. ⌜ Only (free p (now (form .entry)) (now (bounds .entry))) n r ⌝ }
+{
+    let mut found: u32 = 0;
+    let mut s: u32 = 0;
+    while s < n {
+        s = s + 1;
+        let at = s as usize;
+        if form[at] != 0 {
+            if bounds[at] == p - 1 {
+                if found != 0 {
+                    return 0;
+                }
+                found = s;
+            }
+        }
+    }
+    found
+}

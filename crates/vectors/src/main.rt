@@ -1,0 +1,20 @@
+// Runs the public calls over stored vectors, made by the second implementation with the answers that it computes, and prints how many of each kind
+// agree and the first record that doesn't. Buffers are filled before each call, and what lies beyond the bytes that a call writes is compared too.
+
+mod call;
+mod record;
+mod tally;
+
+fn main() {
+    let path = b"vectors.bin";
+    let fd = os::open_read(path);
+    if fd < 0 {
+        os::fail(path);
+        return;
+    }
+    let mut file = [0u8; 524288];
+    let n = io::read_full(fd, &mut file);
+    libc::close(fd);
+    let found = tally::run(&file[..n]);
+    tally::print(found);
+}
