@@ -34,10 +34,10 @@ fn reading(name: &str, circuit: &[u8]) -> Row {
     row(
         format!("read {name}"),
         || {
-            black_box(yolqushek::read_circuit(circuit));
+            let _ = black_box(yolqushek::read_circuit(circuit));
         },
         || {
-            black_box(second::read_circuit(circuit));
+            let _ = black_box(second::read_circuit(circuit));
         },
     )
 }
@@ -52,10 +52,10 @@ fn solving(name: &str, circuit: &[u8], rows: &mut Vec<Row>) {
     rows.push(row(
         format!("solve {name}"),
         || {
-            black_box(yolqushek::solve(circuit, &mut one));
+            let _ = black_box(yolqushek::solve(circuit, &mut one));
         },
         || {
-            black_box(second::solve(circuit, &mut two));
+            let _ = black_box(second::solve(circuit, &mut two));
         },
     ));
     rows.push(marking(&format!("mark {name}"), circuit, &one[..length], signals));
@@ -79,10 +79,10 @@ fn marking(name: &str, circuit: &[u8], derivation: &[u8], signals: usize) -> Row
     row(
         name,
         || {
-            black_box(yolqushek::check_derivation(circuit, derivation, &mut one));
+            let _ = black_box(yolqushek::check_derivation(circuit, derivation, &mut one));
         },
         || {
-            black_box(second::check_derivation(circuit, derivation, &mut two));
+            let _ = black_box(second::check_derivation(circuit, derivation, &mut two));
         },
     )
 }
@@ -100,10 +100,10 @@ fn pairing(name: &str, circuit: &[u8], pair: &[u8]) -> Row {
     row(
         format!("pair {name}"),
         || {
-            black_box(yolqushek::check_pair(circuit, pair));
+            let _ = black_box(yolqushek::check_pair(circuit, pair));
         },
         || {
-            black_box(second::check_pair(circuit, pair));
+            let _ = black_box(second::check_pair(circuit, pair));
         },
     )
 }

@@ -37,7 +37,8 @@ use Rattle.solver.specs.Bounds.{keyOf, Holder, IsKey, Settled}
 weight-positive : (p : ℕ) (K : Constraint) (t s : ℕ) → Prime p → occurs (reduced p K) t ≡ true → occurs (reduced p K) s ≡ true
     → 1 ≤ sumWeight p (reduced p K) t s
 unfolding sumWeight
-weight-positive p K t s P et es = pos-of-ne-zero (λ e. ⊎-elim target-zero inverse-zero (euclid (opposite p (reduced p K s)) (inverse p (reduced p K t)) P e))
+weight-positive p K t s P et es =
+    pos-of-ne-zero (λ e. ⊎-elim target-zero inverse-zero (euclid (opposite p (reduced p K s)) (inverse p (reduced p K t)) P e))
   where
     positive : 0 < p
     positive = omega (arith, P .above)

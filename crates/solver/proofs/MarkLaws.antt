@@ -105,7 +105,8 @@ module _ (p : ℕ) (R : ℕ → ℕ) (S : Standing) (s found : ℕ) (H : Held p 
           }
 
 -- a bound read
-pub bound-read : (p : ℕ) (bounds : List ℕ) (marks : List Bool) (s x : ℕ) → s < length bounds → getD bounds s 0 ≡ x → viewOf p bounds marks .bound s ≡ x
+pub bound-read : (p : ℕ) (bounds : List ℕ) (marks : List Bool) (s x : ℕ) → s < length bounds → getD bounds s 0 ≡ x
+    → viewOf p bounds marks .bound s ≡ x
 unfolding viewOf
 bound-read p bounds marks s x h e = sym (bound-within p bounds s h) ∙ e
 

@@ -210,7 +210,8 @@ pub record Forgetting (C : Circuit) (signal k : ℕ) (before later : List ℕ) :
 pub forgetting-start : (C : Circuit) (signal : ℕ) (before : List ℕ) → Forgetting C signal 0 before before
 forgetting-start C signal before = record { top = refl; done = λ j l m. absurd (omega arith); same = λ j h. refl }
 
-pub forgetting-end : (C : Circuit) (signal k : ℕ) (before later : List ℕ) → Forgetting C signal k before later → C .m ≤ k → Forgotten C signal before later
+pub forgetting-end : (C : Circuit) (signal k : ℕ) (before later : List ℕ) → Forgetting C signal k before later → C .m ≤ k
+    → Forgotten C signal before later
 forgetting-end C signal k before later F h = record { top = F .top; each = λ j l m. F .done j l (omega arith) }
 
 module _ (C : Circuit) (signal k : ℕ) (before later : List ℕ) (F : Forgetting C signal k before later) (b : Bool)

@@ -31,7 +31,7 @@ use Rattle.solver.specs.Bytes.{stored}
 use Rattle.solver.specs.Bounds.{withBounds, BoundsOf, Lowered}
 use Rattle.solver.specs.Marks.{StandingOf, Marked}
 use Rattle.solver.specs.Search.{Prepared}
-use Rattle.solver.specs.Call.{SolverResult, refused, solved, own, reached, fitting, solverOn, onCircuit, solverCall, leftBy, leftOn, solverOutput}
+use Rattle.solver.specs.Call.{refused, solved, own, reached, fitting, onCircuit, solverCall, leftBy, leftOn, solverOutput}
 use Rattle.solver.proofs.Written.{written-append, header-written}
 use Rattle.solver.proofs.BoundsPhase.{running-start, running-settled}
 use Rattle.solver.proofs.Demand.{call-on, output-on}
@@ -116,7 +116,8 @@ module _ (c : List ℕ) (p n i o m : ℕ) (Z : Sized c p n m) (is-i : i ≡ circ
           }
 
       -- after the bounds phase
-      module _ (output : List ℕ) (roomy : 7 + 14 * n ≤ length output) (bounds₁ output₁ : List ℕ) (base : ℕ) (L : Lowered c bounds₁ output output₁ base)
+      module _
+          (output : List ℕ) (roomy : 7 + 14 * n ≤ length output) (bounds₁ output₁ : List ℕ) (base : ℕ) (L : Lowered c bounds₁ output output₁ base)
           (sized₁ : length bounds₁ ≡ 257) (marks-sized : length marks ≡ 257) where
         pub standing-of : StandingOf c table bounds₁ marks p n
         standing-of =

@@ -74,7 +74,8 @@ fn refresh(
 )
     requires { ⌜ BoundsOf (now circuit) (now table) (now bounds) p n × (m ≡ circuitOf (now circuit) .m) × (m < length (now keys))
         × SomeKeys (circuitOf (now circuit)) (withBounds (circuitOf (now circuit)) (now bounds)) (now keys) ⌝ }
-    ensures { λ r. ⌜ Keys (circuitOf (now (circuit .entry))) (withBounds (circuitOf (now (circuit .entry))) (now (bounds .entry))) (now (keys .exit)) ⌝ }
+    ensures { λ r. ⌜ Keys (circuitOf (now (circuit .entry))) (withBounds (circuitOf (now (circuit .entry))) (now (bounds .entry)))
+        (now (keys .exit)) ⌝ }
 {
     let mut k: u32 = 0;
     while k < m {

@@ -328,7 +328,8 @@ pub(crate) fn add_marks(
     base: u32,
 ) -> u32
     requires { ⌜ StandingOf (now circuit) (now table) (now bounds) (now marks) p n × (m ≡ circuitOf (now circuit) .m)
-        × (viewOf p (now bounds) (now marks) ≡ replay (circuitOf (now circuit)) (start (circuitOf (now circuit))) (boundSteps (circuitOf (now circuit))))
+        × (viewOf p (now bounds) (now marks)
+        ≡ replay (circuitOf (now circuit)) (start (circuitOf (now circuit))) (boundSteps (circuitOf (now circuit))))
         × (base ≤ n) × (7 + 14 * n ≤ length (now output)) ⌝ }
     ensures { λ r. ⌜ Marked (now (circuit .entry)) (now (bounds .entry)) (now (marks .exit)) (now (output .entry)) (now (output .exit)) base r ⌝ }
 {

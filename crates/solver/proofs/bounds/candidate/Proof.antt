@@ -31,13 +31,27 @@ unmarked-in-requires : tie.Need-unmarked-in-requires
 unmarked-in-requires c κs = search needs
 
 returns : tie.Need-returns
-returns c = laws.root-unnamed _ _ _ _ _ _ (c .before .before .before .before .before .before .before .before .before .pre .0) (c .before .before .before .before .before .before .before .before .before .pre .1) (c .before .before .before .before .before .before .before .before .before .pre .2) _ (c .before .before .before .before .before .part-of .ensures) _ (c .before .before .before .before .is-linear .ensures) (not-true _ (c .before .before .before .if1 .taken)) _ (mark-none 1) _ (c .before .unmarked-in .ensures) (c .if2 .taken)
+returns c =
+    let at-if1 = c .before .before .before in
+    let at-is-linear = at-if1 .before in
+    let at-part-of = at-is-linear .before in
+    let entry = at-part-of .before .before .before .before in
+    laws.root-unnamed _ _ _ _ _ _ (entry .pre .0) (entry .pre .1) (entry .pre .2) _ (at-part-of .part-of .ensures) _
+    (at-is-linear .is-linear .ensures) (not-true _ (at-if1 .if1 .taken)) _ (mark-none 1) _ (c .before .unmarked-in .ensures) (c .if2 .taken)
 
 root-met-requires : tie.Need-root-met-requires
 root-met-requires c κs = search needs
 
 returns-2 : tie.Need-returns-2
-returns-2 c = laws.root-unmet _ _ _ _ _ _ (c .before .before .before .before .before .before .before .before .before .before .before .pre .0) (c .before .before .before .before .before .before .before .before .before .before .before .pre .1) (c .before .before .before .before .before .before .before .before .before .before .before .pre .2) _ (c .before .before .before .before .before .before .before .part-of .ensures) _ (c .before .before .before .before .before .before .is-linear .ensures) (not-true _ (c .before .before .before .before .before .if1 .taken)) _ (mark-none 1) _ (c .before .before .before .unmarked-in .ensures) _ (c .before .root-met .ensures) (not-true _ (c .if3 .taken))
+returns-2 c =
+    let at-unmarked-in = c .before .before .before in
+    let at-if1 = at-unmarked-in .before .before in
+    let at-is-linear = at-if1 .before in
+    let at-part-of = at-is-linear .before in
+    let entry = at-part-of .before .before .before .before in
+    laws.root-unmet _ _ _ _ _ _ (entry .pre .0) (entry .pre .1) (entry .pre .2) _ (at-part-of .part-of .ensures) _
+    (at-is-linear .is-linear .ensures) (not-true _ (at-if1 .if1 .taken)) _ (mark-none 1) _ (at-unmarked-in .unmarked-in .ensures) _
+    (c .before .root-met .ensures) (not-true _ (c .if3 .taken))
 
 root-bound-requires : tie.Need-root-bound-requires
 root-bound-requires c κs = search needs
@@ -49,16 +63,63 @@ mul-if4 : tie.Need-mul-if4
 mul-if4 c = search needs
 
 shared-slice-read-if4 : tie.Need-shared-slice-read-if4
-shared-slice-read-if4 c = omega (arith, c .before .before .before .before .before .before .before .before .before .before .before .before .before .pre .0 .sized, laws.root-small _ _ _ _ _ _ (c .before .before .before .before .before .before .before .before .before .before .before .before .before .pre .0) (c .before .before .before .before .before .before .before .before .before .before .before .before .before .pre .1) (c .before .before .before .before .before .before .before .before .before .before .before .before .before .pre .2) _ (c .before .before .before .before .before .before .before .before .before .part-of .ensures) _ (c .before .before .before .before .before .before .before .before .is-linear .ensures) (not-true _ (c .before .before .before .before .before .before .before .if1 .taken)) _ (mark-none 1) _ (c .before .before .before .before .before .unmarked-in .ensures))
+shared-slice-read-if4 c =
+    let at-unmarked-in = c .before .before .before .before .before in
+    let at-if1 = at-unmarked-in .before .before in
+    let at-is-linear = at-if1 .before in
+    let at-part-of = at-is-linear .before in
+    let entry = at-part-of .before .before .before .before in
+    omega (
+      arith,
+      entry .pre .0 .sized,
+      laws.root-small _ _ _ _ _ _ (entry .pre .0) (entry .pre .1) (entry .pre .2) _
+          (at-part-of .part-of .ensures) _ (at-is-linear .is-linear .ensures) (not-true _ (at-if1 .if1 .taken)) _ (mark-none 1) _
+          (at-unmarked-in .unmarked-in .ensures),
+    )
 
 returns-3 : tie.Need-returns-3
-returns-3 c = laws.root-high _ _ _ _ _ _ (c .before .before .before .before .before .before .before .before .before .before .before .before .before .before .pre .0) (c .before .before .before .before .before .before .before .before .before .before .before .before .before .before .pre .1) (c .before .before .before .before .before .before .before .before .before .before .before .before .before .before .pre .2) _ (c .before .before .before .before .before .before .before .before .before .before .part-of .ensures) _ (c .before .before .before .before .before .before .before .before .before .is-linear .ensures) (not-true _ (c .before .before .before .before .before .before .before .before .if1 .taken)) _ (mark-none 1) _ (c .before .before .before .before .before .before .unmarked-in .ensures) _ (c .before .before .before .before .root-met .ensures) _ (c .before .before .root-bound .ensures) (c .if4 .taken)
+returns-3 c =
+    let at-root-bound = c .before .before in
+    let at-root-met = at-root-bound .before .before in
+    let at-unmarked-in = at-root-met .before .before in
+    let at-if1 = at-unmarked-in .before .before in
+    let at-is-linear = at-if1 .before in
+    let at-part-of = at-is-linear .before in
+    let entry = at-part-of .before .before .before .before in
+    laws.root-high _ _ _ _ _ _ (entry .pre .0) (entry .pre .1) (entry .pre .2) _ (at-part-of .part-of .ensures) _
+    (at-is-linear .is-linear .ensures) (not-true _ (at-if1 .if1 .taken)) _ (mark-none 1) _ (at-unmarked-in .unmarked-in .ensures) _
+    (at-root-met .root-met .ensures) _ (at-root-bound .root-bound .ensures) (c .if4 .taken)
 
 key-of-requires : tie.Need-key-of-requires
-key-of-requires c κs = (omega (arith, laws.root-small _ _ _ _ _ _ (c .before .before .before .before .before .before .before .before .before .before .before .before .before .before .pre .0) (c .before .before .before .before .before .before .before .before .before .before .before .before .before .before .pre .1) (c .before .before .before .before .before .before .before .before .before .before .before .before .before .before .pre .2) _ (c .before .before .before .before .before .before .before .before .before .before .part-of .ensures) _ (c .before .before .before .before .before .before .before .before .before .is-linear .ensures) (not-true _ (c .before .before .before .before .before .before .before .before .if1 .taken)) _ (mark-none 1) _ (c .before .before .before .before .before .before .unmarked-in .ensures)), omega arith)
+key-of-requires c κs =
+    let at-unmarked-in = c .before .before .before .before .before .before in
+    let at-if1 = at-unmarked-in .before .before in
+    let at-is-linear = at-if1 .before in
+    let at-part-of = at-is-linear .before in
+    let entry = at-part-of .before .before .before .before in (
+      omega (
+        arith,
+        laws.root-small _ _ _ _ _ _ (entry .pre .0) (entry .pre .1) (entry .pre .2) _ (at-part-of .part-of .ensures) _
+            (at-is-linear .is-linear .ensures) (not-true _ (at-if1 .if1 .taken)) _ (mark-none 1) _ (at-unmarked-in .unmarked-in .ensures),
+      ),
+      omega arith,
+    )
 
 returns-4 : tie.Need-returns-4
-returns-4 c = laws.root-key _ _ _ _ _ _ (c .before .before .before .before .before .before .before .before .before .before .before .before .before .before .before .pre .0) (c .before .before .before .before .before .before .before .before .before .before .before .before .before .before .before .pre .1) (c .before .before .before .before .before .before .before .before .before .before .before .before .before .before .before .pre .2) _ (c .before .before .before .before .before .before .before .before .before .before .before .part-of .ensures) _ (c .before .before .before .before .before .before .before .before .before .before .is-linear .ensures) (not-true _ (c .before .before .before .before .before .before .before .before .before .if1 .taken)) _ (mark-none 1) _ (c .before .before .before .before .before .before .before .unmarked-in .ensures) _ (c .before .before .before .before .before .root-met .ensures) _ (c .before .before .before .root-bound .ensures) (c .before .before .before .before .before .before .if2 .left) (not-false _ (c .before .before .before .before .if3 .left)) (c .before .if4 .left) _ (c .key-of .ensures)
+returns-4 c =
+    let at-root-bound = c .before .before .before in
+    let at-if3 = at-root-bound .before in
+    let at-root-met = at-if3 .before in
+    let at-if2 = at-root-met .before in
+    let at-unmarked-in = at-if2 .before in
+    let at-if1 = at-unmarked-in .before .before in
+    let at-is-linear = at-if1 .before in
+    let at-part-of = at-is-linear .before in
+    let entry = at-part-of .before .before .before .before in
+    laws.root-key _ _ _ _ _ _ (entry .pre .0) (entry .pre .1) (entry .pre .2) _ (at-part-of .part-of .ensures) _
+    (at-is-linear .is-linear .ensures) (not-true _ (at-if1 .if1 .taken)) _ (mark-none 1) _ (at-unmarked-in .unmarked-in .ensures) _
+    (at-root-met .root-met .ensures) _ (at-root-bound .root-bound .ensures) (at-if2 .if2 .left) (not-false _ (at-if3 .if3 .left))
+    (c .before .if4 .left) _ (c .key-of .ensures)
 
 reduced-form-requires : tie.Need-reduced-form-requires
 reduced-form-requires c κs = search needs
@@ -68,12 +129,21 @@ slice-aggregate-only-free c = search needs
 
 only-free-requires : tie.Need-only-free-requires
 only-free-requires c κs =
-    let s = laws.sizes (c .before .before .before .before .before .before .before .before .pre .0) in
+    let entry = c .before .before .before .before .before .before .before .before in
+    let s = laws.sizes (entry .pre .0) in
     let l = c .before .reduced-form .ok in
-    (omega arith, omega (arith, c .before .before .before .before .before .before .before .before .pre .0 .sized), omega arith)
+    (omega arith, omega (arith, entry .pre .0 .sized), omega arith)
 
 returns-5 : tie.Need-returns-5
-returns-5 c = laws.sum-none _ _ _ _ _ _ (c .before .before .before .before .before .before .before .before .before .before .pre .0) (c .before .before .before .before .before .before .before .before .before .before .pre .1) (c .before .before .before .before .before .before .before .before .before .before .pre .2) _ (c .before .before .before .before .before .before .part-of .ensures) _ (c .before .before .before .before .before .is-linear .ensures) (not-false _ (c .before .before .before .before .if1 .left)) _ (c .before .before .before .reduced-form .ensures) _ (c .before .only-free .ensures) (c .if5 .taken)
+returns-5 c =
+    let at-reduced-form = c .before .before .before in
+    let at-if1 = at-reduced-form .before in
+    let at-is-linear = at-if1 .before in
+    let at-part-of = at-is-linear .before in
+    let entry = at-part-of .before .before .before .before in
+    laws.sum-none _ _ _ _ _ _ (entry .pre .0) (entry .pre .1) (entry .pre .2) _ (at-part-of .part-of .ensures) _
+    (at-is-linear .is-linear .ensures) (not-false _ (at-if1 .if1 .left)) _ (at-reduced-form .reduced-form .ensures) _
+    (c .before .only-free .ensures) (c .if5 .taken)
 
 slice-aggregate-sum-bound : tie.Need-slice-aggregate-sum-bound
 slice-aggregate-sum-bound c = search needs
@@ -82,19 +152,57 @@ sum-bound-requires : tie.Need-sum-bound-requires
 sum-bound-requires c κs = search needs
 
 sub-if6 : tie.Need-sub-if6
-sub-if6 c = let s = laws.sizes (c .before .before .before .before .before .before .before .before .before .before .before .before .pre .0) in omega arith
+sub-if6 c =
+    let entry = c .before .before .before .before .before .before .before .before .before .before .before .before in
+    let s = laws.sizes (entry .pre .0) in omega arith
 
 returns-6 : tie.Need-returns-6
-returns-6 c = laws.sum-high _ _ _ _ _ _ (c .before .before .before .before .before .before .before .before .before .before .before .before .before .pre .0) (c .before .before .before .before .before .before .before .before .before .before .before .before .before .pre .1) (c .before .before .before .before .before .before .before .before .before .before .before .before .before .pre .2) _ (c .before .before .before .before .before .before .before .before .before .part-of .ensures) _ (c .before .before .before .before .before .before .before .before .is-linear .ensures) (not-false _ (c .before .before .before .before .before .before .before .if1 .left)) _ (c .before .before .before .before .before .before .reduced-form .ensures) _ (c .before .before .before .before .only-free .ensures) _ (c .before .sum-bound .ensures) (c .if6 .taken)
+returns-6 c =
+    let at-only-free = c .before .before .before .before in
+    let at-reduced-form = at-only-free .before .before in
+    let at-if1 = at-reduced-form .before in
+    let at-is-linear = at-if1 .before in
+    let at-part-of = at-is-linear .before in
+    let entry = at-part-of .before .before .before .before in
+    laws.sum-high _ _ _ _ _ _ (entry .pre .0) (entry .pre .1) (entry .pre .2) _ (at-part-of .part-of .ensures) _
+    (at-is-linear .is-linear .ensures) (not-false _ (at-if1 .if1 .left)) _ (at-reduced-form .reduced-form .ensures) _
+    (at-only-free .only-free .ensures) _ (c .before .sum-bound .ensures) (c .if6 .taken)
 
 cast-key-of : tie.Need-cast-key-of
-cast-key-of c = let s = laws.sizes (c .before .before .before .before .before .before .before .before .before .before .before .before .before .pre .0) in record { fits = omega arith }
+cast-key-of c =
+    let entry = c .before .before .before .before .before .before .before .before .before .before .before .before .before in
+    let s = laws.sizes (entry .pre .0) in record { fits = omega arith }
 
 key-of-requires-2 : tie.Need-key-of-requires-2
-key-of-requires-2 c κs = (omega (arith, laws.sum-small _ _ _ _ _ _ (c .before .before .before .before .before .before .before .before .before .before .before .before .before .pre .0) (c .before .before .before .before .before .before .before .before .before .before .before .before .before .pre .1) (c .before .before .before .before .before .before .before .before .before .before .before .before .before .pre .2) _ (c .before .before .before .before .before .before .before .before .before .part-of .ensures) _ (c .before .before .before .before .before .before .before .before .is-linear .ensures) (not-false _ (c .before .before .before .before .before .before .before .if1 .left)) _ (c .before .before .before .before .before .before .reduced-form .ensures) _ (c .before .before .before .before .only-free .ensures)), omega arith)
+key-of-requires-2 c κs =
+    let at-only-free = c .before .before .before .before in
+    let at-reduced-form = at-only-free .before .before in
+    let at-if1 = at-reduced-form .before in
+    let at-is-linear = at-if1 .before in
+    let at-part-of = at-is-linear .before in
+    let entry = at-part-of .before .before .before .before in (
+      omega (
+        arith,
+        laws.sum-small _ _ _ _ _ _ (entry .pre .0) (entry .pre .1) (entry .pre .2) _ (at-part-of .part-of .ensures) _
+            (at-is-linear .is-linear .ensures) (not-false _ (at-if1 .if1 .left)) _ (at-reduced-form .reduced-form .ensures) _
+            (at-only-free .only-free .ensures),
+      ),
+      omega arith,
+    )
 
 returns-7 : tie.Need-returns-7
-returns-7 c = laws.sum-key _ _ _ _ _ _ (c .before .before .before .before .before .before .before .before .before .before .before .before .before .before .pre .0) (c .before .before .before .before .before .before .before .before .before .before .before .before .before .before .pre .1) (c .before .before .before .before .before .before .before .before .before .before .before .before .before .before .pre .2) _ (c .before .before .before .before .before .before .before .before .before .before .part-of .ensures) _ (c .before .before .before .before .before .before .before .before .before .is-linear .ensures) (not-false _ (c .before .before .before .before .before .before .before .before .if1 .left)) _ (c .before .before .before .before .before .before .before .reduced-form .ensures) _ (c .before .before .before .before .before .only-free .ensures) _ (c .before .before .sum-bound .ensures) (c .before .before .before .before .if5 .left) (c .before .if6 .left) _ (c .key-of2 .ensures)
+returns-7 c =
+    let at-sum-bound = c .before .before in
+    let at-if5 = at-sum-bound .before .before in
+    let at-only-free = at-if5 .before in
+    let at-reduced-form = at-only-free .before .before in
+    let at-if1 = at-reduced-form .before in
+    let at-is-linear = at-if1 .before in
+    let at-part-of = at-is-linear .before in
+    let entry = at-part-of .before .before .before .before in
+    laws.sum-key _ _ _ _ _ _ (entry .pre .0) (entry .pre .1) (entry .pre .2) _ (at-part-of .part-of .ensures) _ (at-is-linear .is-linear .ensures)
+    (not-false _ (at-if1 .if1 .left)) _ (at-reduced-form .reduced-form .ensures) _ (at-only-free .only-free .ensures) _
+    (at-sum-bound .sum-bound .ensures) (at-if5 .if5 .left) (c .before .if6 .left) _ (c .key-of2 .ensures)
 
 pub candidate-spec : {M : Type 1} → statement M
 candidate-spec =

@@ -46,8 +46,9 @@ slice-aggregate-refresh c = search needs
 
 refresh-requires : tie.Need-refresh-requires Inv-loop μ-loop
 refresh-requires c κs =
+    let at-loop = c .before .before .before in
     let a = c .before .before .before .before .before .before .before in
-    let l = c .before .before .before .loop in (
+    let l = at-loop .loop in (
       record {
         prepared = a .pre .0 .prepared;
         is-p = a .pre .0 .is-p;
@@ -65,17 +66,27 @@ slice-aggregate-least c = search needs
 
 least-requires : tie.Need-least-requires Inv-loop μ-loop
 least-requires c κs =
+    let at-refresh = c .before .before in
+    let at-loop = at-refresh .before .before .before .before in
     let a = c .before .before .before .before .before .before .before .before .before .before in
-    omega (arith, a .pre .1, few-constraints (a .pre .0 .prepared), c .before .before .before .before .before .before .loop .inv .2, c .before .before .refresh .kept .1 .1 .1 .0)
+    omega (arith, a .pre .1, few-constraints (a .pre .0 .prepared), at-loop .loop .inv .2, at-refresh .refresh .kept .1 .1 .1 .0)
 
 same-length : tie.Need-same-length Inv-loop μ-loop
-same-length c = c .before .before .before .before .before .before .before .before .loop .inv .1 ∙ sym (c .before .before .before .before .before .before .before .before .before .before .before .before .pre .0 .sized)
+same-length c =
+    let at-loop = c .before .before .before .before .before .before .before .before in
+    let entry = at-loop .before .before .before .before in
+    at-loop .loop .inv .1 ∙ sym (entry .pre .0 .sized)
 
 same-length-2 : tie.Need-same-length-2 Inv-loop μ-loop
 same-length-2 c = c .before .before .before .before .before .before .before .before .loop .inv .3
 
 returns : tie.Need-returns Inv-loop μ-loop
-returns c = laws.turning-none _ _ (c .before .before .before .before .before .before .before .before .before .before .before .before .pre .0 .prepared) _ _ _ _ _ (c .before .before .before .before .before .before .before .before .loop .inv .4) _ (c .before .before .before .before .refresh .ensures) _ _ (c .before .before .before .before .before .before .before .before .before .before .before .before .pre .1) (c .before .least .ensures) (c .if1 .taken)
+returns c =
+    let at-refresh = c .before .before .before .before in
+    let at-loop = at-refresh .before .before .before .before in
+    let entry = at-loop .before .before .before .before in
+    laws.turning-none _ _ (entry .pre .0 .prepared) _ _ _ _ _ (at-loop .loop .inv .4) _ (at-refresh .refresh .ensures) _ _ (entry .pre .1)
+    (c .before .least .ensures) (c .if1 .taken)
 
 cast-key : tie.Need-cast-key Inv-loop μ-loop
 cast-key c = search needs
@@ -96,22 +107,34 @@ cast-put-step c = search needs
 
 put-step-requires : tie.Need-put-step-requires Inv-loop μ-loop
 put-step-requires c κs =
-    let a = c .before .before .before .before .before .before .before .before .before .before .before .before .before in
-    let l = c .before .before .before .before .before .before .before .before .before .loop in
+    let at-least = c .before .before in
+    let at-refresh = at-least .before .before .before in
+    let at-loop-test = at-refresh .before .before .before in
+    let at-loop = at-loop-test .before in
+    let entry = at-loop .before .before .before .before in
+    let a = entry in
+    let l = at-loop .loop in
     let s = sizes (a .pre .0) in
-    let h = laws.target-small _ _ (c .before .before .before .before .before .before .before .before .before .before .before .before .before .pre .0 .prepared) _ _ _ _ _ (c .before .before .before .before .before .before .before .before .before .loop .inv .4) _ (c .before .before .before .before .before .refresh .ensures) _ _ (c .before .before .before .before .before .before .before .before .before .before .before .before .before .pre .1) (c .before .before .least .ensures) (c .before .if1 .left) in (
-      omega (arith, a .pre .3, l .inv .3, c .before .before .before .before .before .before .before .before .loop-test .taken),
+    let h = laws.target-small _ _ (entry .pre .0 .prepared) _ _ _ _ _ (at-loop .loop .inv .4) _ (at-refresh .refresh .ensures) _ _ (entry .pre .1)
+    (at-least .least .ensures) (c .before .if1 .left) in (
+      omega (arith, a .pre .3, l .inv .3, at-loop-test .loop-test .taken),
       omega arith,
       omega (arith, h .1),
-      omega (arith, c .before .before .least .ensures .within, a .pre .1, few-constraints (a .pre .0 .prepared)),
+      omega (arith, at-least .least .ensures .within, a .pre .1, few-constraints (a .pre .0 .prepared)),
       omega arith,
     )
 
 cast-bounds : tie.Need-cast-bounds Inv-loop μ-loop
 cast-bounds c =
-    let a = c .before .before .before .before .before .before .before .before .before .before .before .before .before .before .before .before in
+    let at-if1 = c .before .before .before .before in
+    let at-least = at-if1 .before in
+    let at-refresh = at-least .before .before .before in
+    let at-loop = at-refresh .before .before .before .before in
+    let entry = at-loop .before .before .before .before in
+    let a = entry in
     let s = sizes (a .pre .0) in
-    let h = laws.bound-small _ _ (c .before .before .before .before .before .before .before .before .before .before .before .before .before .before .before .before .pre .0 .prepared) _ _ _ _ _ (c .before .before .before .before .before .before .before .before .before .before .before .before .loop .inv .4) _ (c .before .before .before .before .before .before .before .before .refresh .ensures) _ _ (c .before .before .before .before .before .before .before .before .before .before .before .before .before .before .before .before .pre .1) (c .before .before .before .before .before .least .ensures) (c .before .before .before .before .if1 .left) in
+    let h = laws.bound-small _ _ (entry .pre .0 .prepared) _ _ _ _ _ (at-loop .loop .inv .4) _ (at-refresh .refresh .ensures) _ _ (entry .pre .1)
+    (at-least .least .ensures) (at-if1 .if1 .left) in
     record { fits = omega (arith, h, s .p-most, a .pre .0 .is-p) }
 
 cast-bounds-2 : tie.Need-cast-bounds-2 Inv-loop μ-loop
@@ -122,18 +145,28 @@ mul-bounds c = search needs
 
 slice-write-bounds : tie.Need-slice-write-bounds Inv-loop μ-loop
 slice-write-bounds c =
-    let h = laws.target-small _ _ (c .before .before .before .before .before .before .before .before .before .before .before .before .before .before .before .before .pre .0 .prepared) _ _ _ _ _ (c .before .before .before .before .before .before .before .before .before .before .before .before .loop .inv .4) _ (c .before .before .before .before .before .before .before .before .refresh .ensures) _ _ (c .before .before .before .before .before .before .before .before .before .before .before .before .before .before .before .before .pre .1) (c .before .before .before .before .before .least .ensures) (c .before .before .before .before .if1 .left) in
-    omega (arith, h .1, c .before .before .before .before .before .before .before .before .before .before .before .before .loop .inv .1)
+    let at-if1 = c .before .before .before .before in
+    let at-least = at-if1 .before in
+    let at-refresh = at-least .before .before .before in
+    let at-loop = at-refresh .before .before .before .before in
+    let entry = at-loop .before .before .before .before in
+    let h = laws.target-small _ _ (entry .pre .0 .prepared) _ _ _ _ _ (at-loop .loop .inv .4) _ (at-refresh .refresh .ensures) _ _ (entry .pre .1)
+    (at-least .least .ensures) (at-if1 .if1 .left) in
+    omega (arith, h .1, at-loop .loop .inv .1)
 
 slice-aggregate-forget : tie.Need-slice-aggregate-forget Inv-loop μ-loop
 slice-aggregate-forget c = search needs
 
 forget-requires : tie.Need-forget-requires Inv-loop μ-loop
 forget-requires c κs =
-    let a = c .before .before .before .before .before .before .before .before .before .before .before .before .before .before .before .before .before in (
+    let at-refresh = c .before .before .before .before .before .before .before .before .before in
+    let at-loop = at-refresh .before .before .before .before in
+    let
+    a = c .before .before .before .before .before .before .before .before .before .before .before .before .before .before .before .before .before
+    in (
       a .pre .0 .prepared,
       a .pre .1,
-      omega (arith, a .pre .1, few-constraints (a .pre .0 .prepared), c .before .before .before .before .before .before .before .before .before .before .before .before .before .loop .inv .2, c .before .before .before .before .before .before .before .before .before .refresh .kept .1 .1 .1 .0),
+      omega (arith, a .pre .1, few-constraints (a .pre .0 .prepared), at-loop .loop .inv .2, at-refresh .refresh .kept .1 .1 .1 .0),
     )
 
 add-count : tie.Need-add-count Inv-loop μ-loop
@@ -144,13 +177,20 @@ loop-less c = search needs
 
 loop-again : tie.Need-loop-again Inv-loop μ-loop
 loop-again c =
-    let a = c .before .before .before .before .before .before .before .before .before .before .before .before .before .before .before .before .before .before .before in
-    let l = c .before .before .before .before .before .before .before .before .before .before .before .before .before .before .before .loop in (
-      omega arith,
-      simp length-set (l .inv .1),
-      c .before .forget .kept .1 .1 .0 ∙ c .before .before .before .before .before .before .before .before .before .before .before .refresh .kept .1 .1 .1 .0 ∙ l .inv .2,
-      c .before .before .before .before .before .put-step .kept .0 ∙ l .inv .3,
-      laws.turning-next _ _ (c .before .before .before .before .before .before .before .before .before .before .before .before .before .before .before .before .before .before .before .pre .0 .prepared) _ _ _ _ _ (c .before .before .before .before .before .before .before .before .before .before .before .before .before .before .before .loop .inv .4) _ (c .before .before .before .before .before .before .before .before .before .before .before .refresh .ensures) _ _ (c .before .before .before .before .before .before .before .before .before .before .before .before .before .before .before .before .before .before .before .pre .1) (c .before .before .before .before .before .before .before .before .least .ensures) (c .before .before .before .before .before .before .before .if1 .left) (l .inv .1) (omega (arith, a .pre .0 .is-n)) _ _ (c .before .before .before .before .before .put-step .ensures) (c .before .forget .ensures),
+    let at-put-step = c .before .before .before .before .before in
+    let at-if1 = at-put-step .before .before in
+    let at-least = at-if1 .before in
+    let at-refresh = at-least .before .before .before in
+    let at-loop-test = at-refresh .before .before .before in
+    let at-loop = at-loop-test .before in
+    let entry = at-loop .before .before .before .before in (
+      omega (arith, at-loop-test .loop-test .taken),
+      simp length-set (at-loop .loop .inv .1),
+      c .before .forget .kept .1 .1 .0 ∙ at-refresh .refresh .kept .1 .1 .1 .0 ∙ at-loop .loop .inv .2,
+      at-put-step .put-step .kept .0 ∙ at-loop .loop .inv .3,
+      laws.turning-next _ _ (entry .pre .0 .prepared) _ _ _ _ _ (at-loop .loop .inv .4) _ (at-refresh .refresh .ensures) _ _ (entry .pre .1)
+          (at-least .least .ensures) (at-if1 .if1 .left) (at-loop .loop .inv .1) (omega (arith, entry .pre .0 .is-n, at-loop-test .loop-test .taken))
+          _ _ (at-put-step .put-step .ensures) (c .before .forget .ensures),
     )
 
 same-length-3 : tie.Need-same-length-3 Inv-loop μ-loop
@@ -160,7 +200,9 @@ same-length-4 : tie.Need-same-length-4 Inv-loop μ-loop
 same-length-4 c = c .before .loop .inv .3
 
 returns-2 : tie.Need-returns-2 Inv-loop μ-loop
-returns-2 c = laws.turning-all _ _ (c .before .before .before .before .before .pre .0 .prepared) _ _ _ _ _ (c .before .loop .inv .4) (omega (arith, c .before .before .before .before .before .pre .0 .is-n))
+returns-2 c =
+    let entry = c .before .before .before .before .before in
+    laws.turning-all _ _ (entry .pre .0 .prepared) _ _ _ _ _ (c .before .loop .inv .4) (omega (arith, entry .pre .0 .is-n))
 
 pub lower-bounds-spec : {M : Type 1} → statement M
 lower-bounds-spec =

@@ -14,7 +14,8 @@ use Rattle.solver.proofs.bounds.refresh.Lts as lts
 use Rattle.solver.proofs.bounds.candidate.Reads as candidate-reads
 
 abbrev Inv-loop : tie.InvT-loop
-Inv-loop circuit table bounds keys₀ p n m k₀ keys k = (k ≤ m) × (length keys ≡ length keys₀) × laws.Refreshing (circuitOf circuit) (withBounds (circuitOf circuit) bounds) k keys
+Inv-loop circuit table bounds keys₀ p n m k₀ keys k =
+    (k ≤ m) × (length keys ≡ length keys₀) × laws.Refreshing (circuitOf circuit) (withBounds (circuitOf circuit) bounds) k keys
 
 abbrev μ-loop : tie.MeasureT-loop
 μ-loop circuit table bounds keys₀ p n m k₀ keys k = m - k
@@ -35,7 +36,9 @@ slice-read-if1 : tie.Need-slice-read-if1 Inv-loop μ-loop
 slice-read-if1 c = search needs
 
 candidate-requires : tie.Need-candidate-requires Inv-loop μ-loop
-candidate-requires c κs = (c .before .before .before .before .before .before .before .pre .0, omega arith, omega (arith, c .before .before .before .before .before .before .before .pre .1))
+candidate-requires c κs =
+    let entry = c .before .before .before .before .before .before .before in
+    (entry .pre .0, omega arith, omega (arith, entry .pre .1))
 
 cast-keys : tie.Need-cast-keys Inv-loop μ-loop
 cast-keys c = search needs
@@ -51,8 +54,9 @@ loop-less c = search needs
 
 loop-again : tie.Need-loop-again Inv-loop μ-loop
 loop-again c =
+    let at-loop = c .before .before .before .before in
     let a = c .before .before .before .before .before .before .before .before in
-    let l = c .before .before .before .before .loop in (
+    let l = at-loop .loop in (
       omega arith,
       length-set (l .keys) (l .k + 1) (c .candidate .result) ∙ l .inv .1,
       laws.refreshing-set _ _ _ _ (l .inv .2) (omega (arith, a .pre .1)) _ (omega arith) (c .candidate .ensures),
@@ -62,7 +66,10 @@ loop-less-2 : tie.Need-loop-less-2 Inv-loop μ-loop
 loop-less-2 c = search needs
 
 loop-again-2 : tie.Need-loop-again-2 Inv-loop μ-loop
-loop-again-2 c = (omega arith, c .before .before .before .loop .inv .1, laws.refreshing-on _ _ _ _ (c .before .before .before .loop .inv .2) (omega (arith, c .before .before .before .before .before .before .before .pre .1)) (c .if1 .left))
+loop-again-2 c =
+    let at-loop = c .before .before .before in
+    let entry = at-loop .before .before .before .before in
+    (omega arith, at-loop .loop .inv .1, laws.refreshing-on _ _ _ _ (at-loop .loop .inv .2) (omega (arith, entry .pre .1)) (c .if1 .left))
 
 same-length : tie.Need-same-length Inv-loop μ-loop
 same-length c = search needs

@@ -37,13 +37,17 @@ loop-less : tie.Need-loop-less Inv-loop μ-loop
 loop-less c = search needs
 
 loop-again : tie.Need-loop-again Inv-loop μ-loop
-loop-again c = (omega arith, omega arith, laws.marked-counted _ _ _ (c .before .before .before .loop .inv .2) (sym (c .before .mark-at .ensures) ∙ c .if1 .taken))
+loop-again c =
+    let at-loop = c .before .before .before in
+    (omega arith, omega arith, laws.marked-counted _ _ _ (at-loop .loop .inv .2) (sym (c .before .mark-at .ensures) ∙ c .if1 .taken))
 
 loop-less-2 : tie.Need-loop-less-2 Inv-loop μ-loop
 loop-less-2 c = search needs
 
 loop-again-2 : tie.Need-loop-again-2 Inv-loop μ-loop
-loop-again-2 c = (omega arith, omega arith, laws.unmarked-counted _ _ _ (c .before .before .before .loop .inv .2) (sym (c .before .mark-at .ensures) ∙ c .if1 .left))
+loop-again-2 c =
+    let at-loop = c .before .before .before in
+    (omega arith, omega arith, laws.unmarked-counted _ _ _ (at-loop .loop .inv .2) (sym (c .before .mark-at .ensures) ∙ c .if1 .left))
 
 returns : tie.Need-returns Inv-loop μ-loop
 returns c = let z : c .before .loop .s ≡ c .before .before .before .args .n = omega arith in rw z at (c .before .loop .inv .2)

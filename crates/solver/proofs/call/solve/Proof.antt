@@ -22,11 +22,17 @@ enum-known-answer-2 : tie.Need-enum-known-answer-2
 enum-known-answer-2 c = search needs
 
 solve-on-requires : tie.Need-solve-on-requires
-solve-on-requires c κs = circuit-sized _ (sym (ap paperOf (c .before .before .answer2 .given .1)) ∙ c .before .before .before .before .check-circuit .ensures)
+solve-on-requires c κs =
+    let at-answer2 = c .before .before in
+    let at-check-circuit = at-answer2 .before .before in
+    circuit-sized _ (sym (ap paperOf (at-answer2 .answer2 .given .1)) ∙ at-check-circuit .check-circuit .ensures)
 
 returns : tie.Need-returns
 returns c =
-    let r = laws.circuit-refused (c .before .before .before .before .before .before .args .circuit .now) (c .before .before .before .before .before .before .args .output .now) (sym (ap paperOf (c .before .answer .given .1)) ∙ c .before .before .before .check-circuit .ensures) in
+    let at-check-circuit = c .before .before .before in
+    let entry = at-check-circuit .before .before .before in
+    let r = laws.circuit-refused (entry .args .circuit .now) (entry .args .output .now)
+    (sym (ap paperOf (c .before .answer .given .1)) ∙ at-check-circuit .check-circuit .ensures) in
     (r .0, (r .1, demand _ _))
 
 same-length : tie.Need-same-length

@@ -17,6 +17,12 @@ use Rattle.solver.proofs.call.count_marks.Reads as count-marks-reads
 use Rattle.solver.proofs.marks.add_marks.Reads as add-marks-reads
 use Rattle.solver.proofs.output.put_header.Reads as put-header-reads
 
+sized-bounds : (c : tie.After-start) → length (c .start .result .bounds) ≡ 257
+sized-bounds c = search needs
+
+sized-marks : (c : tie.After-start) → length (c .start .result .marks) ≡ 257
+sized-marks c = search needs
+
 mul-if1 : tie.Need-mul-if1
 mul-if1 c = search needs
 
@@ -24,7 +30,9 @@ add-if1 : tie.Need-add-if1
 add-if1 c = search needs
 
 returns : tie.Need-returns
-returns c = laws.room-short _ _ _ _ _ _ (c .before .before .before .pre .0) (c .before .before .before .pre .1) (c .before .before .before .pre .2) _ (c .if1 .taken)
+returns c =
+    let entry = c .before .before .before in
+    laws.room-short _ _ _ _ _ _ (entry .pre .0) (entry .pre .1) (entry .pre .2) _ (c .if1 .taken)
 
 offsets-requires : tie.Need-offsets-requires
 offsets-requires c κs = search needs
@@ -37,11 +45,16 @@ slice-aggregate-lower-bounds c = search needs
 
 lower-bounds-requires : tie.Need-lower-bounds-requires
 lower-bounds-requires c κs =
-    let long : length (c .before .before .before .before .before .start .result .bounds) ≡ 257 = search needs in (
-      laws.bounds-of _ _ _ _ _ _ (c .before .before .before .before .before .before .before .before .before .before .pre .0) (c .before .before .before .before .before .before .before .before .before .before .pre .1) (c .before .before .before .before .before .before .before .before .before .before .pre .2) _ (c .before .before .before .before .before .before .offsets .ensures) _ _ (c .before .before .before .before .before .start .ensures) long,
-      c .before .before .before .before .before .before .before .before .before .before .pre .0 .is-m,
-      laws.start-bounds _ _ _ _ _ _ (c .before .before .before .before .before .before .before .before .before .before .pre .0) (c .before .before .before .before .before .before .before .before .before .before .pre .1) (c .before .before .before .before .before .before .before .before .before .before .pre .2) _ (c .before .before .before .before .before .before .offsets .ensures) _ _ (c .before .before .before .before .before .start .ensures) long,
-      c .before .before .before .before .before .before .before .if1 .left,
+    let at-start = c .before .before .before .before .before in
+    let at-offsets = at-start .before in
+    let at-if1 = at-offsets .before in
+    let entry = at-if1 .before .before .before in (
+      laws.bounds-of _ _ _ _ _ _ (entry .pre .0) (entry .pre .1) (entry .pre .2) _ (at-offsets .offsets .ensures) _ _ (at-start .start .ensures)
+          (sized-bounds (at-start)),
+      entry .pre .0 .is-m,
+      laws.start-bounds _ _ _ _ _ _ (entry .pre .0) (entry .pre .1) (entry .pre .2) _ (at-offsets .offsets .ensures) _ _
+          (at-start .start .ensures) (sized-bounds (at-start)),
+      at-if1 .if1 .left,
     )
 
 slice-aggregate-add-marks : tie.Need-slice-aggregate-add-marks
@@ -52,21 +65,36 @@ slice-aggregate-add-marks-2 c = search needs
 
 add-marks-requires : tie.Need-add-marks-requires
 add-marks-requires c κs =
-    let long : length (c .before .before .before .before .before .before .before .before .before .before .before .before .before .start .result .bounds) ≡ 257 = search needs in
-    let wide : length (c .before .before .before .before .before .before .before .before .before .before .before .before .before .start .result .marks) ≡ 257 = search needs in (
-      laws.standing-of _ _ _ _ _ _ (c .before .before .before .before .before .before .before .before .before .before .before .before .before .before .before .before .before .before .pre .0) (c .before .before .before .before .before .before .before .before .before .before .before .before .before .before .before .before .before .before .pre .1) (c .before .before .before .before .before .before .before .before .before .before .before .before .before .before .before .before .before .before .pre .2) _ (c .before .before .before .before .before .before .before .before .before .before .before .before .before .before .offsets .ensures) _ _ (c .before .before .before .before .before .before .before .before .before .before .before .before .before .start .ensures) long _ (c .before .before .before .before .before .before .before .before .before .before .before .before .before .before .before .if1 .left) _ _ _ (c .before .before .before .before .before .before .before .lower-bounds .ensures) (c .before .before .before .before .before .before .before .lower-bounds .kept .1 .1 .0 ∙ long) wide,
-      c .before .before .before .before .before .before .before .before .before .before .before .before .before .before .before .before .before .before .pre .0 .is-m,
-      laws.bounded-view _ _ _ _ _ _ (c .before .before .before .before .before .before .before .before .before .before .before .before .before .before .before .before .before .before .pre .0) (c .before .before .before .before .before .before .before .before .before .before .before .before .before .before .before .before .before .before .pre .1) (c .before .before .before .before .before .before .before .before .before .before .before .before .before .before .before .before .before .before .pre .2) _ (c .before .before .before .before .before .before .before .before .before .before .before .before .before .before .offsets .ensures) _ _ (c .before .before .before .before .before .before .before .before .before .before .before .before .before .start .ensures) long _ (c .before .before .before .before .before .before .before .before .before .before .before .before .before .before .before .if1 .left) _ _ _ (c .before .before .before .before .before .before .before .lower-bounds .ensures) (c .before .before .before .before .before .before .before .lower-bounds .kept .1 .1 .0 ∙ long) wide,
-      laws.base-small _ _ _ _ _ _ (c .before .before .before .before .before .before .before .before .before .before .before .before .before .before .before .before .before .before .pre .0) (c .before .before .before .before .before .before .before .before .before .before .before .before .before .before .before .before .before .before .pre .1) (c .before .before .before .before .before .before .before .before .before .before .before .before .before .before .before .before .before .before .pre .2) _ (c .before .before .before .before .before .before .before .before .before .before .before .before .before .before .offsets .ensures) _ _ (c .before .before .before .before .before .before .before .before .before .before .before .before .before .start .ensures) long _ (c .before .before .before .before .before .before .before .before .before .before .before .before .before .before .before .if1 .left) _ _ _ (c .before .before .before .before .before .before .before .lower-bounds .ensures) (c .before .before .before .before .before .before .before .lower-bounds .kept .1 .1 .0 ∙ long) wide,
-      omega (arith, c .before .before .before .before .before .before .before .before .before .before .before .before .before .before .before .if1 .left, c .before .before .before .before .before .before .before .lower-bounds .kept .1 .1 .1 .0),
+    let at-lower-bounds = c .before .before .before .before .before .before .before in
+    let at-start = at-lower-bounds .before .before .before .before .before .before in
+    let at-offsets = at-start .before in
+    let at-if1 = at-offsets .before in
+    let entry = at-if1 .before .before .before in (
+      laws.standing-of _ _ _ _ _ _ (entry .pre .0) (entry .pre .1) (entry .pre .2) _ (at-offsets .offsets .ensures) _ _ (at-start .start .ensures)
+          (sized-bounds (at-start)) _ (at-if1 .if1 .left) _ _ _ (at-lower-bounds .lower-bounds .ensures)
+          (at-lower-bounds .lower-bounds .kept .1 .1 .0 ∙ sized-bounds (at-start)) (sized-marks (at-start)),
+      entry .pre .0 .is-m,
+      laws.bounded-view _ _ _ _ _ _ (entry .pre .0) (entry .pre .1) (entry .pre .2) _ (at-offsets .offsets .ensures) _ _
+          (at-start .start .ensures) (sized-bounds (at-start)) _ (at-if1 .if1 .left) _ _ _ (at-lower-bounds .lower-bounds .ensures)
+          (at-lower-bounds .lower-bounds .kept .1 .1 .0 ∙ sized-bounds (at-start)) (sized-marks (at-start)),
+      laws.base-small _ _ _ _ _ _ (entry .pre .0) (entry .pre .1) (entry .pre .2) _ (at-offsets .offsets .ensures) _ _ (at-start .start .ensures)
+          (sized-bounds (at-start)) _ (at-if1 .if1 .left) _ _ _ (at-lower-bounds .lower-bounds .ensures)
+          (at-lower-bounds .lower-bounds .kept .1 .1 .0 ∙ sized-bounds (at-start)) (sized-marks (at-start)),
+      omega (arith, at-if1 .if1 .left, at-lower-bounds .lower-bounds .kept .1 .1 .1 .0),
     )
 
 put-header-requires : tie.Need-put-header-requires
 put-header-requires c κs =
-    let long : length (c .before .before .before .before .before .before .before .before .before .before .before .before .before .before .before .before .before .before .start .result .bounds) ≡ 257 = search needs in
-    let wide : length (c .before .before .before .before .before .before .before .before .before .before .before .before .before .before .before .before .before .before .start .result .marks) ≡ 257 = search needs in
-    let few = laws.steps-small _ _ _ _ _ _ (c .before .before .before .before .before .before .before .before .before .before .before .before .before .before .before .before .before .before .before .before .before .before .before .pre .0) (c .before .before .before .before .before .before .before .before .before .before .before .before .before .before .before .before .before .before .before .before .before .before .before .pre .1) (c .before .before .before .before .before .before .before .before .before .before .before .before .before .before .before .before .before .before .before .before .before .before .before .pre .2) _ (c .before .before .before .before .before .before .before .before .before .before .before .before .before .before .before .before .before .before .before .offsets .ensures) _ _ (c .before .before .before .before .before .before .before .before .before .before .before .before .before .before .before .before .before .before .start .ensures) long _ (c .before .before .before .before .before .before .before .before .before .before .before .before .before .before .before .before .before .before .before .before .if1 .left) _ _ _ (c .before .before .before .before .before .before .before .before .before .before .before .before .lower-bounds .ensures) (c .before .before .before .before .before .before .before .before .before .before .before .before .lower-bounds .kept .1 .1 .0 ∙ long) wide _ _ _ (c .before .before .before .before .add-marks .ensures) in
-    (omega (arith, c .before .before .before .before .before .before .before .before .before .before .before .before .before .before .before .before .before .before .before .before .if1 .left, c .before .before .before .before .before .before .before .before .before .before .before .before .lower-bounds .kept .1 .1 .1 .0, c .before .before .before .before .add-marks .kept .1 .1 .1 .1 .0), omega arith)
+    let at-add-marks = c .before .before .before .before in
+    let at-lower-bounds = at-add-marks .before .before .before .before .before .before .before .before in
+    let at-start = at-lower-bounds .before .before .before .before .before .before in
+    let at-offsets = at-start .before in
+    let at-if1 = at-offsets .before in
+    let entry = at-if1 .before .before .before in
+    let few = laws.steps-small _ _ _ _ _ _ (entry .pre .0) (entry .pre .1) (entry .pre .2) _ (at-offsets .offsets .ensures) _ _
+    (at-start .start .ensures) (sized-bounds (at-start)) _ (at-if1 .if1 .left) _ _ _ (at-lower-bounds .lower-bounds .ensures)
+    (at-lower-bounds .lower-bounds .kept .1 .1 .0 ∙ sized-bounds (at-start)) (sized-marks (at-start)) _ _ _ (at-add-marks .add-marks .ensures) in
+    (omega (arith, at-if1 .if1 .left, at-lower-bounds .lower-bounds .kept .1 .1 .1 .0, at-add-marks .add-marks .kept .1 .1 .1 .1 .0), omega arith)
 
 slice-aggregate-count-marks : tie.Need-slice-aggregate-count-marks
 slice-aggregate-count-marks c = search needs
@@ -90,14 +118,30 @@ add-t16 : tie.Need-add-t16
 add-t16 c = search needs
 
 same-length : tie.Need-same-length
-same-length c = c .before .before .before .before .before .before .put-header .kept .0 ∙ c .before .before .before .before .before .before .before .before .before .before .before .add-marks .kept .1 .1 .1 .1 .0 ∙ c .before .before .before .before .before .before .before .before .before .before .before .before .before .before .before .before .before .before .before .lower-bounds .kept .1 .1 .1 .0
+same-length c =
+    let at-put-header = c .before .before .before .before .before .before in
+    let at-add-marks = at-put-header .before .before .before .before .before in
+    let at-lower-bounds = at-add-marks .before .before .before .before .before .before .before .before in
+    at-put-header .put-header .kept .0 ∙ at-add-marks .add-marks .kept .1 .1 .1 .1 .0 ∙ at-lower-bounds .lower-bounds .kept .1 .1 .1 .0
 
 returns-2 : tie.Need-returns-2
 returns-2 c =
-    let long : length (c .before .before .before .before .before .before .before .before .before .before .before .before .before .before .before .before .before .before .before .before .before .before .before .before .before .start .result .bounds) ≡ 257 = search needs in
-    let wide : length (c .before .before .before .before .before .before .before .before .before .before .before .before .before .before .before .before .before .before .before .before .before .before .before .before .before .start .result .marks) ≡ 257 = search needs in (
-      laws.solved-answer _ _ _ _ _ _ (c .before .before .before .before .before .before .before .before .before .before .before .before .before .before .before .before .before .before .before .before .before .before .before .before .before .before .before .before .before .before .pre .0) (c .before .before .before .before .before .before .before .before .before .before .before .before .before .before .before .before .before .before .before .before .before .before .before .before .before .before .before .before .before .before .pre .1) (c .before .before .before .before .before .before .before .before .before .before .before .before .before .before .before .before .before .before .before .before .before .before .before .before .before .before .before .before .before .before .pre .2) _ (c .before .before .before .before .before .before .before .before .before .before .before .before .before .before .before .before .before .before .before .before .before .before .before .before .before .before .offsets .ensures) _ _ (c .before .before .before .before .before .before .before .before .before .before .before .before .before .before .before .before .before .before .before .before .before .before .before .before .before .start .ensures) long _ (c .before .before .before .before .before .before .before .before .before .before .before .before .before .before .before .before .before .before .before .before .before .before .before .before .before .before .before .if1 .left) _ _ _ (c .before .before .before .before .before .before .before .before .before .before .before .before .before .before .before .before .before .before .before .lower-bounds .ensures) (c .before .before .before .before .before .before .before .before .before .before .before .before .before .before .before .before .before .before .before .lower-bounds .kept .1 .1 .0 ∙ long) wide _ _ _ (c .before .before .before .before .before .before .before .before .before .before .before .add-marks .ensures) _ _ _ (c .before .before .count-marks .ensures) (c .verdict-of .ensures) refl,
-      laws.solved-output _ _ _ _ _ _ (c .before .before .before .before .before .before .before .before .before .before .before .before .before .before .before .before .before .before .before .before .before .before .before .before .before .before .before .before .before .before .pre .0) (c .before .before .before .before .before .before .before .before .before .before .before .before .before .before .before .before .before .before .before .before .before .before .before .before .before .before .before .before .before .before .pre .1) (c .before .before .before .before .before .before .before .before .before .before .before .before .before .before .before .before .before .before .before .before .before .before .before .before .before .before .before .before .before .before .pre .2) _ (c .before .before .before .before .before .before .before .before .before .before .before .before .before .before .before .before .before .before .before .before .before .before .before .before .before .before .offsets .ensures) _ _ (c .before .before .before .before .before .before .before .before .before .before .before .before .before .before .before .before .before .before .before .before .before .before .before .before .before .start .ensures) long _ (c .before .before .before .before .before .before .before .before .before .before .before .before .before .before .before .before .before .before .before .before .before .before .before .before .before .before .before .if1 .left) _ _ _ (c .before .before .before .before .before .before .before .before .before .before .before .before .before .before .before .before .before .before .before .lower-bounds .ensures) (c .before .before .before .before .before .before .before .before .before .before .before .before .before .before .before .before .before .before .before .lower-bounds .kept .1 .1 .0 ∙ long) wide _ _ _ (c .before .before .before .before .before .before .before .before .before .before .before .add-marks .ensures) _ (c .before .before .before .before .before .before .put-header .ensures),
+    let at-count-marks = c .before .before in
+    let at-put-header = at-count-marks .before .before .before .before in
+    let at-add-marks = at-put-header .before .before .before .before .before in
+    let at-lower-bounds = at-add-marks .before .before .before .before .before .before .before .before in
+    let at-start = at-lower-bounds .before .before .before .before .before .before in
+    let at-offsets = at-start .before in
+    let at-if1 = at-offsets .before in
+    let entry = at-if1 .before .before .before in (
+      laws.solved-answer _ _ _ _ _ _ (entry .pre .0) (entry .pre .1) (entry .pre .2) _ (at-offsets .offsets .ensures) _ _
+          (at-start .start .ensures) (sized-bounds (at-start)) _ (at-if1 .if1 .left) _ _ _ (at-lower-bounds .lower-bounds .ensures)
+          (at-lower-bounds .lower-bounds .kept .1 .1 .0 ∙ sized-bounds (at-start)) (sized-marks (at-start)) _ _ _ (at-add-marks .add-marks .ensures) _
+          _ _ (at-count-marks .count-marks .ensures) (c .verdict-of .ensures) refl,
+      laws.solved-output _ _ _ _ _ _ (entry .pre .0) (entry .pre .1) (entry .pre .2) _ (at-offsets .offsets .ensures) _ _
+          (at-start .start .ensures) (sized-bounds (at-start)) _ (at-if1 .if1 .left) _ _ _ (at-lower-bounds .lower-bounds .ensures)
+          (at-lower-bounds .lower-bounds .kept .1 .1 .0 ∙ sized-bounds (at-start)) (sized-marks (at-start)) _ _ _ (at-add-marks .add-marks .ensures) _
+          (at-put-header .put-header .ensures),
     )
 
 pub solve-on-spec : {M : Type 1} → statement M

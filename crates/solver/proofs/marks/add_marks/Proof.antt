@@ -42,23 +42,34 @@ slice-aggregate-raise-floors : tie.Need-slice-aggregate-raise-floors Inv-loop μ
 slice-aggregate-raise-floors c = search needs
 
 raise-floors-requires : tie.Need-raise-floors-requires Inv-loop μ-loop
-raise-floors-requires c κs = (
-  (laws.standing-on (c .before .before .before .before .before .before .before .before .pre .0) _ (c .before .before .before .loop .inv .1)),
-  c .before .before .before .before .before .before .before .before .pre .1,
-  omega (arith, c .before .before .before .before .before .before .before .before .pre .1, few-constraints (c .before .before .before .before .before .before .before .before .pre .0 .prepared), c .before .before .before .loop .inv .2),
-  c .before .before .before .loop .inv .4 .floored,
-)
+raise-floors-requires c κs =
+    let at-loop = c .before .before .before in
+    let entry = at-loop .before .before .before .before .before in (
+      (laws.standing-on (entry .pre .0) _ (at-loop .loop .inv .1)),
+      entry .pre .1,
+      omega (arith, entry .pre .1, few-constraints (entry .pre .0 .prepared), at-loop .loop .inv .2),
+      at-loop .loop .inv .4 .floored,
+    )
 
 slice-aggregate-next-mark : tie.Need-slice-aggregate-next-mark Inv-loop μ-loop
 slice-aggregate-next-mark c = search needs
 
 next-mark-requires : tie.Need-next-mark-requires Inv-loop μ-loop
-next-mark-requires c κs = (
-  (laws.standing-on (c .before .before .before .before .before .before .before .before .before .before .before .before .pre .0) _ (c .before .before .before .before .before .before .before .loop .inv .1)),
-  c .before .before .before .before .before .before .before .before .before .before .before .before .pre .1,
-  omega (arith, c .before .before .before .before .before .before .before .before .before .before .before .before .pre .1, few-constraints (c .before .before .before .before .before .before .before .before .before .before .before .before .pre .0 .prepared), c .before .before .before .before .before .before .before .loop .inv .2, c .before .before .before .raise-floors .kept .1 .1 .1 .1 .0),
-  c .before .before .before .raise-floors .ensures,
-)
+next-mark-requires c κs =
+    let at-raise-floors = c .before .before .before in
+    let at-loop = at-raise-floors .before .before .before .before in
+    let entry = at-loop .before .before .before .before .before in (
+      (laws.standing-on (entry .pre .0) _ (at-loop .loop .inv .1)),
+      entry .pre .1,
+      omega (
+        arith,
+        entry .pre .1,
+        few-constraints (entry .pre .0 .prepared),
+        at-loop .loop .inv .2,
+        at-raise-floors .raise-floors .kept .1 .1 .1 .1 .0,
+      ),
+      at-raise-floors .raise-floors .ensures,
+    )
 
 enum-known-choice : tie.Need-enum-known-choice Inv-loop μ-loop
 enum-known-choice c = search needs
@@ -67,28 +78,49 @@ enum-told : tie.Need-enum-told Inv-loop μ-loop
 enum-told c = search needs
 
 add-result : tie.Need-add-result Inv-loop μ-loop
-add-result c = let s = sizes (c .before .before .before .before .before .before .before .before .before .before .before .before .before .before .before .pre .0) in omega arith
+add-result c =
+    let past = c .before .before .before .before .before .before .before .before .before .before in
+    let entry = past .before .before .before .before .before in
+    let s = sizes (entry .pre .0) in omega arith
 
 same-length : tie.Need-same-length Inv-loop μ-loop
-same-length c = c .before .before .before .before .before .before .before .before .before .before .loop .inv .1 ∙ sym (c .before .before .before .before .before .before .before .before .before .before .before .before .before .before .before .pre .0 .marks-sized)
+same-length c =
+    let at-loop = c .before .before .before .before .before .before .before .before .before .before in
+    let entry = at-loop .before .before .before .before .before in
+    at-loop .loop .inv .1 ∙ sym (entry .pre .0 .marks-sized)
 
 same-length-2 : tie.Need-same-length-2 Inv-loop μ-loop
 same-length-2 c = c .before .before .before .before .before .before .before .before .before .before .loop .inv .3
 
 returns : tie.Need-returns Inv-loop μ-loop
-returns c = laws.turning-none _ _ _ _ _ _ (laws.standing-on (c .before .before .before .before .before .before .before .before .before .before .before .before .before .before .before .pre .0) _ (c .before .before .before .before .before .before .before .before .before .before .loop .inv .1)) _ _ _ _ _ (c .before .before .before .before .before .before .before .before .before .before .loop .inv .4) _ (c .before .before .next-mark .ensures) (c .enum-told .given .1)
+returns c =
+    let at-next-mark = c .before .before in
+    let at-loop = at-next-mark .before .before .before .before .before .before .before .before in
+    let entry = at-loop .before .before .before .before .before in
+    laws.turning-none _ _ _ _ _ _ (laws.standing-on (entry .pre .0) _ (at-loop .loop .inv .1)) _ _ _ _ _ (at-loop .loop .inv .4) _
+    (at-next-mark .next-mark .ensures) (c .enum-told .given .1)
 
 add-put-step : tie.Need-add-put-step Inv-loop μ-loop
-add-put-step c = let s = sizes (c .before .before .before .before .before .before .before .before .before .before .before .before .before .before .before .before .before .pre .0) in omega arith
+add-put-step c =
+    let past = c .before .before .before .before .before .before .before .before .before .before in
+    let entry = past .before .before .before .before .before .before .before in
+    let s = sizes (entry .pre .0) in omega arith
 
 number-of-requires : tie.Need-number-of-requires Inv-loop μ-loop
 number-of-requires c κs = search needs
 
 put-step-requires : tie.Need-put-step-requires Inv-loop μ-loop
 put-step-requires c κs =
-    let t = laws.target-small _ _ _ _ _ _ (laws.standing-on (c .before .before .before .before .before .before .before .before .before .before .before .before .before .before .before .before .before .before .pre .0) _ (c .before .before .before .before .before .before .before .before .before .before .before .before .before .loop .inv .1)) _ _ _ _ _ (c .before .before .before .before .before .before .before .before .before .before .before .before .before .loop .inv .4) _ (c .before .before .before .before .before .next-mark .ensures) _ _ _ _ (c .before .before .before .choice .given .1) in
-    let f = laws.fields-small _ _ _ _ _ _ (laws.standing-on (c .before .before .before .before .before .before .before .before .before .before .before .before .before .before .before .before .before .before .pre .0) _ (c .before .before .before .before .before .before .before .before .before .before .before .before .before .loop .inv .1)) _ _ _ _ _ (c .before .before .before .before .before .before .before .before .before .before .before .before .before .loop .inv .4) _ (c .before .before .before .before .before .next-mark .ensures) _ _ _ _ (c .before .before .before .choice .given .1) in (
-      omega (arith, c .before .before .before .before .before .before .before .before .before .before .before .before .before .before .before .before .before .before .pre .3, c .before .before .before .before .before .before .before .before .before .before .before .before .before .before .before .before .before .before .pre .4, c .before .before .before .before .before .before .before .before .before .before .before .before .before .loop .inv .3, c .before .before .before .before .before .before .before .before .before .before .before .before .loop-test .taken),
+    let at-choice = c .before .before .before in
+    let at-next-mark = at-choice .before .before in
+    let at-loop-test = at-next-mark .before .before .before .before .before .before .before in
+    let at-loop = at-loop-test .before in
+    let entry = at-loop .before .before .before .before .before in
+    let t = laws.target-small _ _ _ _ _ _ (laws.standing-on (entry .pre .0) _ (at-loop .loop .inv .1)) _ _ _ _ _ (at-loop .loop .inv .4) _
+    (at-next-mark .next-mark .ensures) _ _ _ _ (at-choice .choice .given .1) in
+    let f = laws.fields-small _ _ _ _ _ _ (laws.standing-on (entry .pre .0) _ (at-loop .loop .inv .1)) _ _ _ _ _ (at-loop .loop .inv .4) _
+    (at-next-mark .next-mark .ensures) _ _ _ _ (at-choice .choice .given .1) in (
+      omega (arith, entry .pre .3, entry .pre .4, at-loop .loop .inv .3, at-loop-test .loop-test .taken),
       c .number-of .ensures .1,
       omega (arith, t .1),
       omega (arith, f .0),
@@ -99,32 +131,66 @@ cast-marks : tie.Need-cast-marks Inv-loop μ-loop
 cast-marks c = search needs
 
 slice-write-marks : tie.Need-slice-write-marks Inv-loop μ-loop
-slice-write-marks c = omega (arith, laws.target-small _ _ _ _ _ _ (laws.standing-on (c .before .before .before .before .before .before .before .before .before .before .before .before .before .before .before .before .before .before .before .before .before .pre .0) _ (c .before .before .before .before .before .before .before .before .before .before .before .before .before .before .before .before .loop .inv .1)) _ _ _ _ _ (c .before .before .before .before .before .before .before .before .before .before .before .before .before .before .before .before .loop .inv .4) _ (c .before .before .before .before .before .before .before .before .next-mark .ensures) _ _ _ _ (c .before .before .before .before .before .before .choice .given .1) .1, c .before .before .before .before .before .before .before .before .before .before .before .before .before .before .before .before .loop .inv .1)
+slice-write-marks c =
+    let at-choice = c .before .before .before .before .before .before in
+    let at-next-mark = at-choice .before .before in
+    let at-loop = at-next-mark .before .before .before .before .before .before .before .before in
+    let entry = at-loop .before .before .before .before .before in
+    omega (
+      arith,
+      laws.target-small _ _ _ _ _ _ (laws.standing-on (entry .pre .0) _ (at-loop .loop .inv .1)) _ _ _ _ _ (at-loop .loop .inv .4) _
+          (at-next-mark .next-mark .ensures) _ _ _ _ (at-choice .choice .given .1) .1,
+      at-loop .loop .inv .1,
+    )
 
 slice-aggregate-forget : tie.Need-slice-aggregate-forget Inv-loop μ-loop
 slice-aggregate-forget c = search needs
 
 forget-requires : tie.Need-forget-requires Inv-loop μ-loop
-forget-requires c κs = (
-  c .before .before .before .before .before .before .before .before .before .before .before .before .before .before .before .before .before .before .before .before .before .before .pre .0 .prepared,
-  c .before .before .before .before .before .before .before .before .before .before .before .before .before .before .before .before .before .before .before .before .before .before .pre .1,
-  omega (arith, c .before .before .before .before .before .before .before .before .before .before .before .before .before .before .before .before .before .before .before .before .before .before .pre .1, few-constraints (c .before .before .before .before .before .before .before .before .before .before .before .before .before .before .before .before .before .before .before .before .before .before .pre .0 .prepared), c .before .before .before .before .before .before .before .before .before .before .before .before .before .before .before .before .before .loop .inv .2, c .before .before .before .before .before .before .before .before .before .before .before .before .before .raise-floors .kept .1 .1 .1 .1 .0),
-)
+forget-requires c κs =
+    let at-raise-floors = c .before .before .before .before .before .before .before .before .before .before .before .before .before in
+    let at-loop = at-raise-floors .before .before .before .before in
+    let entry = at-loop .before .before .before .before .before in (
+      entry .pre .0 .prepared,
+      entry .pre .1,
+      omega (
+        arith,
+        entry .pre .1,
+        few-constraints (entry .pre .0 .prepared),
+        at-loop .loop .inv .2,
+        at-raise-floors .raise-floors .kept .1 .1 .1 .1 .0,
+      ),
+    )
 
 add-count : tie.Need-add-count Inv-loop μ-loop
-add-count c = let s = sizes (c .before .before .before .before .before .before .before .before .before .before .before .before .before .before .before .before .before .before .before .before .before .before .before .before .pre .0) in omega (arith, c .before .before .before .before .before .before .before .before .before .before .before .before .before .before .before .before .before .before .loop-test .taken)
+add-count c =
+    let past = c .before .before .before .before .before .before .before .before .before .before in
+    let at-loop-test = past .before .before .before .before .before .before .before .before in
+    let entry = at-loop-test .before .before .before .before .before .before in
+    let s = sizes (entry .pre .0) in omega (arith, at-loop-test .loop-test .taken)
 
 loop-less : tie.Need-loop-less Inv-loop μ-loop
 loop-less c = search needs
 
 loop-again : tie.Need-loop-again Inv-loop μ-loop
 loop-again c =
-    let l = c .before .before .before .before .before .before .before .before .before .before .before .before .before .before .before .before .before .before .before .loop in (
+    let at-put-step = c .before .before .before .before .before in
+    let at-number-of = at-put-step .before in
+    let at-choice = at-number-of .before .before .before in
+    let at-next-mark = at-choice .before .before in
+    let at-raise-floors = at-next-mark .before .before .before .before in
+    let at-loop-test = at-raise-floors .before .before .before in
+    let at-loop = at-loop-test .before in
+    let entry = at-loop .before .before .before .before .before in
+    let l = at-loop .loop in (
       omega arith,
       simp length-set (l .inv .1),
-      c .before .forget .kept .1 .1 .0 ∙ c .before .before .before .before .before .before .before .before .before .before .before .before .before .before .before .raise-floors .kept .1 .1 .1 .1 .0 ∙ l .inv .2,
-      c .before .before .before .before .before .put-step .kept .0 ∙ l .inv .3,
-      laws.turning-next _ _ _ _ _ _ (laws.standing-on (c .before .before .before .before .before .before .before .before .before .before .before .before .before .before .before .before .before .before .before .before .before .before .before .before .pre .0) _ (c .before .before .before .before .before .before .before .before .before .before .before .before .before .before .before .before .before .before .before .loop .inv .1)) _ _ _ _ _ (c .before .before .before .before .before .before .before .before .before .before .before .before .before .before .before .before .before .before .before .loop .inv .4) _ (c .before .before .before .before .before .before .before .before .before .before .before .next-mark .ensures) _ _ _ _ (c .before .before .before .before .before .before .before .before .before .choice .given .1) (c .before .before .before .before .before .before .before .before .before .before .before .before .before .before .before .before .before .before .loop-test .taken) _ _ _ _ (c .before .before .before .before .before .before .number-of .ensures .0) (c .before .before .before .before .before .put-step .ensures) (c .before .before .before .before .before .before .before .before .before .before .before .before .before .before .before .raise-floors .ensures) (c .before .forget .ensures),
+      c .before .forget .kept .1 .1 .0 ∙ at-raise-floors .raise-floors .kept .1 .1 .1 .1 .0 ∙ l .inv .2,
+      at-put-step .put-step .kept .0 ∙ l .inv .3,
+      laws.turning-next _ _ _ _ _ _ (laws.standing-on (entry .pre .0) _ (at-loop .loop .inv .1)) _ _ _ _ _ (at-loop .loop .inv .4) _
+          (at-next-mark .next-mark .ensures) _ _ _ _ (at-choice .choice .given .1) (at-loop-test .loop-test .taken) _ _ _ _
+          (at-number-of .number-of .ensures .0) (at-put-step .put-step .ensures) (at-raise-floors .raise-floors .ensures)
+          (c .before .forget .ensures),
     )
 
 add-result-2 : tie.Need-add-result-2 Inv-loop μ-loop
@@ -137,7 +203,10 @@ same-length-4 : tie.Need-same-length-4 Inv-loop μ-loop
 same-length-4 c = c .before .loop .inv .3
 
 returns-2 : tie.Need-returns-2 Inv-loop μ-loop
-returns-2 c = laws.turning-all _ _ _ _ _ _ (laws.standing-on (c .before .before .before .before .before .before .pre .0) _ (c .before .loop .inv .1)) _ _ _ _ _ (c .before .loop .inv .4) (c .loop-test .left)
+returns-2 c =
+    let entry = c .before .before .before .before .before .before in
+    laws.turning-all _ _ _ _ _ _ (laws.standing-on (entry .pre .0) _ (c .before .loop .inv .1)) _ _ _ _ _ (c .before .loop .inv .4)
+    (c .loop-test .left)
 
 pub add-marks-spec : {M : Type 1} → statement M
 add-marks-spec =

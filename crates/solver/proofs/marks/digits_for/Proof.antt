@@ -17,13 +17,15 @@ use Rattle.rules.proofs.digits.separated.Reads as separated-reads
 use Rattle.rules.proofs.form.reduced_form.Reads as reduced-form-reads
 
 abbrev Inv-loop : tie.InvT-loop
-Inv-loop circuit table bounds marks floors p n m t constraint₀ reference₀ k form r₀ constraint reference r = (r ≤ n) × (constraint ≡ 0) × (reference ≡ 0) × left.ReferenceFrom (circuitOf circuit) (viewOf p bounds marks) t m k r
+Inv-loop circuit table bounds marks floors p n m t constraint₀ reference₀ k form r₀ constraint reference r =
+    (r ≤ n) × (constraint ≡ 0) × (reference ≡ 0) × left.ReferenceFrom (circuitOf circuit) (viewOf p bounds marks) t m k r
 
 abbrev μ-loop : tie.MeasureT-loop
 μ-loop circuit table bounds marks floors p n m t constraint₀ reference₀ k form r₀ constraint reference r = n - r
 
 abbrev Inv-search : tie.InvT-search
-Inv-search circuit table bounds marks floors p n m t constraint₀ reference₀ k₀ constraint reference k = (k ≤ m) × (constraint ≡ 0) × (reference ≡ 0) × left.DigitsFrom (circuitOf circuit) (viewOf p bounds marks) t m k
+Inv-search circuit table bounds marks floors p n m t constraint₀ reference₀ k₀ constraint reference k =
+    (k ≤ m) × (constraint ≡ 0) × (reference ≡ 0) × left.DigitsFrom (circuitOf circuit) (viewOf p bounds marks) t m k
 
 abbrev μ-search : tie.MeasureT-search
 μ-search circuit table bounds marks floors p n m t constraint₀ reference₀ k₀ constraint reference k = m - k
@@ -56,26 +58,32 @@ mul-if3 : tie.Need-mul-if3 Inv-loop μ-loop Inv-search μ-search
 mul-if3 c = search needs
 
 array-read-if3 : tie.Need-array-read-if3 Inv-loop μ-loop Inv-search μ-search
-array-read-if3 c = let s = laws.sizes (c .before .before .before .before .before .before .before .before .before .before .before .before .before .pre .0) in omega (arith, c .before .before .before .before .before .before .before .before .before .before .before .before .before .pre .4)
+array-read-if3 c =
+    let entry = c .before .before .before .before .before .before .before .before .before .before .before .before .before in
+    let s = laws.sizes (entry .pre .0) in omega (arith, entry .pre .4)
 
 loop-holds : tie.Need-loop-holds Inv-loop μ-loop Inv-search μ-search
-loop-holds c = (
-  omega arith,
-  c .before .before .before .before .before .before .before .before .before .search .inv .1,
-  c .before .before .before .before .before .before .before .before .before .search .inv .2,
-  left.digits-enter _ _ _ _ _ (c .before .before .before .before .before .before .before .before .before .search .inv .3) (c .before .before .before .before .before .before .before .before .search-test .taken),
-)
+loop-holds c =
+    let at-search-test = c .before .before .before .before .before .before .before .before in
+    let at-search = at-search-test .before in (
+      omega arith,
+      at-search .search .inv .1,
+      at-search .search .inv .2,
+      left.digits-enter _ _ _ _ _ (at-search .search .inv .3) (at-search-test .search-test .taken),
+    )
 
 search-less : tie.Need-search-less Inv-loop μ-loop Inv-search μ-search
 search-less c = search needs
 
 search-again : tie.Need-search-again Inv-loop μ-loop Inv-search μ-search
-search-again c = (
-  omega arith,
-  c .before .loop .inv .1,
-  c .before .loop .inv .2,
-  left.reference-end _ _ _ _ _ _ (c .before .loop .inv .3) (omega (arith, c .before .before .before .before .before .before .before .before .before .before .before .before .before .before .before .before .pre .0 .is-n)),
-)
+search-again c =
+    let past = c .before .before .before .before .before .before .before .before .before .before in
+    let entry = past .before .before .before .before .before .before in (
+      omega arith,
+      c .before .loop .inv .1,
+      c .before .loop .inv .2,
+      left.reference-end _ _ _ _ _ _ (c .before .loop .inv .3) (omega (arith, entry .pre .0 .is-n)),
+    )
 
 add-r : tie.Need-add-r Inv-loop μ-loop Inv-search μ-search
 add-r c = search needs
@@ -87,7 +95,10 @@ mul-if4 : tie.Need-mul-if4 Inv-loop μ-loop Inv-search μ-search
 mul-if4 c = search needs
 
 array-read-if4 : tie.Need-array-read-if4 Inv-loop μ-loop Inv-search μ-search
-array-read-if4 c = let s = laws.sizes (c .before .before .before .before .before .before .before .before .before .before .before .before .before .before .before .before .pre .0) in omega arith
+array-read-if4 c =
+    let past = c .before .before .before .before .before .before .before .before .before .before in
+    let entry = past .before .before .before .before .before .before in
+    let s = laws.sizes (entry .pre .0) in omega arith
 
 slice-aggregate-separated : tie.Need-slice-aggregate-separated Inv-loop μ-loop Inv-search μ-search
 slice-aggregate-separated c = search needs
@@ -99,61 +110,97 @@ loop-less : tie.Need-loop-less Inv-loop μ-loop Inv-search μ-search
 loop-less c = search needs
 
 loop-again : tie.Need-loop-again Inv-loop μ-loop Inv-search μ-search
-loop-again c = (
-  omega arith,
-  c .before .before .before .before .before .loop .inv .1,
-  c .before .before .before .before .before .loop .inv .2,
-  left.reference-on _ _ _ _ _ _ (c .before .before .before .before .before .loop .inv .3) (omega (arith, c .before .before .before .before .before .before .before .before .before .before .before .before .before .before .before .before .before .before .before .before .pre .0 .is-n))
-      (laws.reference-unmet _ _ _ _ _ _ _ (c .before .before .before .before .before .before .before .before .before .before .before .before .before .before .before .before .before .before .before .before .pre .0) (omega arith) (omega (arith, c .before .before .before .before .before .before .before .before .before .before .before .before .before .before .before .before .before .before .before .before .pre .1)) _ (c .before .before .before .before .before .before .before .before .before .before .part-of .ensures) _ (c .before .before .before .before .before .before .before .before .before .is-linear .ensures) (c .before .before .before .before .before .before .before .before .if2 .taken) _ (c .before .before .before .before .before .before .before .reduced-form .ensures) _ _ _ (c .before .separated .ensures) (c .if5 .left)),
-)
+loop-again c =
+    let at-loop-test = c .before .before .before .before in
+    let at-loop = at-loop-test .before in
+    let at-reduced-form = at-loop .before .before in
+    let at-if2 = at-reduced-form .before in
+    let at-is-linear = at-if2 .before in
+    let at-part-of = at-is-linear .before in
+    let at-search-test = at-part-of .before .before .before .before in
+    let entry = at-search-test .before .before .before .before .before .before in (
+      omega (arith, at-loop-test .loop-test .taken),
+      at-loop .loop .inv .1,
+      at-loop .loop .inv .2,
+      left.reference-on _ _ _ _ _ _ (at-loop .loop .inv .3) (omega (arith, entry .pre .0 .is-n, at-loop-test .loop-test .taken))
+          (laws.reference-unmet _ _ _ _ _ _ _ (entry .pre .0) (omega arith) (omega (arith, entry .pre .1, at-search-test .search-test .taken)) _
+          (at-part-of .part-of .ensures) _ (at-is-linear .is-linear .ensures) (at-if2 .if2 .taken) _ (at-reduced-form .reduced-form .ensures) _ _ _
+          (c .before .separated .ensures) (c .if5 .left)),
+    )
 
 loop-less-2 : tie.Need-loop-less-2 Inv-loop μ-loop Inv-search μ-search
 loop-less-2 c = search needs
 
 loop-again-2 : tie.Need-loop-again-2 Inv-loop μ-loop Inv-search μ-search
-loop-again-2 c = (
-  omega arith,
-  c .before .before .loop .inv .1,
-  c .before .before .loop .inv .2,
-  left.reference-on _ _ _ _ _ _ (c .before .before .loop .inv .3) (omega (arith, c .before .before .before .before .before .before .before .before .before .before .before .before .before .before .before .before .before .pre .0 .is-n))
-      (laws.reference-absent _ _ _ _ _ _ _ (c .before .before .before .before .before .before .before .before .before .before .before .before .before .before .before .before .before .pre .0) (omega arith) (omega (arith, c .before .before .before .before .before .before .before .before .before .before .before .before .before .before .before .before .before .pre .1)) _ (c .before .before .before .before .before .before .before .part-of .ensures) _ (c .before .before .before .before .before .before .is-linear .ensures) (c .before .before .before .before .before .if2 .taken) _ (c .before .before .before .before .reduced-form .ensures) _ _ (c .if4 .left)),
-)
+loop-again-2 c =
+    let at-loop = c .before .before in
+    let at-reduced-form = at-loop .before .before in
+    let at-if2 = at-reduced-form .before in
+    let at-is-linear = at-if2 .before in
+    let at-part-of = at-is-linear .before in
+    let at-search-test = at-part-of .before .before .before .before in
+    let entry = at-search-test .before .before .before .before .before .before in (
+      omega (arith, c .before .loop-test .taken),
+      at-loop .loop .inv .1,
+      at-loop .loop .inv .2,
+      left.reference-on _ _ _ _ _ _ (at-loop .loop .inv .3) (omega (arith, entry .pre .0 .is-n, c .before .loop-test .taken))
+          (laws.reference-absent _ _ _ _ _ _ _ (entry .pre .0) (omega arith) (omega (arith, entry .pre .1, at-search-test .search-test .taken)) _
+          (at-part-of .part-of .ensures) _ (at-is-linear .is-linear .ensures) (at-if2 .if2 .taken) _ (at-reduced-form .reduced-form .ensures) _ _
+          (c .if4 .left)),
+    )
 
 search-less-2 : tie.Need-search-less-2 Inv-loop μ-loop Inv-search μ-search
 search-less-2 c = search needs
 
 search-again-2 : tie.Need-search-again-2 Inv-loop μ-loop Inv-search μ-search
-search-again-2 c = (
-  omega arith,
-  c .before .before .before .before .before .before .before .before .before .search .inv .1,
-  c .before .before .before .before .before .before .before .before .before .search .inv .2,
-  left.digits-on _ _ _ _ _ (c .before .before .before .before .before .before .before .before .before .search .inv .3) (omega (arith, c .before .before .before .before .before .before .before .before .search-test .taken))
-      (λ u l h. laws.target-absent _ _ _ _ _ _ _ (c .before .before .before .before .before .before .before .before .before .before .before .before .before .before .pre .0) (omega arith) (omega (arith, c .before .before .before .before .before .before .before .before .before .before .before .before .before .before .pre .1)) _ (c .before .before .before .before .part-of .ensures) _ (c .before .before .before .is-linear .ensures) (c .before .before .if2 .taken) _ (c .before .reduced-form .ensures) _ (c .if3 .left) u),
-)
+search-again-2 c =
+    let at-if2 = c .before .before in
+    let at-is-linear = at-if2 .before in
+    let at-part-of = at-is-linear .before in
+    let at-search-test = at-part-of .before .before .before .before in
+    let at-search = at-search-test .before in
+    let entry = at-search .before .before .before .before .before in (
+      omega arith,
+      at-search .search .inv .1,
+      at-search .search .inv .2,
+      left.digits-on _ _ _ _ _ (at-search .search .inv .3) (omega (arith, at-search-test .search-test .taken))
+          (λ u l h. laws.target-absent _ _ _ _ _ _ _ (entry .pre .0) (omega arith) (omega (arith, entry .pre .1, at-search-test .search-test .taken))
+          _ (at-part-of .part-of .ensures) _ (at-is-linear .is-linear .ensures) (at-if2 .if2 .taken) _ (c .before .reduced-form .ensures) _
+          (c .if3 .left) u),
+    )
 
 search-less-3 : tie.Need-search-less-3 Inv-loop μ-loop Inv-search μ-search
 search-less-3 c = search needs
 
 search-again-3 : tie.Need-search-again-3 Inv-loop μ-loop Inv-search μ-search
-search-again-3 c = (
-  omega arith,
-  c .before .before .before .before .before .before .before .search .inv .1,
-  c .before .before .before .before .before .before .before .search .inv .2,
-  left.digits-on _ _ _ _ _ (c .before .before .before .before .before .before .before .search .inv .3) (omega (arith, c .before .before .before .before .before .before .search-test .taken))
-      (λ u l h. laws.nonlinear-unmet _ _ _ _ _ _ _ (c .before .before .before .before .before .before .before .before .before .before .before .before .pre .0) (omega arith) (omega (arith, c .before .before .before .before .before .before .before .before .before .before .before .before .pre .1)) _ (c .before .before .part-of .ensures) _ (c .before .is-linear .ensures) (c .if2 .left) _ u),
-)
+search-again-3 c =
+    let at-part-of = c .before .before in
+    let at-search-test = at-part-of .before .before .before .before in
+    let at-search = at-search-test .before in
+    let entry = at-search .before .before .before .before .before in (
+      omega arith,
+      at-search .search .inv .1,
+      at-search .search .inv .2,
+      left.digits-on _ _ _ _ _ (at-search .search .inv .3) (omega (arith, at-search-test .search-test .taken))
+          (λ u l h. laws.nonlinear-unmet _ _ _ _ _ _ _ (entry .pre .0) (omega arith)
+          (omega (arith, entry .pre .1, at-search-test .search-test .taken)) _ (at-part-of .part-of .ensures) _ (c .before .is-linear .ensures)
+          (c .if2 .left) _ u),
+    )
 
 search-less-4 : tie.Need-search-less-4 Inv-loop μ-loop Inv-search μ-search
 search-less-4 c = search needs
 
 search-again-4 : tie.Need-search-again-4 Inv-loop μ-loop Inv-search μ-search
 search-again-4 c =
+    let at-search-test = c .before .before in
+    let at-search = at-search-test .before in
     let a = c .before .before .before .before .before .before .before .before in (
       omega arith,
-      c .before .before .before .search .inv .1,
-      c .before .before .before .search .inv .2,
-      left.digits-on _ _ _ _ _ (c .before .before .before .search .inv .3) (omega (arith, c .before .before .search-test .taken))
-          (λ u l h. laws.below-digits _ _ _ (a .pre .6) _ _ (omega arith) (omega (arith, a .pre .1)) (a .pre .3) (laws.view-marked _ _ _ _ (a .pre .5)) (c .if1 .left) u l h),
+      at-search .search .inv .1,
+      at-search .search .inv .2,
+      left.digits-on _ _ _ _ _ (at-search .search .inv .3) (omega (arith, at-search-test .search-test .taken))
+          (λ u l h. laws.below-digits _ _ _ (a .pre .6) _ _ (omega arith) (omega (arith, a .pre .1)) (a .pre .3)
+          (laws.view-marked _ _ _ _ (a .pre .5)) (c .if1 .left) u l h),
     )
 
 returns : tie.Need-returns Inv-loop μ-loop Inv-search μ-search
@@ -165,13 +212,25 @@ returns c =
     )
 
 returns-2 : tie.Need-returns-2 Inv-loop μ-loop Inv-search μ-search
-returns-2 c = (
-  omega arith,
-  omega arith,
-  λ later.
-      left.reference-hit _ _ _ _ _ _ (c .before .before .before .before .before .loop .inv .3) (omega arith) (omega (arith, c .before .before .before .before .before .before .before .before .before .before .before .before .before .before .before .before .before .before .before .before .pre .0 .is-n))
-      (laws.reference-met _ _ _ _ _ _ _ (c .before .before .before .before .before .before .before .before .before .before .before .before .before .before .before .before .before .before .before .before .pre .0) (omega arith) (omega (arith, c .before .before .before .before .before .before .before .before .before .before .before .before .before .before .before .before .before .before .before .before .pre .1)) _ (c .before .before .before .before .before .before .before .before .before .before .part-of .ensures) _ (c .before .before .before .before .before .before .before .before .before .is-linear .ensures) (c .before .before .before .before .before .before .before .before .if2 .taken) _ (c .before .before .before .before .before .before .before .reduced-form .ensures) _ _ _ (c .before .separated .ensures) (c .before .before .before .before .before .before .if3 .taken) (c .before .before .before .if4 .taken) (c .if5 .taken)) later,
-)
+returns-2 c =
+    let at-if4 = c .before .before .before in
+    let at-loop-test = at-if4 .before in
+    let at-loop = at-loop-test .before in
+    let at-if3 = at-loop .before in
+    let at-reduced-form = at-if3 .before in
+    let at-if2 = at-reduced-form .before in
+    let at-is-linear = at-if2 .before in
+    let at-part-of = at-is-linear .before in
+    let at-search-test = at-part-of .before .before .before .before in
+    let entry = at-search-test .before .before .before .before .before .before in (
+      omega (arith, at-search-test .search-test .taken),
+      omega (arith, at-loop-test .loop-test .taken),
+      λ later.
+          left.reference-hit _ _ _ _ _ _ (at-loop .loop .inv .3) (omega arith) (omega (arith, entry .pre .0 .is-n, at-loop-test .loop-test .taken))
+          (laws.reference-met _ _ _ _ _ _ _ (entry .pre .0) (omega arith) (omega (arith, entry .pre .1, at-search-test .search-test .taken)) _
+          (at-part-of .part-of .ensures) _ (at-is-linear .is-linear .ensures) (at-if2 .if2 .taken) _ (at-reduced-form .reduced-form .ensures) _ _
+          _ (c .before .separated .ensures) (at-if3 .if3 .taken) (at-if4 .if4 .taken) (c .if5 .taken)) later,
+    )
 
 pub digits-for-spec : {M : Type 1} → statement M
 digits-for-spec =

@@ -35,7 +35,9 @@ loop-less : tie.Need-loop-less Inv-loop μ-loop
 loop-less c = search needs
 
 loop-again : tie.Need-loop-again Inv-loop μ-loop
-loop-again c = (omega arith, λ b. laws.passed-on _ _ (c .before .before .before .loop .inv .1 b) (sym (c .before .is-live .ensures b) ∙ c .if1 .left))
+loop-again c =
+    let at-loop = c .before .before .before in
+    (omega arith, λ b. laws.passed-on _ _ (at-loop .loop .inv .1 b) (sym (c .before .is-live .ensures b) ∙ c .if1 .left))
 
 returns-2 : tie.Need-returns-2 Inv-loop μ-loop
 returns-2 c = λ b. laws.first-none _ _ _ _ (c .before .loop .inv .1 b) (c .loop-test .left)

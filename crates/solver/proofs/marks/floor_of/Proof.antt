@@ -33,19 +33,49 @@ unmarked-in-requires : tie.Need-unmarked-in-requires
 unmarked-in-requires c κs = search needs
 
 returns : tie.Need-returns
-returns c = laws.floor-unnamed _ _ _ _ _ _ _ (c .before .before .before .before .before .before .before .before .before .before .before .pre .0) (c .before .before .before .before .before .before .before .before .before .before .before .pre .1) (c .before .before .before .before .before .before .before .before .before .before .before .pre .2) _ (c .before .before .before .before .before .before .part-of .ensures) _ (c .before .before .before .before .before .is-linear .ensures) (not-true _ (c .before .before .before .before .if1 .taken)) _ _ (c .before .before .before .after-form .ensures) (c .before .before .after-form2 .ensures) _ (c .before .unmarked-in .ensures) (c .if2 .taken)
+returns c =
+    let at-after-form2 = c .before .before in
+    let at-after-form = at-after-form2 .before in
+    let at-if1 = at-after-form .before in
+    let at-is-linear = at-if1 .before in
+    let at-part-of = at-is-linear .before in
+    let entry = at-part-of .before .before .before .before .before in
+    laws.floor-unnamed _ _ _ _ _ _ _ (entry .pre .0) (entry .pre .1) (entry .pre .2) _ (at-part-of .part-of .ensures) _
+    (at-is-linear .is-linear .ensures) (not-true _ (at-if1 .if1 .taken)) _ _ (at-after-form .after-form .ensures)
+    (at-after-form2 .after-form2 .ensures) _ (c .before .unmarked-in .ensures) (c .if2 .taken)
 
 product-met-requires : tie.Need-product-met-requires
 product-met-requires c κs = search needs
 
 returns-2 : tie.Need-returns-2
-returns-2 c = laws.floor-unmet _ _ _ _ _ _ _ (c .before .before .before .before .before .before .before .before .before .before .before .before .before .pre .0) (c .before .before .before .before .before .before .before .before .before .before .before .before .before .pre .1) (c .before .before .before .before .before .before .before .before .before .before .before .before .before .pre .2) _ (c .before .before .before .before .before .before .before .before .part-of .ensures) _ (c .before .before .before .before .before .before .before .is-linear .ensures) (not-true _ (c .before .before .before .before .before .before .if1 .taken)) _ _ (c .before .before .before .before .before .after-form .ensures) (c .before .before .before .before .after-form2 .ensures) _ (c .before .before .before .unmarked-in .ensures) _ (c .before .product-met .ensures) (not-true _ (c .if3 .taken))
+returns-2 c =
+    let at-unmarked-in = c .before .before .before in
+    let at-after-form2 = at-unmarked-in .before in
+    let at-after-form = at-after-form2 .before in
+    let at-if1 = at-after-form .before in
+    let at-is-linear = at-if1 .before in
+    let at-part-of = at-is-linear .before in
+    let entry = at-part-of .before .before .before .before .before in
+    laws.floor-unmet _ _ _ _ _ _ _ (entry .pre .0) (entry .pre .1) (entry .pre .2) _ (at-part-of .part-of .ensures) _
+    (at-is-linear .is-linear .ensures) (not-true _ (at-if1 .if1 .taken)) _ _ (at-after-form .after-form .ensures)
+    (at-after-form2 .after-form2 .ensures) _ (at-unmarked-in .unmarked-in .ensures) _ (c .before .product-met .ensures)
+    (not-true _ (c .if3 .taken))
 
 cast-result : tie.Need-cast-result
 cast-result c = search needs
 
 returns-3 : tie.Need-returns-3
-returns-3 c = laws.floor-product _ _ _ _ _ _ _ (c .before .before .before .before .before .before .before .before .before .before .before .before .before .pre .0) (c .before .before .before .before .before .before .before .before .before .before .before .before .before .pre .1) (c .before .before .before .before .before .before .before .before .before .before .before .before .before .pre .2) _ (c .before .before .before .before .before .before .before .before .part-of .ensures) _ (c .before .before .before .before .before .before .before .is-linear .ensures) (not-true _ (c .before .before .before .before .before .before .if1 .taken)) _ _ (c .before .before .before .before .before .after-form .ensures) (c .before .before .before .before .after-form2 .ensures) _ (c .before .before .before .unmarked-in .ensures)
+returns-3 c =
+    let at-unmarked-in = c .before .before .before in
+    let at-after-form2 = at-unmarked-in .before in
+    let at-after-form = at-after-form2 .before in
+    let at-if1 = at-after-form .before in
+    let at-is-linear = at-if1 .before in
+    let at-part-of = at-is-linear .before in
+    let entry = at-part-of .before .before .before .before .before in
+    laws.floor-product _ _ _ _ _ _ _ (entry .pre .0) (entry .pre .1) (entry .pre .2) _ (at-part-of .part-of .ensures) _
+    (at-is-linear .is-linear .ensures) (not-true _ (at-if1 .if1 .taken)) _ _ (at-after-form .after-form .ensures)
+    (at-after-form2 .after-form2 .ensures) _ (at-unmarked-in .unmarked-in .ensures)
 
 reduced-form-requires : tie.Need-reduced-form-requires
 reduced-form-requires c κs = search needs
@@ -55,42 +85,80 @@ slice-aggregate-first-live c = search needs
 
 first-live-requires : tie.Need-first-live-requires
 first-live-requires c κs =
-    let s = laws.sizes (c .before .before .before .before .before .before .before .before .before .pre .0) in
+    let entry = c .before .before .before .before .before .before .before .before .before in
+    let s = laws.sizes (entry .pre .0) in
     let l = c .before .reduced-form .ok in
-    (omega arith, omega (arith, c .before .before .before .before .before .before .before .before .before .pre .0 .marks-sized))
+    (omega arith, omega (arith, entry .pre .0 .marks-sized))
 
 returns-4 : tie.Need-returns-4
-returns-4 c = laws.floor-none _ _ _ _ _ _ _ (c .before .before .before .before .before .before .before .before .before .before .before .pre .0) (c .before .before .before .before .before .before .before .before .before .before .before .pre .1) (c .before .before .before .before .before .before .before .before .before .before .before .pre .2) _ (c .before .before .before .before .before .before .part-of .ensures) _ (c .before .before .before .before .before .is-linear .ensures) (not-false _ (c .before .before .before .before .if1 .left)) _ (c .before .before .before .reduced-form .ensures) _ (c .before .first-live .ensures) (c .if4 .taken)
+returns-4 c =
+    let at-reduced-form = c .before .before .before in
+    let at-if1 = at-reduced-form .before in
+    let at-is-linear = at-if1 .before in
+    let at-part-of = at-is-linear .before in
+    let entry = at-part-of .before .before .before .before .before in
+    laws.floor-none _ _ _ _ _ _ _ (entry .pre .0) (entry .pre .1) (entry .pre .2) _ (at-part-of .part-of .ensures) _
+    (at-is-linear .is-linear .ensures) (not-false _ (at-if1 .if1 .left)) _ (at-reduced-form .reduced-form .ensures) _
+    (c .before .first-live .ensures) (c .if4 .taken)
 
 slice-aggregate-is-crowded : tie.Need-slice-aggregate-is-crowded
 slice-aggregate-is-crowded c = search needs
 
 is-crowded-requires : tie.Need-is-crowded-requires
 is-crowded-requires c κs =
-    let s = laws.sizes (c .before .before .before .before .before .before .before .before .before .before .before .before .pre .0) in
-    let l = c .before .before .before .before .reduced-form .ok in
-    (omega arith, omega (arith, c .before .before .before .before .before .before .before .before .before .before .before .before .pre .0 .bounds-sized), omega (arith, c .before .before .before .before .before .before .before .before .before .before .before .before .pre .0 .marks-sized), omega arith)
+    let at-reduced-form = c .before .before .before .before in
+    let entry = at-reduced-form .before .before .before .before .before .before .before .before in
+    let s = laws.sizes (entry .pre .0) in
+    let l = at-reduced-form .reduced-form .ok in
+    (omega arith, omega (arith, entry .pre .0 .bounds-sized), omega (arith, entry .pre .0 .marks-sized), omega arith)
 
 returns-5 : tie.Need-returns-5
-returns-5 c = laws.floor-crowded _ _ _ _ _ _ _ (c .before .before .before .before .before .before .before .before .before .before .before .before .before .before .pre .0) (c .before .before .before .before .before .before .before .before .before .before .before .before .before .before .pre .1) (c .before .before .before .before .before .before .before .before .before .before .before .before .before .before .pre .2) _ (c .before .before .before .before .before .before .before .before .before .part-of .ensures) _ (c .before .before .before .before .before .before .before .before .is-linear .ensures) (not-false _ (c .before .before .before .before .before .before .before .if1 .left)) _ (c .before .before .before .before .before .before .reduced-form .ensures) (c .before .is-crowded .ensures (c .if5 .taken))
+returns-5 c =
+    let at-reduced-form = c .before .before .before .before .before .before in
+    let at-if1 = at-reduced-form .before in
+    let at-is-linear = at-if1 .before in
+    let at-part-of = at-is-linear .before in
+    let entry = at-part-of .before .before .before .before .before in
+    laws.floor-crowded _ _ _ _ _ _ _ (entry .pre .0) (entry .pre .1) (entry .pre .2) _ (at-part-of .part-of .ensures) _
+    (at-is-linear .is-linear .ensures) (not-false _ (at-if1 .if1 .left)) _ (at-reduced-form .reduced-form .ensures)
+    (c .before .is-crowded .ensures (c .if5 .taken))
 
 slice-aggregate-has-reference : tie.Need-slice-aggregate-has-reference
 slice-aggregate-has-reference c = search needs
 
 has-reference-requires : tie.Need-has-reference-requires
 has-reference-requires c κs =
-    let s = laws.sizes (c .before .before .before .before .before .before .before .before .before .before .before .before .before .before .before .pre .0) in
-    let l = c .before .before .before .before .before .before .before .reduced-form .ok in
+    let at-reduced-form = c .before .before .before .before .before .before .before in
+    let entry = at-reduced-form .before .before .before .before .before .before .before .before in
+    let s = laws.sizes (entry .pre .0) in
+    let l = at-reduced-form .reduced-form .ok in
     (omega arith, omega arith)
 
 returns-6 : tie.Need-returns-6
-returns-6 c = laws.floor-unreferred _ _ _ _ _ _ _ (c .before .before .before .before .before .before .before .before .before .before .before .before .before .before .before .before .before .pre .0) (c .before .before .before .before .before .before .before .before .before .before .before .before .before .before .before .before .before .pre .1) (c .before .before .before .before .before .before .before .before .before .before .before .before .before .before .before .before .before .pre .2) _ (c .before .before .before .before .before .before .before .before .before .before .before .before .part-of .ensures) _ (c .before .before .before .before .before .before .before .before .before .before .before .is-linear .ensures) (not-false _ (c .before .before .before .before .before .before .before .before .before .before .if1 .left)) _ (c .before .before .before .before .before .before .before .before .before .reduced-form .ensures) (c .before .has-reference .ensures (not-true _ (c .if6 .taken)))
+returns-6 c =
+    let at-reduced-form = c .before .before .before .before .before .before .before .before .before in
+    let at-if1 = at-reduced-form .before in
+    let at-is-linear = at-if1 .before in
+    let at-part-of = at-is-linear .before in
+    let entry = at-part-of .before .before .before .before .before in
+    laws.floor-unreferred _ _ _ _ _ _ _ (entry .pre .0) (entry .pre .1) (entry .pre .2) _ (at-part-of .part-of .ensures) _
+    (at-is-linear .is-linear .ensures) (not-false _ (at-if1 .if1 .left)) _ (at-reduced-form .reduced-form .ensures)
+    (c .before .has-reference .ensures (not-true _ (c .if6 .taken)))
 
 cast-result-2 : tie.Need-cast-result-2
 cast-result-2 c = search needs
 
 returns-7 : tie.Need-returns-7
-returns-7 c = laws.floor-digits _ _ _ _ _ _ _ (c .before .before .before .before .before .before .before .before .before .before .before .before .before .before .before .before .before .pre .0) (c .before .before .before .before .before .before .before .before .before .before .before .before .before .before .before .before .before .pre .1) (c .before .before .before .before .before .before .before .before .before .before .before .before .before .before .before .before .before .pre .2) _ (c .before .before .before .before .before .before .before .before .before .before .before .before .part-of .ensures) _ (c .before .before .before .before .before .before .before .before .before .before .before .is-linear .ensures) (not-false _ (c .before .before .before .before .before .before .before .before .before .before .if1 .left)) _ (c .before .before .before .before .before .before .before .before .before .reduced-form .ensures) _ (c .before .before .before .before .before .before .before .first-live .ensures)
+returns-7 c =
+    let at-first-live = c .before .before .before .before .before .before .before in
+    let at-reduced-form = at-first-live .before .before in
+    let at-if1 = at-reduced-form .before in
+    let at-is-linear = at-if1 .before in
+    let at-part-of = at-is-linear .before in
+    let entry = at-part-of .before .before .before .before .before in
+    laws.floor-digits _ _ _ _ _ _ _ (entry .pre .0) (entry .pre .1) (entry .pre .2) _ (at-part-of .part-of .ensures) _
+    (at-is-linear .is-linear .ensures) (not-false _ (at-if1 .if1 .left)) _ (at-reduced-form .reduced-form .ensures) _
+    (at-first-live .first-live .ensures)
 
 pub floor-of-spec : {M : Type 1} → statement M
 floor-of-spec =

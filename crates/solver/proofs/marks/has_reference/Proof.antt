@@ -44,13 +44,21 @@ loop-less : tie.Need-loop-less Inv-loop μ-loop
 loop-less c = search needs
 
 loop-again : tie.Need-loop-again Inv-loop μ-loop
-loop-again c = (omega arith, laws.unreferred-on _ _ _ _ _ (c .before .before .before .before .before .loop .inv .1) (λ e. sym (laws.tested _ _ _ _ _ _ (c .before .before .before .before .before .before .before .before .before .pre .1) (c .before .separated .ensures)) ∙ c .if2 .left))
+loop-again c =
+    let at-loop = c .before .before .before .before .before in
+    let entry = at-loop .before .before .before .before in (
+      omega arith,
+      laws.unreferred-on _ _ _ _ _ (at-loop .loop .inv .1)
+          (λ e. sym (laws.tested _ _ _ _ _ _ (entry .pre .1) (c .before .separated .ensures)) ∙ c .if2 .left),
+    )
 
 loop-less-2 : tie.Need-loop-less-2 Inv-loop μ-loop
 loop-less-2 c = search needs
 
 loop-again-2 : tie.Need-loop-again-2 Inv-loop μ-loop
-loop-again-2 c = (omega arith, laws.unreferred-on _ _ _ _ _ (c .before .before .before .loop .inv .1) (λ e. true-or-false _ e (laws.absent _ _ (c .if1 .left))))
+loop-again-2 c =
+    let at-loop = c .before .before .before in
+    (omega arith, laws.unreferred-on _ _ _ _ _ (at-loop .loop .inv .1) (λ e. true-or-false _ e (laws.absent _ _ (c .if1 .left))))
 
 returns-2 : tie.Need-returns-2 Inv-loop μ-loop
 returns-2 c = λ e u l m h. c .before .loop .inv .1 .fails u l (omega arith) h

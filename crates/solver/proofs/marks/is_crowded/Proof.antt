@@ -42,13 +42,28 @@ sub-if2 : tie.Need-sub-if2 Inv-loop μ-loop
 sub-if2 c = search needs
 
 returns : tie.Need-returns Inv-loop μ-loop
-returns c = λ e. laws.held-two _ _ _ _ _ (c .before .before .before .before .before .before .loop .inv .1) _ (c .before .before .before .before .before .loop-test .taken) (c .if3 .taken) (sym (laws.view-live _ _ _ _ _ _ (c .before .before .before .before .is-live .ensures)) ∙ c .before .before .before .if1 .taken) (laws.bound-read _ _ _ _ _ (omega arith) (c .before .if2 .taken))
+returns c =
+    let at-if1 = c .before .before .before in
+    let at-is-live = at-if1 .before in
+    let at-loop-test = at-is-live .before in
+    let at-loop = at-loop-test .before in
+    λ e. laws.held-two _ _ _ _ _ (at-loop .loop .inv .1) _ (at-loop-test .loop-test .taken) (c .if3 .taken)
+    (sym (laws.view-live _ _ _ _ _ _ (at-is-live .is-live .ensures)) ∙ at-if1 .if1 .taken)
+    (laws.bound-read _ _ _ _ _ (omega arith) (c .before .if2 .taken))
 
 loop-less : tie.Need-loop-less Inv-loop μ-loop
 loop-less c = search needs
 
 loop-again : tie.Need-loop-again Inv-loop μ-loop
-loop-again c = (omega arith, laws.held-new _ _ _ _ _ (c .before .before .before .before .before .before .loop .inv .1) (sym (laws.view-live _ _ _ _ _ _ (c .before .before .before .before .is-live .ensures)) ∙ c .before .before .before .if1 .taken) (laws.bound-read _ _ _ _ _ (omega arith) (c .before .if2 .taken)))
+loop-again c =
+    let at-if1 = c .before .before .before in
+    let at-is-live = at-if1 .before in
+    let at-loop = at-is-live .before .before in (
+      omega arith,
+      laws.held-new _ _ _ _ _ (at-loop .loop .inv .1)
+          (sym (laws.view-live _ _ _ _ _ _ (at-is-live .is-live .ensures)) ∙ at-if1 .if1 .taken)
+          (laws.bound-read _ _ _ _ _ (omega arith) (c .before .if2 .taken)),
+    )
 
 loop-less-2 : tie.Need-loop-less-2 Inv-loop μ-loop
 loop-less-2 c = search needs

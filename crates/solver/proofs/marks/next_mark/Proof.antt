@@ -45,7 +45,9 @@ cast-if1 : tie.Need-cast-if1 Inv-loop μ-loop
 cast-if1 c = search needs
 
 shared-slice-read-if1 : tie.Need-shared-slice-read-if1 Inv-loop μ-loop
-shared-slice-read-if1 c = let s = sizes (c .before .before .before .before .before .before .before .before .before .pre .0) in omega (arith, c .before .before .before .before .before .before .before .before .before .pre .0 .marks-sized)
+shared-slice-read-if1 c =
+    let entry = c .before .before .before .before .before .before .before .before .before in
+    let s = sizes (entry .pre .0) in omega (arith, entry .pre .0 .marks-sized)
 
 cast-if2 : tie.Need-cast-if2 Inv-loop μ-loop
 cast-if2 c = search needs
@@ -54,55 +56,137 @@ mul-if2 : tie.Need-mul-if2 Inv-loop μ-loop
 mul-if2 c = search needs
 
 shared-slice-read-if2 : tie.Need-shared-slice-read-if2 Inv-loop μ-loop
-shared-slice-read-if2 c = let s = sizes (c .before .before .before .before .before .before .before .before .before .before .before .pre .0) in omega (arith, c .before .before .before .before .before .before .before .before .before .before .before .pre .0 .bounds-sized)
+shared-slice-read-if2 c =
+    let entry = c .before .before .before .before .before .before .before .before .before .before .before in
+    let s = sizes (entry .pre .0) in omega (arith, entry .pre .0 .bounds-sized)
 
 taken-requires : tie.Need-taken-requires Inv-loop μ-loop
 taken-requires c κs = search needs
 
 returns : tie.Need-returns Inv-loop μ-loop
-returns c = c .taken .ensures ∙ laws.next-zero _ _ _ _ _ _ _ (c .before .before .before .before .before .before .before .before .before .before .before .before .before .pre .0) (c .before .before .before .before .before .before .before .before .before .before .before .before .before .pre .1) _ (c .before .before .before .before .before .before .before .before .before .before .before .before .before .pre .3) _ (c .before .before .before .before .before .before .loop .inv .1) (c .before .before .before .before .before .loop-test .taken) (c .before .before .before .if1 .taken) (c .before .if2 .taken)
+returns c =
+    let at-if1 = c .before .before .before in
+    let at-loop-test = at-if1 .before .before in
+    let at-loop = at-loop-test .before in
+    let entry = at-loop .before .before .before .before .before .before .before in
+    c .taken .ensures ∙ laws.next-zero _ _ _ _ _ _ _ (entry .pre .0) (entry .pre .1) _ (entry .pre .3) _ (at-loop .loop .inv .1)
+    (at-loop-test .loop-test .taken) (at-if1 .if1 .taken) (c .before .if2 .taken)
 
 cast-if3 : tie.Need-cast-if3 Inv-loop μ-loop
 cast-if3 c = search needs
 
 product-for-requires : tie.Need-product-for-requires Inv-loop μ-loop
-product-for-requires c κs = (c .before .before .before .before .before .before .before .before .before .before .before .before .before .pre .0 .prepared, c .before .before .before .before .before .before .before .before .before .before .before .before .before .pre .1, c .before .before .before .before .before .before .before .before .before .before .before .before .before .pre .2, omega arith, laws.unmarked _ _ _ _ _ _ _ (c .before .before .before .before .before .before .before .before .before .before .before .before .before .pre .0) (c .before .before .before .before .before .before .before .before .before .before .before .before .before .pre .1) _ (c .before .before .before .before .before .before .before .before .before .before .before .before .before .pre .3) _ (c .before .before .before .before .before .before .loop .inv .1) (c .before .before .before .before .before .loop-test .taken) (c .before .before .before .if1 .taken))
+product-for-requires c κs =
+    let at-if1 = c .before .before .before in
+    let at-loop-test = at-if1 .before .before in
+    let at-loop = at-loop-test .before in
+    let entry = at-loop .before .before .before .before .before .before .before in (
+      entry .pre .0 .prepared,
+      entry .pre .1,
+      entry .pre .2,
+      omega arith,
+      laws.unmarked _ _ _ _ _ _ _ (entry .pre .0) (entry .pre .1) _
+          (entry .pre .3) _ (at-loop .loop .inv .1) (at-loop-test .loop-test .taken) (at-if1 .if1 .taken),
+    )
 
 taken-requires-2 : tie.Need-taken-requires-2 Inv-loop μ-loop
 taken-requires-2 c κs = search needs
 
 returns-2 : tie.Need-returns-2 Inv-loop μ-loop
-returns-2 c = c .taken2 .ensures ∙ laws.next-product _ _ _ _ _ _ _ (c .before .before .before .before .before .before .before .before .before .before .before .before .before .before .before .before .pre .0) (c .before .before .before .before .before .before .before .before .before .before .before .before .before .before .before .before .pre .1) _ (c .before .before .before .before .before .before .before .before .before .before .before .before .before .before .before .before .pre .3) _ (c .before .before .before .before .before .before .before .before .before .loop .inv .1) (c .before .before .before .before .before .before .before .before .loop-test .taken) (c .before .before .before .before .before .before .if1 .taken) (c .before .before .before .before .if2 .left) _ (c .before .before .product-for .ensures .1) (c .before .if4 .taken)
+returns-2 c =
+    let at-product-for = c .before .before in
+    let at-if2 = at-product-for .before .before in
+    let at-if1 = at-if2 .before .before in
+    let at-loop-test = at-if1 .before .before in
+    let at-loop = at-loop-test .before in
+    let entry = at-loop .before .before .before .before .before .before .before in
+    c .taken2 .ensures ∙ laws.next-product _ _ _ _ _ _ _ (entry .pre .0) (entry .pre .1) _ (entry .pre .3) _ (at-loop .loop .inv .1)
+    (at-loop-test .loop-test .taken) (at-if1 .if1 .taken) (at-if2 .if2 .left) _ (at-product-for .product-for .ensures .1) (c .before .if4 .taken)
 
 digits-for-requires : tie.Need-digits-for-requires Inv-loop μ-loop
-digits-for-requires c κs = (c .before .before .before .before .before .before .before .before .before .before .before .before .before .before .before .pre .0, c .before .before .before .before .before .before .before .before .before .before .before .before .before .before .before .pre .1, c .before .before .before .before .before .before .before .before .before .before .before .before .before .before .before .pre .2, omega arith, omega arith, laws.unmarked _ _ _ _ _ _ _ (c .before .before .before .before .before .before .before .before .before .before .before .before .before .before .before .pre .0) (c .before .before .before .before .before .before .before .before .before .before .before .before .before .before .before .pre .1) _ (c .before .before .before .before .before .before .before .before .before .before .before .before .before .before .before .pre .3) _ (c .before .before .before .before .before .before .before .before .loop .inv .1) (c .before .before .before .before .before .before .before .loop-test .taken) (c .before .before .before .before .before .if1 .taken), c .before .before .before .before .before .before .before .before .before .before .before .before .before .before .before .pre .3)
+digits-for-requires c κs =
+    let at-if1 = c .before .before .before .before .before in
+    let at-loop-test = at-if1 .before .before in
+    let at-loop = at-loop-test .before in
+    let entry = at-loop .before .before .before .before .before .before .before in (
+      entry .pre .0,
+      entry .pre .1,
+      entry .pre .2,
+      omega arith,
+      omega arith,
+      laws.unmarked _ _ _ _ _ _ _ (entry .pre .0) (entry .pre .1) _
+          (entry .pre .3) _ (at-loop .loop .inv .1) (at-loop-test .loop-test .taken) (at-if1 .if1 .taken),
+      entry .pre .3,
+    )
 
 taken-requires-3 : tie.Need-taken-requires-3 Inv-loop μ-loop
 taken-requires-3 c κs = search needs
 
 returns-3 : tie.Need-returns-3 Inv-loop μ-loop
-returns-3 c = c .taken3 .ensures ∙ laws.next-digits _ _ _ _ _ _ _ (c .before .before .before .before .before .before .before .before .before .before .before .before .before .before .before .before .before .before .before .pre .0) (c .before .before .before .before .before .before .before .before .before .before .before .before .before .before .before .before .before .before .before .pre .1) _ (c .before .before .before .before .before .before .before .before .before .before .before .before .before .before .before .before .before .before .before .pre .3) _ (c .before .before .before .before .before .before .before .before .before .before .before .before .loop .inv .1) (c .before .before .before .before .before .before .before .before .before .before .before .loop-test .taken) (c .before .before .before .before .before .before .before .before .before .if1 .taken) (c .before .before .before .before .before .before .before .if2 .left) _ (c .before .before .before .before .before .product-for .ensures .1) (c .before .before .before .before .if4 .left) _ _ (c .before .before .before .digits-for .ensures .2) (c .before .if5 .taken)
+returns-3 c =
+    let at-digits-for = c .before .before .before in
+    let at-if4 = at-digits-for .before in
+    let at-product-for = at-if4 .before in
+    let at-if2 = at-product-for .before .before in
+    let at-if1 = at-if2 .before .before in
+    let at-loop-test = at-if1 .before .before in
+    let at-loop = at-loop-test .before in
+    let entry = at-loop .before .before .before .before .before .before .before in
+    c .taken3 .ensures ∙ laws.next-digits _ _ _ _ _ _ _ (entry .pre .0) (entry .pre .1) _ (entry .pre .3) _ (at-loop .loop .inv .1)
+    (at-loop-test .loop-test .taken) (at-if1 .if1 .taken) (at-if2 .if2 .left) _ (at-product-for .product-for .ensures .1) (at-if4 .if4 .left) _ _
+    (at-digits-for .digits-for .ensures .2) (c .before .if5 .taken)
 
 loop-less : tie.Need-loop-less Inv-loop μ-loop
 loop-less c = search needs
 
 loop-again : tie.Need-loop-again Inv-loop μ-loop
-loop-again c = (omega arith, laws.next-on _ _ _ _ _ _ _ (c .before .before .before .before .before .before .before .before .before .before .before .before .before .before .before .before .before .before .pre .0) (c .before .before .before .before .before .before .before .before .before .before .before .before .before .before .before .before .before .before .pre .1) _ (c .before .before .before .before .before .before .before .before .before .before .before .before .before .before .before .before .before .before .pre .3) _ (c .before .before .before .before .before .before .before .before .before .before .before .loop .inv .1) (c .before .before .before .before .before .before .before .before .before .before .loop-test .taken) (c .before .before .before .before .before .before .before .before .if1 .taken) (c .before .before .before .before .before .before .if2 .left) _ (c .before .before .before .before .product-for .ensures .1) (c .before .before .before .if4 .left) _ _ (c .before .before .digits-for .ensures .2) (c .if5 .left))
+loop-again c =
+    let at-digits-for = c .before .before in
+    let at-if4 = at-digits-for .before in
+    let at-product-for = at-if4 .before in
+    let at-if2 = at-product-for .before .before in
+    let at-if1 = at-if2 .before .before in
+    let at-loop-test = at-if1 .before .before in
+    let at-loop = at-loop-test .before in
+    let entry = at-loop .before .before .before .before .before .before .before in (
+      omega arith,
+      laws.next-on _ _ _ _ _ _ _ (entry .pre .0) (entry .pre .1) _ (entry .pre .3) _ (at-loop .loop .inv .1)
+          (at-loop-test .loop-test .taken) (at-if1 .if1 .taken) (at-if2 .if2 .left) _ (at-product-for .product-for .ensures .1) (at-if4 .if4 .left) _ _
+          (at-digits-for .digits-for .ensures .2) (c .if5 .left),
+    )
 
 loop-less-2 : tie.Need-loop-less-2 Inv-loop μ-loop
 loop-less-2 c = search needs
 
 loop-again-2 : tie.Need-loop-again-2 Inv-loop μ-loop
-loop-again-2 c = (omega arith, laws.next-below _ _ _ _ _ _ _ (c .before .before .before .before .before .before .before .before .before .before .before .before .before .pre .0) (c .before .before .before .before .before .before .before .before .before .before .before .before .before .pre .1) _ (c .before .before .before .before .before .before .before .before .before .before .before .before .before .pre .3) _ (c .before .before .before .before .before .before .loop .inv .1) (c .before .before .before .before .before .loop-test .taken) (c .before .before .before .if1 .taken) (c .before .if2 .left) _ (c .before .before .before .before .before .before .before .before .least .ensures) (c .if3 .left))
+loop-again-2 c =
+    let at-if1 = c .before .before .before in
+    let at-loop-test = at-if1 .before .before in
+    let at-loop = at-loop-test .before in
+    let at-least = at-loop .before .before in
+    let entry = at-least .before .before .before .before .before in (
+      omega arith,
+      laws.next-below _ _ _ _ _ _ _ (entry .pre .0) (entry .pre .1) _ (entry .pre .3) _ (at-loop .loop .inv .1)
+          (at-loop-test .loop-test .taken) (at-if1 .if1 .taken) (c .before .if2 .left) _ (at-least .least .ensures) (c .if3 .left),
+    )
 
 loop-less-3 : tie.Need-loop-less-3 Inv-loop μ-loop
 loop-less-3 c = search needs
 
 loop-again-3 : tie.Need-loop-again-3 Inv-loop μ-loop
-loop-again-3 c = (omega arith, laws.next-marked _ _ _ _ _ _ _ (c .before .before .before .before .before .before .before .before .before .before .pre .0) (c .before .before .before .before .before .before .before .before .before .before .pre .1) _ (c .before .before .before .before .before .before .before .before .before .before .pre .3) _ (c .before .before .before .loop .inv .1) (c .before .before .loop-test .taken) (c .if1 .left))
+loop-again-3 c =
+    let at-loop-test = c .before .before in
+    let at-loop = at-loop-test .before in
+    let entry = at-loop .before .before .before .before .before .before .before in (
+      omega arith,
+      laws.next-marked _ _ _ _ _ _ _ (entry .pre .0) (entry .pre .1) _ (entry .pre .3) _ (at-loop .loop .inv .1)
+          (at-loop-test .loop-test .taken) (c .if1 .left),
+    )
 
 returns-4 : tie.Need-returns-4 Inv-loop μ-loop
-returns-4 c = laws.next-end _ _ _ _ _ _ _ (c .before .before .before .before .before .before .before .before .pre .0) (c .before .before .before .before .before .before .before .before .pre .1) _ (c .before .before .before .before .before .before .before .before .pre .3) _ (c .before .loop .inv .1) (c .loop-test .left)
+returns-4 c =
+    let entry = c .before .before .before .before .before .before .before .before in
+    laws.next-end _ _ _ _ _ _ _ (entry .pre .0) (entry .pre .1) _ (entry .pre .3) _ (c .before .loop .inv .1) (c .loop-test .left)
 
 pub next-mark-spec : {M : Type 1} → statement M
 next-mark-spec =

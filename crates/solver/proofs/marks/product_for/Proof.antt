@@ -44,35 +44,48 @@ product-met-requires : tie.Need-product-met-requires Inv-loop μ-loop
 product-met-requires c κs = search needs
 
 returns : tie.Need-returns Inv-loop μ-loop
-returns c = (
-  omega arith,
-  λ b F later.
-      laws.product-hit _ _ _ _ _ (c .before .before .before .before .before .before .before .loop .inv .1 b F) (c .before .before .before .before .before .before .loop-test .taken)
-      (product-part _ _ (c .before .before .before .before .before .before .before .before .before .before .before .pre .0) _ (omega arith) (omega (arith, c .before .before .before .before .before .before .before .before .before .before .before .pre .1)) _ (c .before .before .part-of .ensures) b _ _ _ (c .before .product-met .ensures) ∙ c .if2 .taken)
-      later,
-)
+returns c =
+    let at-part-of = c .before .before in
+    let at-loop-test = at-part-of .before .before .before .before in
+    let at-loop = at-loop-test .before in
+    let entry = at-loop .before .before .before .before in (
+      omega arith,
+      λ b F later.
+          laws.product-hit _ _ _ _ _ (at-loop .loop .inv .1 b F) (at-loop-test .loop-test .taken)
+          (product-part _ _ (entry .pre .0) _ (omega arith) (omega (arith, entry .pre .1)) _ (at-part-of .part-of .ensures) b _ _ _
+          (c .before .product-met .ensures) ∙ c .if2 .taken)
+          later,
+    )
 
 loop-less : tie.Need-loop-less Inv-loop μ-loop
 loop-less c = search needs
 
 loop-again : tie.Need-loop-again Inv-loop μ-loop
-loop-again c = (
-  omega arith,
-  λ b F.
-      laws.product-on _ _ _ _ _ (c .before .before .before .before .before .before .before .loop .inv .1 b F) (c .before .before .before .before .before .before .loop-test .taken)
-      (product-part _ _ (c .before .before .before .before .before .before .before .before .before .before .before .pre .0) _ (omega arith) (omega (arith, c .before .before .before .before .before .before .before .before .before .before .before .pre .1)) _ (c .before .before .part-of .ensures) b _ _ _ (c .before .product-met .ensures) ∙ c .if2 .left),
-)
+loop-again c =
+    let at-part-of = c .before .before in
+    let at-loop-test = at-part-of .before .before .before .before in
+    let at-loop = at-loop-test .before in
+    let entry = at-loop .before .before .before .before in (
+      omega arith,
+      λ b F.
+          laws.product-on _ _ _ _ _ (at-loop .loop .inv .1 b F) (at-loop-test .loop-test .taken)
+          (product-part _ _ (entry .pre .0) _ (omega arith) (omega (arith, entry .pre .1)) _ (at-part-of .part-of .ensures) b _ _ _
+          (c .before .product-met .ensures) ∙ c .if2 .left),
+    )
 
 loop-less-2 : tie.Need-loop-less-2 Inv-loop μ-loop
 loop-less-2 c = search needs
 
 loop-again-2 : tie.Need-loop-again-2 Inv-loop μ-loop
-loop-again-2 c = (
-  omega arith,
-  λ b F.
-      laws.product-on _ _ _ _ _ (c .before .before .before .loop .inv .1 b F) (c .before .before .loop-test .taken)
-      (below-product _ _ _ F _ _ (omega arith) (omega (arith, c .before .before .before .before .before .before .before .pre .1)) (c .before .before .before .before .before .before .before .pre .3) (c .before .before .before .before .before .before .before .pre .4) (c .if1 .left)),
-)
+loop-again-2 c =
+    let at-loop-test = c .before .before in
+    let at-loop = at-loop-test .before in
+    let entry = at-loop .before .before .before .before in (
+      omega arith,
+      λ b F.
+          laws.product-on _ _ _ _ _ (at-loop .loop .inv .1 b F) (at-loop-test .loop-test .taken)
+          (below-product _ _ _ F _ _ (omega arith) (omega (arith, entry .pre .1)) (entry .pre .3) (entry .pre .4) (c .if1 .left)),
+    )
 
 returns-2 : tie.Need-returns-2 Inv-loop μ-loop
 returns-2 c = (omega arith, λ b F later. laws.product-end _ _ _ _ _ (c .before .loop .inv .1 b F) (c .loop-test .left) later)

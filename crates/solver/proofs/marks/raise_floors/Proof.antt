@@ -15,7 +15,8 @@ use Rattle.solver.proofs.marks.raise_floors.Lts as lts
 use Rattle.solver.proofs.marks.floor_of.Reads as floor-of-reads
 
 abbrev Inv-loop : tie.InvT-loop
-Inv-loop circuit table bounds marks floors₀ p n m k₀ floors k = (k ≤ m) × (length floors ≡ length floors₀) × Floors (circuitOf circuit) (viewOf p bounds marks) floors
+Inv-loop circuit table bounds marks floors₀ p n m k₀ floors k =
+    (k ≤ m) × (length floors ≡ length floors₀) × Floors (circuitOf circuit) (viewOf p bounds marks) floors
 
 abbrev μ-loop : tie.MeasureT-loop
 μ-loop circuit table bounds marks floors₀ p n m k₀ floors k = m - k
@@ -36,7 +37,9 @@ slice-read-if1 : tie.Need-slice-read-if1 Inv-loop μ-loop
 slice-read-if1 c = search needs
 
 floor-of-requires : tie.Need-floor-of-requires Inv-loop μ-loop
-floor-of-requires c κs = (c .before .before .before .before .before .before .before .before .pre .0, omega arith, omega (arith, c .before .before .before .before .before .before .before .before .pre .1))
+floor-of-requires c κs =
+    let entry = c .before .before .before .before .before .before .before .before in
+    (entry .pre .0, omega arith, omega (arith, entry .pre .1))
 
 cast-floors : tie.Need-cast-floors Inv-loop μ-loop
 cast-floors c = search needs
@@ -52,7 +55,8 @@ loop-less c = search needs
 
 loop-again : tie.Need-loop-again Inv-loop μ-loop
 loop-again c =
-    let l = c .before .before .before .before .loop in (
+    let at-loop = c .before .before .before .before in
+    let l = at-loop .loop in (
       omega arith,
       length-set (l .floors) (l .k + 1) (c .floor-of .result) ∙ l .inv .1,
       floors-set _ _ _ _ _ (l .inv .2) (omega arith) (omega arith) (c .floor-of .ensures),

@@ -16,15 +16,18 @@ use Rattle.derivation.proofs.offsets.part_of.Reads as part-of-reads
 use Rattle.solver.proofs.search.involves.Reads as involves-reads
 
 abbrev Inv-loop : tie.InvT-loop
-Inv-loop circuit table entries₀ m signal k₀ entries k = (k ≤ m) × (length entries ≡ length entries₀) × laws.Forgetting (circuitOf circuit) signal k entries₀ entries
+Inv-loop circuit table entries₀ m signal k₀ entries k =
+    (k ≤ m) × (length entries ≡ length entries₀) × laws.Forgetting (circuitOf circuit) signal k entries₀ entries
 
 abbrev μ-loop : tie.MeasureT-loop
 μ-loop circuit table entries₀ m signal k₀ entries k = m - k
 
 involved : (c : tie.After-involves Inv-loop μ-loop)
-    → c .involves .result ≡ involves (constraintAt (circuitOf (c .before .before .before .before .before .before .before .args .circuit .now)) (c .before .before .before .before .loop .k + 1)) (c .before .before .before .before .before .before .before .args .signal)
+    → c .involves .result ≡ involves (constraintAt (circuitOf (c .before .before .before .before .before .before .before .args .circuit .now))
+    (c .before .before .before .before .loop .k + 1)) (c .before .before .before .before .before .before .before .args .signal)
 involved c =
-    laws.involved-part _ _ (c .before .before .before .before .before .before .before .pre .0) _ (omega arith) (omega arith) _ (c .before .part-of .ensures) _ _ (c .involves .ensures)
+    laws.involved-part _ _ (c .before .before .before .before .before .before .before .pre .0) _ (omega arith) (omega arith) _
+    (c .before .part-of .ensures) _ _ (c .involves .ensures)
 
 loop-holds : tie.Need-loop-holds Inv-loop μ-loop
 loop-holds c = (omega arith, refl, laws.forgetting-start _ _ _)
@@ -52,7 +55,8 @@ loop-less c = search needs
 
 loop-again : tie.Need-loop-again Inv-loop μ-loop
 loop-again c =
-    let l = c .before .before .before .before .before .loop in (
+    let at-loop = c .before .before .before .before .before in
+    let l = at-loop .loop in (
       omega arith,
       length-set (l .entries) (l .k + 1) 0 ∙ l .inv .1,
       laws.forgetting-set _ _ _ _ _ (l .inv .2) _ (involved (c .before)) (omega arith) (c .if1 .taken),
@@ -62,7 +66,9 @@ loop-less-2 : tie.Need-loop-less-2 Inv-loop μ-loop
 loop-less-2 c = search needs
 
 loop-again-2 : tie.Need-loop-again-2 Inv-loop μ-loop
-loop-again-2 c = (omega arith, c .before .before .before .before .before .loop .inv .1, laws.forgetting-on _ _ _ _ _ (c .before .before .before .before .before .loop .inv .2) _ (involved (c .before)) (c .if1 .left))
+loop-again-2 c =
+    let at-loop = c .before .before .before .before .before in
+    (omega arith, at-loop .loop .inv .1, laws.forgetting-on _ _ _ _ _ (at-loop .loop .inv .2) _ (involved (c .before)) (c .if1 .left))
 
 same-length : tie.Need-same-length Inv-loop μ-loop
 same-length c = search needs

@@ -83,12 +83,13 @@ same-length c = search needs
 returns : tie.Need-returns
 unfolding listed
 returns c =
+    let at-high2 = c .before .before in
     let l = c .before .before .before in
     rw (
       l .before .before .low .ensures,
       l .before .high .ensures,
       l .low2 .ensures,
-      c .before .before .high2 .ensures,
+      at-high2 .high2 .ensures,
       c .before .low3 .ensures,
       c .high3 .ensures,
     )

@@ -23,7 +23,10 @@ names-signal-requires-2 c κs = search needs
 
 returns-2 : tie.Need-returns-2
 returns-2 c =
-    laws.involved-b _ _ _ (sym (c .before .before .before .before .names-signal .ensures) ∙ c .before .before .before .if1 .left) (c .before .before .after-form .ensures)
+    let at-after-form = c .before .before in
+    let at-if1 = at-after-form .before in
+    let at-names-signal = at-if1 .before in
+    laws.involved-b _ _ _ (sym (at-names-signal .names-signal .ensures) ∙ at-if1 .if1 .left) (at-after-form .after-form .ensures)
     (sym (c .before .names-signal2 .ensures) ∙ c .if2 .taken)
 
 after-form-requires-2 : tie.Need-after-form-requires-2
@@ -34,8 +37,13 @@ names-signal-requires-3 c κs = search needs
 
 returns-3 : tie.Need-returns-3
 returns-3 c =
-    laws.involved-c _ _ _ _ _ (sym (c .before .before .before .before .before .before .names-signal .ensures) ∙ c .before .before .before .before .before .if1 .left) (c .before .before .before .before .after-form .ensures)
-    (sym (c .before .before .before .names-signal2 .ensures) ∙ c .before .before .if2 .left) (c .before .after-form2 .ensures) (c .names-signal3 .ensures)
+    let at-if2 = c .before .before in
+    let at-names-signal2 = at-if2 .before in
+    let at-after-form = at-names-signal2 .before in
+    let at-if1 = at-after-form .before in
+    let at-names-signal = at-if1 .before in
+    laws.involved-c _ _ _ _ _ (sym (at-names-signal .names-signal .ensures) ∙ at-if1 .if1 .left) (at-after-form .after-form .ensures)
+    (sym (at-names-signal2 .names-signal2 .ensures) ∙ at-if2 .if2 .left) (c .before .after-form2 .ensures) (c .names-signal3 .ensures)
 
 pub involves-spec : {M : Type 1} → statement M
 involves-spec =

@@ -42,27 +42,46 @@ sub-if2 c = search needs
 
 returns : tie.Need-returns Inv-loop μ-loop
 returns c =
-    let l = c .before .before .before .before .before .before .loop in
-    laws.sole-several _ _ _ _ (l .inv .1) (c .before .before .before .before .before .loop-test .taken)
-    (laws.free-holds _ _ _ _ (omega arith) (c .before .before .before .if1 .taken) (c .before .if2 .taken)) (c .if3 .taken)
+    let at-if1 = c .before .before .before in
+    let at-loop-test = at-if1 .before .before in
+    let at-loop = at-loop-test .before in
+    let l = at-loop .loop in
+    laws.sole-several _ _ _ _ (l .inv .1) (at-loop-test .loop-test .taken)
+    (laws.free-holds _ _ _ _ (omega arith) (at-if1 .if1 .taken) (c .before .if2 .taken)) (c .if3 .taken)
 
 loop-less : tie.Need-loop-less Inv-loop μ-loop
 loop-less c = search needs
 
 loop-again : tie.Need-loop-again Inv-loop μ-loop
-loop-again c = (omega arith, laws.sole-found _ _ _ _ (c .before .before .before .before .before .before .loop .inv .1) (c .before .before .before .before .before .loop-test .taken) (laws.free-holds _ _ _ _ (omega arith) (c .before .before .before .if1 .taken) (c .before .if2 .taken)) (c .if3 .left))
+loop-again c =
+    let at-if1 = c .before .before .before in
+    let at-loop-test = at-if1 .before .before in
+    let at-loop = at-loop-test .before in (
+      omega arith,
+      laws.sole-found _ _ _ _ (at-loop .loop .inv .1) (at-loop-test .loop-test .taken)
+          (laws.free-holds _ _ _ _ (omega arith) (at-if1 .if1 .taken) (c .before .if2 .taken)) (c .if3 .left),
+    )
 
 loop-less-2 : tie.Need-loop-less-2 Inv-loop μ-loop
 loop-less-2 c = search needs
 
 loop-again-2 : tie.Need-loop-again-2 Inv-loop μ-loop
-loop-again-2 c = (omega arith, laws.sole-on _ _ _ _ (c .before .before .before .before .before .loop .inv .1) (c .before .before .before .before .loop-test .taken) (laws.free-lower _ _ _ _ (omega arith) (c .if2 .left)))
+loop-again-2 c =
+    let at-loop-test = c .before .before .before .before in
+    let at-loop = at-loop-test .before in (
+      omega arith,
+      laws.sole-on _ _ _ _ (at-loop .loop .inv .1) (at-loop-test .loop-test .taken)
+          (laws.free-lower _ _ _ _ (omega arith) (c .if2 .left)),
+    )
 
 loop-less-3 : tie.Need-loop-less-3 Inv-loop μ-loop
 loop-less-3 c = search needs
 
 loop-again-3 : tie.Need-loop-again-3 Inv-loop μ-loop
-loop-again-3 c = (omega arith, laws.sole-on _ _ _ _ (c .before .before .before .loop .inv .1) (c .before .before .loop-test .taken) (laws.free-absent _ _ _ _ (c .if1 .left)))
+loop-again-3 c =
+    let at-loop-test = c .before .before in
+    let at-loop = at-loop-test .before in
+    (omega arith, laws.sole-on _ _ _ _ (at-loop .loop .inv .1) (at-loop-test .loop-test .taken) (laws.free-absent _ _ _ _ (c .if1 .left)))
 
 returns-2 : tie.Need-returns-2 Inv-loop μ-loop
 returns-2 c = laws.sole-end _ _ _ _ (c .before .loop .inv .1) (omega arith) (omega arith)

@@ -32,7 +32,12 @@ is-unmarked-requires : tie.Need-is-unmarked-requires Inv-loop μ-loop
 is-unmarked-requires c κs = search needs
 
 returns : tie.Need-returns Inv-loop μ-loop
-returns c = laws.unmarked-found _ _ _ _ _ (c .before .before .before .before .loop .inv .1) (c .before .before .before .loop-test .taken) _ (c .before .before .u16-at .ensures .0) _ (c .before .is-unmarked .ensures) (c .if1 .taken)
+returns c =
+    let at-u16-at = c .before .before in
+    let at-loop-test = at-u16-at .before in
+    let at-loop = at-loop-test .before in
+    laws.unmarked-found _ _ _ _ _ (at-loop .loop .inv .1) (at-loop-test .loop-test .taken) _ (at-u16-at .u16-at .ensures .0) _
+    (c .before .is-unmarked .ensures) (c .if1 .taken)
 
 add-at : tie.Need-add-at Inv-loop μ-loop
 add-at c = search needs
@@ -44,7 +49,14 @@ loop-less : tie.Need-loop-less Inv-loop μ-loop
 loop-less c = search needs
 
 loop-again : tie.Need-loop-again Inv-loop μ-loop
-loop-again c = (omega arith, laws.unmarked-on _ _ _ _ _ (c .before .before .before .before .loop .inv .1) (c .before .before .before .loop-test .taken) _ (c .before .before .u16-at .ensures .0) _ (c .before .is-unmarked .ensures) (c .if1 .left))
+loop-again c =
+    let at-u16-at = c .before .before in
+    let at-loop-test = at-u16-at .before in
+    let at-loop = at-loop-test .before in (
+      omega arith,
+      laws.unmarked-on _ _ _ _ _ (at-loop .loop .inv .1) (at-loop-test .loop-test .taken) _ (at-u16-at .u16-at .ensures .0) _
+          (c .before .is-unmarked .ensures) (c .if1 .left),
+    )
 
 returns-2 : tie.Need-returns-2 Inv-loop μ-loop
 returns-2 c = laws.unmarked-none _ _ _ _ _ (c .before .loop .inv .1) (c .loop-test .left)
