@@ -1,4 +1,4 @@
-//! Fills a file of test vectors: fixed calls for the limits, then random circuits until the file is as long as wished.
+//! Fills files of test vectors: fixed calls for the limits, then random circuits until the files are as long as wished.
 
 use crate::damage::damaged;
 use crate::edge::{any_edge, listed_edges, tied, Edge};
@@ -15,16 +15,16 @@ use crate::solver::derive;
 use crate::vectors::{Record, DERIVATION, PAIR, READ, SOLVE};
 use crate::{brute, worst};
 
-/// The usual length of a file.
-pub const USUAL_SIZE: usize = 398_000;
+/// The usual length of all files together.
+pub const USUAL_SIZE: usize = 980_000;
 
-/// How many random circuits at the edge of a rule every file has.
+/// How many random circuits at the edge of a rule there always are.
 const EDGES: usize = 60;
 
 /// How many circuits with ties.
 const TIES: usize = 40;
 
-/// The records of a file of about this length. From 600,000 bytes on there is a file of exactly 60,000 bytes among them, from 1,500,000 on all
+/// The records of files of about this length together. From 600,000 bytes on there is a file of exactly 60,000 bytes among them, from 1,500,000 on all
 /// worst circuits.
 pub fn compose(seed: u64, size: usize) -> Vec<Record> {
     let mut maker = Maker { rng: Random::new(seed), records: Vec::new(), size: 9 };
@@ -41,7 +41,7 @@ pub fn compose(seed: u64, size: usize) -> Vec<Record> {
     maker.records
 }
 
-/// The records so far, and how long a file they make.
+/// The records so far, and how many bytes they take.
 pub struct Maker {
     pub rng: Random,
     records: Vec<Record>,

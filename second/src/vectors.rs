@@ -79,6 +79,24 @@ fn call(kind: u8, circuit: &[u8], hand_in: &[u8], buffer: &mut [u8]) -> Result<(
     })
 }
 
+/// The most bytes of one file: what a reader makes room for.
+pub const MOST_BYTES: usize = 524_288;
+
+/// The records in as few files as hold them one after the other.
+pub fn volumes(records: &[Record]) -> Vec<&[Record]> {
+    let mut volumes = Vec::new();
+    let (mut start, mut size) = (0, 9);
+    for (index, record) in records.iter().enumerate() {
+        size += record.size(index > start && records[index - 1].circuit == record.circuit);
+        if size > MOST_BYTES {
+            volumes.push(&records[start..index]);
+            (start, size) = (index, 9 + record.size(false));
+        }
+    }
+    volumes.push(&records[start..]);
+    volumes
+}
+
 /// The file with these records.
 pub fn write(records: &[Record]) -> Vec<u8> {
     let mut file = b"VQT".to_vec();

@@ -1,21 +1,31 @@
-//! The file of test vectors: what is in it, and that it is read back as it was written.
+//! The files of test vectors: what is in them, and that they are read back as they were written.
 
 use std::collections::BTreeSet;
 
 use second::compose::{compose, USUAL_SIZE};
-use second::vectors::{records, write, Record, DERIVATION, PAIR, READ, SOLVE};
+use second::vectors::{records, volumes, write, Record, DERIVATION, MOST_BYTES, PAIR, READ, SOLVE};
 
 #[test]
-fn a_file_is_read_back_and_agrees() {
+fn files_are_read_back_and_agree() {
     for seed in [1, 2, 77] {
         let made = compose(seed, USUAL_SIZE);
-        let file = write(&made);
-        assert!((300_000..=400_000).contains(&file.len()), "{}", file.len());
-        let read: Vec<Record> = records(&file).unwrap().map(Result::unwrap).collect();
+        let files: Vec<Vec<u8>> = volumes(&made).into_iter().map(write).collect();
+        assert_eq!(files.len(), 2);
+        assert!(files.iter().all(|file| file.len() <= MOST_BYTES));
+        let read: Vec<Record> = files.iter().flat_map(|file| records(file).unwrap().map(Result::unwrap)).collect();
         assert_eq!(read, made);
         assert!(read.iter().all(Record::agrees));
-        assert_eq!(file, write(&compose(seed, USUAL_SIZE)), "the same seed gives the same file");
+        assert_eq!(read, compose(seed, USUAL_SIZE), "the same seed gives the same records");
     }
+}
+
+#[test]
+fn there_are_some_thousands_of_circuits() {
+    let made = compose(1, USUAL_SIZE);
+    let circuits: BTreeSet<&[u8]> = made.iter().map(|record| &record.circuit[..]).collect();
+    assert!(circuits.len() > 2_500, "{}", circuits.len());
+    let sizes: BTreeSet<usize> = circuits.iter().map(|circuit| circuit.len()).collect();
+    assert!(sizes.contains(&0) && sizes.contains(&59_999) && sizes.contains(&60_000));
 }
 
 #[test]

@@ -11,8 +11,10 @@ fn main() {
     let wanted: u64 = arguments.next().and_then(|text| text.parse().ok()).expect("use: compare CALLS [SEED]");
     let mut seed: u64 = arguments.next().map_or(1, |text| text.parse().expect("a seed is a number"));
     let (mut calls, mut kinds, mut numbers) = (0, BTreeMap::<u8, u64>::new(), BTreeMap::<u16, u64>::new());
+    // The first records have the worst circuits among them.
+    let mut size = 1_600_000;
     while calls < wanted {
-        for record in compose(seed, 400_000) {
+        for record in compose(seed, size) {
             let answer = proved(&record);
             if answer != record.answer {
                 println!("seed {seed}: {record:?}\nproved: {answer:?}");
@@ -22,7 +24,7 @@ fn main() {
             *kinds.entry(record.kind).or_default() += 1;
             *numbers.entry(record.answer.number).or_default() += 1;
         }
-        seed += 1;
+        (seed, size) = (seed + 1, 400_000);
     }
     println!("{calls} calls agree; by kind {kinds:?}; by refusal {numbers:?}");
 }

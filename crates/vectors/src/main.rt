@@ -1,12 +1,17 @@
-// Runs the public calls over stored vectors, made by the second implementation with the answers that it computes, and prints how many of each kind
-// agree and the first record that doesn't. Buffers are filled before each call, and what lies beyond the bytes that a call writes is compared too.
+// Runs the public calls over stored vectors, made by the second implementation with the answers that it computes, and prints for each file how many
+// of each kind agree and the first record that doesn't. Buffers are filled before each call, and what lies beyond the bytes that a call writes is compared too.
 
 mod call;
 mod record;
 mod tally;
 
 fn main() {
-    let path = b"vectors.bin";
+    report(b"vectors-1.bin");
+    report(b"vectors-2.bin");
+}
+
+// Makes the calls of a file and prints what was found.
+fn report(path: &[u8]) {
     let fd = os::open_read(path);
     if fd < 0 {
         os::fail(path);
@@ -16,5 +21,5 @@ fn main() {
     let n = io::read_full(fd, &mut file);
     libc::close(fd);
     let found = tally::run(&file[..n]);
-    tally::print(found);
+    tally::print(path, found);
 }

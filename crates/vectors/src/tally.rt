@@ -41,7 +41,7 @@ impl Tally {
 }
 
 // Makes the call of each record.
-pub fn run(file: &[u8]) -> Tally {
+pub(crate) fn run(file: &[u8]) -> Tally {
     let count = u32_at(file, 5);
     let mut tally = Tally {
         calls: [0; 5],
@@ -79,7 +79,10 @@ fn line(name: &[u8], agreeing: u32, calls: u32) {
     word(b" agree\n");
 }
 
-pub fn print(tally: Tally) {
+// The file's name, then the counts.
+pub(crate) fn print(path: &[u8], tally: Tally) {
+    word(path);
+    word(b"\n");
     let calls = tally.calls;
     let agreeing = tally.agreeing;
     line(b"read: ", agreeing[1], calls[1]);

@@ -11,7 +11,7 @@ pub struct Got {
 }
 
 // Reads the file until it ends or the buffer is full.
-pub fn read_file(path: &[u8], buffer: &mut [u8]) -> Got
+pub(crate) fn read_file(path: &[u8], buffer: &mut [u8]) -> Got
     ensures { λ r. ⌜ Counts (r .count) (now (buffer .exit)) ⌝ }
 {
     let fd = os::open_read(path);
@@ -60,7 +60,7 @@ fn read_all(fd: i32, buffer: &mut [u8]) -> Got
 }
 
 // Writes the file whole or not at all: into a new file beside it, which then takes its name.
-pub fn write_file(path: &[u8], bytes: &[u8]) -> bool {
+pub(crate) fn write_file(path: &[u8], bytes: &[u8]) -> bool {
     let mut name = io::buffer();
     let n = with_suffix(path, &mut name);
     let written = write_beside(&mut name[..n], path, bytes);

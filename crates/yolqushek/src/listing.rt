@@ -19,20 +19,20 @@ fn number(x: u64) {
     io::print_decimal(STDOUT_FILENO, x);
 }
 
-pub fn print_refusal(refusal: u32, place: usize) {
+pub(crate) fn print_refusal(refusal: u32, place: usize) {
     word(b"refused");
     number(refusal as u64);
     number(place as u64);
     word(b"\n");
 }
 
-pub fn print_pair(q: u32) {
+pub(crate) fn print_pair(q: u32) {
     word(b"pair");
     number(q as u64);
     word(b"\n");
 }
 
-pub fn print_verdict(verdict: Verdict, count: u32) {
+pub(crate) fn print_verdict(verdict: Verdict, count: u32) {
     match verdict {
         Verdict::Fixed => word(b"fixed"),
         Verdict::Open => word(b"open"),
@@ -42,7 +42,7 @@ pub fn print_verdict(verdict: Verdict, count: u32) {
 }
 
 // The signals whose byte is 1.
-pub fn print_marks(marks: &[u8]) {
+pub(crate) fn print_marks(marks: &[u8]) {
     word(b"marks");
     let mut s = 0;
     while s < marks.len() {
@@ -55,7 +55,7 @@ pub fn print_marks(marks: &[u8]) {
 }
 
 // The circuit's numbers, the derivation's steps, verdict and count.
-pub fn print_listing(circuit: &[u8], derivation: &[u8], answer: SolverAnswer) {
+pub(crate) fn print_listing(circuit: &[u8], derivation: &[u8], answer: SolverAnswer) {
     let SolverAnswer::Solved {
         count,
         verdict,
