@@ -107,11 +107,15 @@ table =
     -- d. "open .. Input 0 with outputs 0, 0, 0 against 1, 1, 1 is an accepted pair"
     ∷ solvedRow circuit-d (step Root 2 1 0 ∷ step Root 3 2 0 ∷ step Root 4 3 0 ∷ []) 1 Open
     ∷ pairRow circuit-d 2 (0 ∷ 0 ∷ 0 ∷ 0 ∷ []) (0 ∷ 1 ∷ 1 ∷ 1 ∷ [])
+    -- .. so the digits step for 2, whose only fault is a sum equal to p, must be refused
+    ∷ turnedRow circuit-d (encoded (step Root 2 1 0 ∷ step Root 3 2 0 ∷ step Root 4 3 0 ∷ step Digits 2 4 2 ∷ [])) 17 4
     -- e. "root, then zero; fixed"
     ∷ solvedRow circuit-e (step Root 1 1 0 ∷ step Zero 1 0 0 ∷ []) 1 Fixed
     -- f. "open; 0 against 1 is an accepted pair"
     ∷ solvedRow circuit-f [] 0 Open
     ∷ pairRow circuit-f 1 (0 ∷ []) (1 ∷ [])
+    -- .. so the product step for 1, whose only fault is that 1 stands in A and B too, must be refused
+    ∷ turnedRow circuit-f (oneStep 4 1 1 0) 17 1
     -- g. "open, though y is settled"
     ∷ solvedRow circuit-g [] 1 Open
     -- h. "c with one byte more: refusal 10 at 113"
