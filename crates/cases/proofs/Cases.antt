@@ -6,9 +6,12 @@ use Rattle.derivation.specs.Encoded.{stepBytes, stepsBytes, encoded}
 use Rattle.derivation.specs.Call.{marksFrom, marksOf, total, outputMarked, verdictOf, headed, derivationOn, derivationCall, lastOf, derivationMarks}
 use Rattle.derivation.specs.Steps.{kindOf, stepStart, stepAt, walkFrom, stepsFrom, stepsOf}
 use Rattle.pair.specs.Call.{firstFrom, valueAt, valuesAfter, below, fileOn, satisfiedBy, agree, runsOn, pairOn, pairCall}
-use Rattle.laws.specs.Solver.{solution, boundSteps, markSteps, turns, bestBound, bestOfConstraints, bestOfTargets, consider, lowers, newBound, precedes, firstBy, firstReference, firstDigits, firstProduct, firstFor, firstTarget, firstMark}
+use Rattle.laws.specs.Solver.{solution, boundSteps, markSteps, turns, bestBound, bestOfConstraints, bestOfTargets, consider, lowers, newBound}
+use Rattle.laws.specs.Solver.{precedes, firstBy, firstReference, firstDigits, firstProduct, firstFor, firstTarget, firstMark}
 use Rattle.laws.specs.Step.{inRange, within, met, after, replay}
-use Rattle.laws.specs.Rules.{namesNone, linear, constant, reduced, occurs, isZero, namesOnly, rootMet, root, rootBound, sumWeight, ceiling, sumTerm, sumBound, sumMet, zeroMet, othersMarked, productMet, weight, live, differs, smallerTerm, smallerSum, separate, liveTerm, separated, digitsMet}
+use Rattle.laws.specs.Rules.{namesNone, linear, constant, reduced, occurs, isZero, namesOnly, rootMet, root, rootBound, sumWeight, ceiling, sumTerm}
+use Rattle.laws.specs.Rules.{sumBound, sumMet, zeroMet, othersMarked, productMet, weight, live, differs, smallerTerm, smallerSum, separate, liveTerm}
+use Rattle.laws.specs.Rules.{separated, digitsMet}
 use Rattle.laws.specs.Standing.{put, add, lower, mark, largest, isInput, start}
 use Rattle.laws.specs.Sum.{sum, all, keep, implies}
 use Rattle.circuit.specs.Circuit.{constraintAt, coef, names, valueOf, eval}
@@ -22,5 +25,13 @@ use Rattle.cases.specs.Encode.{u16Bytes, u32Bytes, termsBytes, formBytes
 use Rattle.cases.specs.Table.{Row, table, found}
 
 pub cases : map found table ≡ map (λ (row : Row). row .said) table
-unfolding own reached solverOn solverCall solverOutput stepBytes stepsBytes encoded marksFrom marksOf total outputMarked verdictOf headed derivationOn derivationCall lastOf derivationMarks kindOf stepStart stepAt walkFrom stepsFrom stepsOf firstFrom valueAt valuesAfter below fileOn satisfiedBy agree runsOn pairOn pairCall solution boundSteps markSteps turns bestBound bestOfConstraints bestOfTargets consider lowers newBound precedes firstBy firstReference firstDigits firstProduct firstFor firstTarget firstMark inRange within met after replay namesNone linear constant reduced occurs isZero namesOnly rootMet root rootBound sumWeight ceiling sumTerm sumBound sumMet zeroMet othersMarked productMet weight live differs smallerTerm smallerSum separate liveTerm separated digitsMet put add lower mark largest isInput start sum all keep implies constraintAt coef names valueOf eval holds byteAt u16At u32At readTerms readForm readConstraint readConstraints marked sizesFit readBody readCircuit trial noDivisor oddPrime opposite inverseFrom inverse u16Bytes u32Bytes termsBytes formBytes constraintsBytes circuitBytes valuesBytes pairBytes oneStep
+unfolding own reached solverOn solverCall solverOutput stepBytes stepsBytes encoded marksFrom marksOf total outputMarked verdictOf headed
+    derivationOn derivationCall lastOf derivationMarks kindOf stepStart stepAt walkFrom stepsFrom stepsOf firstFrom valueAt valuesAfter
+    below fileOn satisfiedBy agree runsOn pairOn pairCall solution boundSteps markSteps turns bestBound bestOfConstraints bestOfTargets
+    consider lowers newBound precedes firstBy firstReference firstDigits firstProduct firstFor firstTarget firstMark inRange within met
+    after replay namesNone linear constant reduced occurs isZero namesOnly rootMet root rootBound sumWeight ceiling sumTerm sumBound sumMet
+    zeroMet othersMarked productMet weight live differs smallerTerm smallerSum separate liveTerm separated digitsMet put add lower mark
+    largest isInput start sum all keep implies constraintAt coef names valueOf eval holds byteAt u16At u32At readTerms readForm
+    readConstraint readConstraints marked sizesFit readBody readCircuit trial noDivisor oddPrime opposite inverseFrom inverse u16Bytes
+    u32Bytes termsBytes formBytes constraintsBytes circuitBytes valuesBytes pairBytes oneStep
 cases = refl

@@ -49,7 +49,8 @@ bodyFrom n p s left at = ended s (further at (sizeOf (readConstraints n p left (
 pub body-start : (n p m : ℕ) (s : List ℕ) → sizeOf (readBody n p m s) ≡ bodyFrom n p s m 17
 unfolding readBody bodyFrom endSize
 body-start n p m s =
-    size-next {A = List Constraint} s (after 17 (readConstraints n p m (drop 17 s))) atEnd endSize (λ x t. size-require (eqb (length t) 0) 10 (whole x 0))
+    size-next {A = List Constraint} s (after 17 (readConstraints n p m (drop 17 s))) atEnd endSize
+    (λ x t. size-require (eqb (length t) 0) 10 (whole x 0))
     ∙ next-ended s _
     ∙ ap (ended s) (size-after 17 (readConstraints n p m (drop 17 s)))
 

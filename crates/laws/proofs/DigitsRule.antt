@@ -26,8 +26,10 @@ pub record DigitsMet (p n : ℕ) (K : Constraint) (S : Standing) (t r : ℕ) : T
   pub is-linear : linear K ≡ true
   pub has-target : occurs (reduced p K) t ≡ true
   pub has-reference : occurs (reduced p K) r ≡ true
-  pub differ : (s u : ℕ) → s < suc n → u < suc n → live (reduced p K) S s ≡ true → live (reduced p K) S u ≡ true → (s ≡ u → ⊥) → weight p (reduced p K) r s ≡ weight p (reduced p K) r u → ⊥
-  pub exceeds : (s : ℕ) → s < suc n → live (reduced p K) S s ≡ true → smallerSum p n (reduced p K) S r (weight p (reduced p K) r s) < weight p (reduced p K) r s
+  pub differ : (s u : ℕ) → s < suc n → u < suc n → live (reduced p K) S s ≡ true → live (reduced p K) S u ≡ true → (s ≡ u → ⊥)
+      → weight p (reduced p K) r s ≡ weight p (reduced p K) r u → ⊥
+  pub exceeds : (s : ℕ) → s < suc n → live (reduced p K) S s ≡ true
+      → smallerSum p n (reduced p K) S r (weight p (reduced p K) r s) < weight p (reduced p K) r s
   pub total : sum (suc n) (liveTerm p (reduced p K) S r) < p
 
 pub digits-met : (p n : ℕ) (K : Constraint) (S : Standing) (t r : ℕ) → digitsMet p n K S t r ≡ true → DigitsMet p n K S t r
@@ -41,7 +43,8 @@ digits-met p n K S t r e =
           eqb-false (weight p (reduced p K) r s) (weight p (reduced p K) r u)
           (not-true _
           (implies-elim (live (reduced p K) S u && not (eqb s u)) _
-          (all-at (suc n) (differs p (reduced p K) S r s) (and-left _ (ltb (smallerSum p n (reduced p K) S r (weight p (reduced p K) r s)) (weight p (reduced p K) r s)) (apart s l i)) u m)
+          (all-at (suc n) (differs p (reduced p K) S r s)
+          (and-left _ (ltb (smallerSum p n (reduced p K) S r (weight p (reduced p K) r s)) (weight p (reduced p K) r s)) (apart s l i)) u m)
           (and-both (live (reduced p K) S u) _ j (ap not (ne-eqb s u d)))));
       exceeds = λ s l i. ltb-true _ _ (and-right (all (suc n) (differs p (reduced p K) S r s)) _ (apart s l i));
       total = ltb-true _ _ (and-right (all (suc n) (separate p n (reduced p K) S r)) _ last);
@@ -54,7 +57,8 @@ digits-met p n K S t r e =
         (s : ℕ)
         → s < suc n
         → live (reduced p K) S s ≡ true
-        → (all (suc n) (differs p (reduced p K) S r s) && ltb (smallerSum p n (reduced p K) S r (weight p (reduced p K) r s)) (weight p (reduced p K) r s)) ≡ true
+        → (all (suc n) (differs p (reduced p K) S r s)
+        && ltb (smallerSum p n (reduced p K) S r (weight p (reduced p K) r s)) (weight p (reduced p K) r s)) ≡ true
     apart s l i = implies-elim (live (reduced p K) S s) _ (all-at (suc n) (separate p n (reduced p K) S r) (and-left _ _ last) s l) i
 
 pub met-digits : {p n : ℕ} {K : Constraint} {S : Standing} {t r : ℕ} → DigitsMet p n K S t r → digitsMet p n K S t r ≡ true
@@ -78,12 +82,14 @@ met-digits {p} {n} {K} {S} {t} {r} M =
     (lt-ltb _ _ (M .exceeds s l i)))))
     (lt-ltb _ _ (M .total)))
 
-met-separate : {p n : ℕ} {K : Constraint} {S : Standing} {t r : ℕ} → DigitsMet p n K S t r → Separate (suc n) (live (reduced p K) S) (weight p (reduced p K) r) (S .bound)
+met-separate : {p n : ℕ} {K : Constraint} {S : Standing} {t r : ℕ} → DigitsMet p n K S t r
+    → Separate (suc n) (live (reduced p K) S) (weight p (reduced p K) r) (S .bound)
 unfolding smallerSum smallerTerm
 met-separate M = record { differ = M .differ; exceeds = M .exceeds }
 
 -- a signal in the form that isn't marked is live
-pub live-yes : (p : ℕ) (K : Constraint) (S : Standing) (s : ℕ) → 1 ≤ s → occurs (reduced p K) s ≡ true → S .marked s ≡ false → live (reduced p K) S s ≡ true
+pub live-yes : (p : ℕ) (K : Constraint) (S : Standing) (s : ℕ) → 1 ≤ s → occurs (reduced p K) s ≡ true → S .marked s ≡ false
+    → live (reduced p K) S s ≡ true
 unfolding live
 live-yes p K S zero l e g = absurd (omega arith)
 live-yes p K S (suc s) l e g = and-both (occurs (reduced p K) (suc s)) _ e (ap not g)
@@ -125,7 +131,8 @@ module _ {n : ℕ} (p : ℕ) (K : Constraint) (S : Standing) (v : ℕ → ℕ) (
   live-within zero l e = true-or-false false e refl
   live-within (suc s) l e = bounded (suc s) (omega arith) (omega arith)
 
-  live-bounded : (r : ℕ) → sum (suc n) (λ s. keep (live (reduced p K) S s) (weight p (reduced p K) r s * v s)) ≤ sum (suc n) (liveTerm p (reduced p K) S r)
+  live-bounded : (r : ℕ)
+      → sum (suc n) (λ s. keep (live (reduced p K) S s) (weight p (reduced p K) r s * v s)) ≤ sum (suc n) (liveTerm p (reduced p K) S r)
   unfolding liveTerm
   live-bounded r =
       sum-mono (suc n) (λ s. keep (live (reduced p K) S s) (weight p (reduced p K) r s * v s)) (liveTerm p (reduced p K) S r)
@@ -143,7 +150,8 @@ module _
     rest-equal :
         (p : ℕ) (K : Constraint) (r s : ℕ)
         → s < suc n
-        → keep (not (live (reduced p K) S s)) (weight p (reduced p K) r s * v s) ≡ keep (not (live (reduced p K) S s)) (weight p (reduced p K) r s * w s)
+        → keep (not (live (reduced p K) S s)) (weight p (reduced p K) r s * v s)
+        ≡ keep (not (live (reduced p K) S s)) (weight p (reduced p K) r s * w s)
     unfolding live
     rest-equal p K r zero l = ap (λ (k : ℕ). keep true (weight p (reduced p K) r 0 * k)) (one ∙ sym one′)
     rest-equal p K r (suc s) l =
@@ -170,7 +178,8 @@ module _
     digits-sound {p} {K} {t} {r} W l h M bounded bounded′ sat sat′ =
         by-test (S .marked t) (λ e. agree t l h e)
         (λ e.
-        digits-unique (suc n) (live (reduced p K) S) (weight p (reduced p K) r) (met-separate M) v w p (live-within p K S v bounded) (live-within p K S w bounded′)
+        digits-unique (suc n) (live (reduced p K) S) (weight p (reduced p K) r) (met-separate M) v w p
+        (live-within p K S v bounded) (live-within p K S w bounded′)
         (λ s l. weight-below p K r s positive)
         equal
         t
@@ -180,7 +189,8 @@ module _
         positive : 0 < p
         positive = omega (arith, M .total)
 
-        equal : sum (suc n) (λ s. keep (live (reduced p K) S s) (weight p (reduced p K) r s * v s)) ≡ sum (suc n) (λ s. keep (live (reduced p K) S s) (weight p (reduced p K) r s * w s))
+        equal : sum (suc n) (λ s. keep (live (reduced p K) S s) (weight p (reduced p K) r s * v s))
+            ≡ sum (suc n) (λ s. keep (live (reduced p K) S s) (weight p (reduced p K) r s * w s))
         equal =
             congruent-below (omega (arith, M .total, live-bounded p K S v bounded r)) (omega (arith, M .total, live-bounded p K S w bounded′ r))
             (congruent-shift _ _
@@ -190,6 +200,7 @@ module _
               arith,
               sum-split (suc n) (live (reduced p K) S) (λ s. weight p (reduced p K) r s * v s),
               sum-split (suc n) (live (reduced p K) S) (λ s. weight p (reduced p K) r s * w s),
-              sum-cong (suc n) (λ s. keep (not (live (reduced p K) S s)) (weight p (reduced p K) r s * v s)) (λ s. keep (not (live (reduced p K) S s)) (weight p (reduced p K) r s * w s))
+              sum-cong (suc n) (λ s. keep (not (live (reduced p K) S s)) (weight p (reduced p K) r s * v s))
+                  (λ s. keep (not (live (reduced p K) S s)) (weight p (reduced p K) r s * w s))
                   (rest-equal p K r),
             )))

@@ -50,7 +50,8 @@ same-length-2 c = search needs
 returns-2 : tie.Need-returns-2
 returns-2 c =
     let call = c .before .before .before .before .before .before .before .before .check-derivation in (
-      filled _ _ _ _ (c .fill2 .ensures ∙ ap (λ (v : ℕ). five (c .before .before .before .before .result2 .given .0 .0) v 0 0 0) (c .before .number-of .ensures))
+      filled _ _ _ _
+          (c .fill2 .ensures ∙ ap (λ (v : ℕ). five (c .before .before .before .before .result2 .given .0 .0) v 0 0 0) (c .before .number-of .ensures))
           (ap derivationNumbers (sym (ap paperOf (c .before .before .before .before .result2 .given .1)) ∙ call .ensures .0)),
       call .ensures .1 .0,
     )

@@ -32,12 +32,14 @@ fill-requires-2 c κs = search needs
 returns : tie.Need-returns
 returns c =
     filled _ _ _ _ (c .fill .ensures)
-    (ap pairNumbers (sym (ap paperOf (c .before .before .before .result .given .1)) ∙ c .before .before .before .before .before .check-pair .ensures .0))
+    (ap pairNumbers (sym (ap paperOf (c .before .before .before .result .given .1))
+    ∙ c .before .before .before .before .before .check-pair .ensures .0))
 
 returns-2 : tie.Need-returns-2
 returns-2 c =
     filled _ _ _ _ (c .fill2 .ensures)
-    (ap pairNumbers (sym (ap paperOf (c .before .before .before .result2 .given .1)) ∙ c .before .before .before .before .before .check-pair .ensures .0))
+    (ap pairNumbers (sym (ap paperOf (c .before .before .before .result2 .given .1))
+    ∙ c .before .before .before .before .before .check-pair .ensures .0))
 
 pub yolqushek-pair-spec : {M : Type 1} → statement M
 yolqushek-pair-spec =

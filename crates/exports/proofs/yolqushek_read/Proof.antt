@@ -44,12 +44,14 @@ fill-requires-2 c κs = search needs
 returns : tie.Need-returns
 returns c =
     filled _ _ _ _ (c .fill .ensures)
-    (ap readNumbers (sym (ap paperOf (c .before .before .before .result .given .1)) ∙ c .before .before .before .before .before .check-circuit .ensures))
+    (ap readNumbers (sym (ap paperOf (c .before .before .before .result .given .1))
+    ∙ c .before .before .before .before .before .check-circuit .ensures))
 
 returns-2 : tie.Need-returns-2
 returns-2 c =
     filled _ _ _ _ (c .fill2 .ensures)
-    (ap readNumbers (sym (ap paperOf (c .before .before .before .result2 .given .1)) ∙ c .before .before .before .before .before .check-circuit .ensures))
+    (ap readNumbers (sym (ap paperOf (c .before .before .before .result2 .given .1))
+    ∙ c .before .before .before .before .before .check-circuit .ensures))
 
 pub yolqushek-read-spec : {M : Type 1} → statement M
 yolqushek-read-spec =

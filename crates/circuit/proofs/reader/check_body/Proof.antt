@@ -62,7 +62,8 @@ returns c =
     let told = ap foundOf (c .enum-told .given .1) in
     told
     ∙ body.body-fault _ _ _ _ _ _ (c5 .loop .inv .2) (c4 .loop-test .taken) _ _
-    (body.rest-read _ _ _ _ (c5 .loop .inv .0) _ (c5 .loop .inv .1) _ _ (c3 .check-constraint .ensures) (sym told ∙ c .before .before .shifted .ensures))
+    (body.rest-read _ _ _ _ (c5 .loop .inv .0) _ (c5 .loop .inv .1) _ _ (c3 .check-constraint .ensures)
+    (sym told ∙ c .before .before .shifted .ensures))
 
 after-constraint-requires : tie.Need-after-constraint-requires Inv-loop μ-loop
 after-constraint-requires c κs = search needs

@@ -87,7 +87,12 @@ returns-6 : tie.Need-returns-6
 returns-6 c =
     let m = c .before .before in
     laws.call-sizes _ (headed (m .before .before .before .before))
-    (rw (← (m .before .before .before .u16-at2 .ensures .0), ← (m .before .before .u16-at3 .ensures .0), ← (m .before .u16-at4 .ensures .0), ← (m .u16-at5 .ensures .0))
+    (rw (
+      ← (m .before .before .before .u16-at2 .ensures .0),
+      ← (m .before .before .u16-at3 .ensures .0),
+      ← (m .before .u16-at4 .ensures .0),
+      ← (m .u16-at5 .ensures .0),
+    )
     (sym (c .before .fits2 .ensures) ∙ not-true _ (c .if6 .taken)))
 
 check-body-requires : tie.Need-check-body-requires
@@ -112,7 +117,12 @@ returns-7 c =
       m .u16-at5 .ensures .0,
     )
     (laws.call-whole (p .before .before .before .before .before .before .before .before .args .s .now) (headed (m .before .before .before .before))
-    (rw (← (m .before .before .before .u16-at2 .ensures .0), ← (m .before .before .u16-at3 .ensures .0), ← (m .before .u16-at4 .ensures .0), ← (m .u16-at5 .ensures .0))
+    (rw (
+      ← (m .before .before .before .u16-at2 .ensures .0),
+      ← (m .before .before .u16-at3 .ensures .0),
+      ← (m .before .u16-at4 .ensures .0),
+      ← (m .u16-at5 .ensures .0),
+    )
     (sym (b .before .before .fits2 .ensures) ∙ not-false _ (b .before .if6 .left)))
     (c .enum-told .given .0 .0)
     (rw (← (m .before .before .before .u16-at2 .ensures .0), ← (p .u32-at .ensures), ← (m .u16-at5 .ensures .0))
@@ -125,7 +135,12 @@ returns-8 c =
     let m = b .before .before .before in
     let p = m .before .before .before .before .before .before in
     laws.call-fault _ (headed (m .before .before .before .before))
-    (rw (← (m .before .before .before .u16-at2 .ensures .0), ← (m .before .before .u16-at3 .ensures .0), ← (m .before .u16-at4 .ensures .0), ← (m .u16-at5 .ensures .0))
+    (rw (
+      ← (m .before .before .before .u16-at2 .ensures .0),
+      ← (m .before .before .u16-at3 .ensures .0),
+      ← (m .before .u16-at4 .ensures .0),
+      ← (m .u16-at5 .ensures .0),
+    )
     (sym (b .before .before .fits2 .ensures) ∙ not-false _ (b .before .if6 .left)))
     _ _
     (rw (← (m .before .before .before .u16-at2 .ensures .0), ← (p .u32-at .ensures), ← (m .u16-at5 .ensures .0))

@@ -94,8 +94,12 @@ loop-again c =
     let c5 = c .before .before .before .before .before in
     let c6 = c5 .before in
     let c7 = c6 .before in
-    let c8 = c7 .before in
-    (omega arith, omega arith, laws.term-read _ _ _ _ _ _ _ (c8 .loop .inv .2) (c7 .loop-test .taken) (c6 .if3 .left) (omega arith) (omega arith) (omega arith) (omega arith) ∙ laws.terms-known _ _ _ _ _ _ _ (c5 .u16-at .ensures .0))
+    let c8 = c7 .before in (
+      omega arith,
+      omega arith,
+      laws.term-read _ _ _ _ _ _ _ (c8 .loop .inv .2) (c7 .loop-test .taken) (c6 .if3 .left) (omega arith) (omega arith) (omega arith)
+          (omega arith) ∙ laws.terms-known _ _ _ _ _ _ _ (c5 .u16-at .ensures .0),
+    )
 
 returns-8 : tie.Need-returns-8 Inv-loop μ-loop
 returns-8 c = laws.terms-end _ _ _ _ _ _ _ (c .before .loop .inv .2) (c .loop-test .left)
