@@ -1,5 +1,6 @@
-//! Times the proved library and the second implementation on the same inputs in one run and prints a table of ratios. Release builds; each buffer is
-//! filled once, before the timing; each figure is the shortest of several rounds, a round being as many calls as take some milliseconds.
+//! Times the proved library and the second implementation on the same inputs in one run and prints a table of ratios, then how the proved library's cost
+//! grows. Release builds; each buffer is filled once, before the timing; each figure is the shortest of several rounds, a round being as many calls as take
+//! some milliseconds.
 
 use std::hint::black_box;
 use std::time::Instant;
@@ -14,10 +15,10 @@ struct Row {
 }
 
 /// The shortest time of a call, in microseconds.
-fn shortest(mut call: impl FnMut()) -> f64 {
+fn shortest<T>(mut call: impl FnMut() -> T) -> f64 {
     let mut round = |calls: u32| {
         let start = Instant::now();
-        (0..calls).for_each(|_| call());
+        (0..calls).for_each(|_| drop(black_box(call())));
         start.elapsed().as_secs_f64() * 1e6 / f64::from(calls)
     };
     let once = round(1).max(0.01);
@@ -25,21 +26,13 @@ fn shortest(mut call: impl FnMut()) -> f64 {
     (0..7).map(|_| round(calls)).fold(f64::INFINITY, f64::min)
 }
 
-fn row(name: impl Into<String>, proved: impl FnMut(), second: impl FnMut()) -> Row {
+fn row<T, U>(name: impl Into<String>, proved: impl FnMut() -> T, second: impl FnMut() -> U) -> Row {
     Row { name: name.into(), proved: shortest(proved), second: shortest(second) }
 }
 
 fn reading(name: &str, circuit: &[u8]) -> Row {
     assert_eq!(yolqushek::read_circuit(circuit).map_err(|r| r.number).err(), second::read_circuit(circuit).map_err(|r| r.number.into()).err());
-    row(
-        format!("read {name}"),
-        || {
-            let _ = black_box(yolqushek::read_circuit(circuit));
-        },
-        || {
-            let _ = black_box(second::read_circuit(circuit));
-        },
-    )
+    row(format!("read {name}"), || yolqushek::read_circuit(circuit), || second::read_circuit(circuit))
 }
 
 /// Solving, and marking the derivation, also padded to 4,096 steps by repeating it.
@@ -49,15 +42,7 @@ fn solving(name: &str, circuit: &[u8], rows: &mut Vec<Row>) {
     let (_, length) = yolqushek::solve(circuit, &mut one).expect("the buffer is long enough");
     assert_eq!(second::solve(circuit, &mut two).map(|(_, _, length)| length), Ok(length));
     assert_eq!(one, two);
-    rows.push(row(
-        format!("solve {name}"),
-        || {
-            let _ = black_box(yolqushek::solve(circuit, &mut one));
-        },
-        || {
-            let _ = black_box(second::solve(circuit, &mut two));
-        },
-    ));
+    rows.push(row(format!("solve {name}"), || yolqushek::solve(circuit, &mut one), || second::solve(circuit, &mut two)));
     rows.push(marking(&format!("mark {name}"), circuit, &one[..length], signals));
     if length > 7 {
         rows.push(marking(&format!("mark {name}, 4,096 steps"), circuit, &repeated(&one[7..length]), signals));
@@ -76,15 +61,7 @@ fn marking(name: &str, circuit: &[u8], derivation: &[u8], signals: usize) -> Row
     assert!(yolqushek::check_derivation(circuit, derivation, &mut one).is_ok());
     assert!(second::check_derivation(circuit, derivation, &mut two).is_ok());
     assert_eq!(one, two);
-    row(
-        name,
-        || {
-            let _ = black_box(yolqushek::check_derivation(circuit, derivation, &mut one));
-        },
-        || {
-            let _ = black_box(second::check_derivation(circuit, derivation, &mut two));
-        },
-    )
+    row(name, || yolqushek::check_derivation(circuit, derivation, &mut one), || second::check_derivation(circuit, derivation, &mut two))
 }
 
 /// The planted runs as a pair file.
@@ -97,15 +74,36 @@ fn pair_file(planted: &second::planted::Planted) -> Vec<u8> {
 
 fn pairing(name: &str, circuit: &[u8], pair: &[u8]) -> Row {
     assert_eq!(yolqushek::check_pair(circuit, pair).ok(), second::check_pair(circuit, pair).ok().map(u32::from));
-    row(
-        format!("pair {name}"),
-        || {
-            let _ = black_box(yolqushek::check_pair(circuit, pair));
-        },
-        || {
-            let _ = black_box(second::check_pair(circuit, pair));
-        },
-    )
+    row(format!("pair {name}"), || yolqushek::check_pair(circuit, pair), || second::check_pair(circuit, pair))
+}
+
+/// How the cost of a call grows: sizes with their times, and the power of the size that the time grows by from the one before.
+fn growth(name: &str, timed: &[(usize, f64)]) {
+    println!("\n| {name} | proved µs | grows as size to the power of |\n|---|---:|---:|");
+    for (index, &(size, time)) in timed.iter().enumerate() {
+        let power = index.checked_sub(1).map(|before| (time / timed[before].1).ln() / (size as f64 / timed[before].0 as f64).ln());
+        println!("| {size} | {time:.1} | {} |", power.map_or(String::new(), |power| format!("{power:.1}")));
+    }
+}
+
+/// Solving and reading circuits of growing size, and marking derivations of growing length.
+fn all_growth() {
+    let circuits: Vec<Vec<u8>> = [2, 4, 8].map(worst::numbers_behind_decoys).into();
+    let mut output = vec![0; 7 + 14 * 256];
+    let mut solve = |circuit: &[u8]| shortest(|| yolqushek::solve(circuit, &mut output));
+    growth("solve: bytes of the circuit", &circuits.iter().map(|circuit| (circuit.len(), solve(circuit))).collect::<Vec<_>>());
+    let read = |circuit: &[u8]| shortest(|| yolqushek::read_circuit(circuit));
+    growth("read: bytes of the circuit", &circuits.iter().map(|circuit| (circuit.len(), read(circuit))).collect::<Vec<_>>());
+    let (circuit, mut marks) = (&circuits[2], vec![0; 256]);
+    let (_, length) = yolqushek::solve(circuit, &mut output).expect("the buffer is long enough");
+    let whole = repeated(&output[7..length]);
+    let mut mark = |steps: usize| {
+        let mut derivation = whole[..7 + 7 * steps].to_vec();
+        derivation[5..7].copy_from_slice(&(steps as u16).to_le_bytes());
+        assert!(yolqushek::check_derivation(circuit, &derivation, &mut marks).is_ok());
+        shortest(|| yolqushek::check_derivation(circuit, &derivation, &mut marks))
+    };
+    growth("mark: steps", &[512, 1024, 2048, 4096].map(|steps| (steps, mark(steps))));
 }
 
 fn main() {
@@ -128,4 +126,5 @@ fn main() {
     for row in rows {
         println!("| {} | {:.2} | {:.2} | {:.2} |", row.name, row.proved, row.second, row.proved / row.second);
     }
+    all_growth();
 }

@@ -43,16 +43,21 @@ pub fn bits_and_long_sum(bits: u16) -> Vec<u8> {
 
 /// 8 inputs and the 30 bits of each; before the sums that settle them, 264 sums of equal weights that settle nothing. Fixed.
 pub fn bits_behind_decoys() -> Vec<u8> {
-    let mut draft = Draft::new(P, 248, 8, 240);
-    for decoy in 0..264u16 {
-        let bits = (0..32).map(|index| (9 + (decoy * 7 + index * 11) % 240, 1));
-        let terms: Terms = bits.collect();
+    numbers_behind_decoys(8)
+}
+
+/// The same with fewer inputs (2 to 8), and fewer sums in proportion: about 7,400 bytes for each input.
+pub fn numbers_behind_decoys(inputs: u16) -> Vec<u8> {
+    let (first, bits) = (inputs + 1, 30 * inputs);
+    let mut draft = Draft::new(P, inputs + bits, inputs, bits);
+    for decoy in 0..33 * inputs {
+        let terms: Terms = (0..32).map(|index| (first + (decoy * 7 + index * 11) % bits, 1)).collect();
         equation(&mut draft, &terms);
     }
-    (9..=248).for_each(|signal| bit(&mut draft, signal));
-    for input in 0..8u16 {
+    (first..first + bits).for_each(|signal| bit(&mut draft, signal));
+    for input in 0..inputs {
         let mut terms: Terms = vec![(input + 1, -1)];
-        terms.extend((0..30).map(|index| (9 + input * 30 + index, 1i64 << index)));
+        terms.extend((0..30).map(|index| (first + input * 30 + index, 1i64 << index)));
         equation(&mut draft, &terms);
     }
     draft.bytes()

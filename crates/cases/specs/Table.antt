@@ -22,9 +22,9 @@ pub data Asked : Type 0 where
   judging : List ℕ → Asked
   pairing : List ℕ → Asked
 
--- what is said: a circuit's numbers, or each call's answer; the solver's with the bytes that it leaves
+-- what is said: a circuit's p, n, i, o and m and its file's length, or each call's answer; the solver's with the bytes that it leaves
 pub data Said : Type 0 where
-  numbers : ℕ → ℕ → ℕ → ℕ → ℕ → Said
+  numbers : ℕ → ℕ → ℕ → ℕ → ℕ → ℕ → Said
   unread : ℕ → ℕ → Said
   solves : solver.SolverResult → List ℕ → Said
   judges : derivation.DerivationResult → List ℕ → Said
@@ -40,7 +40,7 @@ abbrev pub buffer : List ℕ
 buffer = replicate 100 9
 
 abbrev pub readingOf : Reading Circuit → Said
-readingOf (whole C size) = numbers (C .p) (C .n) (C .i) (C .o) (C .m)
+readingOf (whole C size) = numbers (C .p) (C .n) (C .i) (C .o) (C .m) size
 readingOf (fault number place) = unread number place
 
 abbrev pub answer : List ℕ → Asked → Said
@@ -99,8 +99,8 @@ table =
     -- b. "open. The pair i = 0, o = 1, w = 0 against 0, 2, 1 is accepted at signal 2"
     ∷ solvedRow circuit-b [] 1 Open
     ∷ pairRow circuit-b 2 (0 ∷ 1 ∷ 0 ∷ []) (0 ∷ 2 ∷ 1 ∷ [])
-    -- c. the listing's numbers, steps, verdict and count; "`refused 6 112` for c cut to 112 bytes"
-    ∷ readRow (circuitBytes circuit-c) (numbers 13 4 1 3 4)
+    -- c. "The file has 113 bytes"; the listing's numbers, steps, verdict and count; "`refused 6 112` for c cut to 112 bytes"
+    ∷ readRow (circuitBytes circuit-c) (numbers 13 4 1 3 4 113)
     ∷ solvedRow circuit-c steps-c 4 Fixed
     ∷ judgedRow circuit-c steps-c (1 ∷ 1 ∷ 1 ∷ 1 ∷ []) 4 Fixed
     ∷ readRow (take 112 (circuitBytes circuit-c)) (unread 6 112)
@@ -128,6 +128,6 @@ table =
     ∷ readRow (circuitBytes (bare 2 1)) (unread 4 0)
     ∷ readRow (circuitBytes (bare 9 1)) (unread 4 0)
     ∷ readRow (circuitBytes (bare 2147483645 1)) (unread 4 0)
-    ∷ readRow (circuitBytes (bare 2147483647 1)) (numbers 2147483647 1 0 1 0)
+    ∷ readRow (circuitBytes (bare 2147483647 1)) (numbers 2147483647 1 0 1 0 17)
     ∷ readRow (circuitBytes (bare 7 257)) (unread 5 0)
     ∷ []
