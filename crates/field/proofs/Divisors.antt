@@ -1,35 +1,41 @@
--- Trial division by a complete table answers as trial division by every odd number.
+-- Trial division by enough divisors, of which some are passed over by their inverses, answers as trial division by every odd number.
 -- Assumes nothing.
 use mathlib.Core.Path.{_≡_, refl, sym, ap, _∙_}
 use mathlib.Core.Logic.{_⊎_, inl, inr, ⊎-elim}
 use mathlib.Core.Bool.{Bool, true, false, not, true≢false}
 use mathlib.Core.List.{List, [], _∷_}
-use Prim.Native.Nat.{ℕ, zero, suc, _+_, _*_, _%_, _≤_, _<_}
-use native.Mathlib.Nat.{dvd-of-mod-eq-zero, dvd-trans, mod-eq-zero-of-dvd, mul-le-mul-left}
-use native.Mathlib.Decide.{ℕ-discrete}
+use Prim.Native.Nat.{ℕ, zero, suc, _+_, _*_, _/_, _%_, _≤_, _<_}
+use native.Mathlib.Nat.{
+  div-le-self,
+  div-mul-cancel,
+  div-mul-le-self,
+  dvd-of-mod-eq-zero,
+  dvd-trans,
+  eq-or-lt-of-le,
+  le-div-iff-mul-le,
+  mod-eq-of-lt,
+  mod-eq-zero-of-dvd,
+  mul-le-mul-left,
+}
+use native.Mathlib.Decide.{decLe, ℕ-discrete}
 use native.Mathlib.Omega.{arith}
 use borrow.Author.Tests.{eq-eqb, ne-eqb, eqb-true, not-true}
-use native.Mathlib.Numerals.{add-one}
-use lib.ListN.{length, drop, getD}
-use lib.Seq.{drop-cons, drop-length}
-use Rattle.field.specs.Prime.{trial, noDivisor, oddPrime}
-use Rattle.field.specs.Divisors.{tried, complete}
+use lib.Dec.{eqb}
+use lib.ListN.{length, getD}
+use Rattle.field.specs.Prime.{noDivisor, oddPrime}
+use Rattle.field.specs.Divisors.{Enough, Passed, complete, paired}
+use Rattle.field.proofs.Residue.{mul-mod-mod}
 use Rattle.field.proofs.Prime.{
   Clear,
   Free,
   both,
   clear-no-divisor,
-  clear-trial,
+  divided-not,
   free-clear,
   free-next,
   free-start,
-  no-divisor-clear,
   odd-next,
   odd-prime-divisors,
-  trial-hit,
-  trial-miss,
-  trial-past,
-  trial-true,
 }
 
 -- n is the next entry
@@ -70,86 +76,209 @@ free-between p n o h b F =
               (mod-eq-zero-of-dvd d (dvd-trans d (dvd-of-mod-eq-zero d z) (dvd-of-mod-eq-zero n e)));
         }
 
-tried-clear :
-    (k n p : ℕ) (xs : List ℕ)
+-- ---- the order of a complete table
+
+-- each entry is at least n, and none is below one before it
+record Ordered (n : ℕ) (xs : List ℕ) : Type 0 where
+  above : (i : ℕ) → i < length xs → n ≤ getD xs i 0
+  rising : (i j : ℕ) → i ≤ j → j < length xs → getD xs i 0 ≤ getD xs j 0
+
+ordered-more : (n : ℕ) (xs : List ℕ) → Ordered (n + 2) xs → Ordered n (n ∷ xs)
+ordered-more n xs O = record { above = above; rising = rising }
+  where
+    above : (i : ℕ) → i < length (n ∷ xs) → n ≤ getD (n ∷ xs) i 0
+    above zero l = omega arith
+    above (suc i) l = omega (arith, O .above i (omega arith))
+
+    rising : (i j : ℕ) → i ≤ j → j < length (n ∷ xs) → getD (n ∷ xs) i 0 ≤ getD (n ∷ xs) j 0
+    rising zero j h l = above j l
+    rising (suc i) zero h l = absurd (omega arith)
+    rising (suc i) (suc j) h l = O .rising i j (omega arith) (omega arith)
+
+ordered-less : (n : ℕ) (xs : List ℕ) → Ordered (n + 2) xs → Ordered n xs
+ordered-less n xs O = record { above = λ i l. omega (arith, O .above i l); rising = O .rising }
+
+complete-ordered : (k n : ℕ) (xs : List ℕ) → 3 ≤ n → complete k n xs ≡ true → Ordered n xs
+unfolding complete
+complete-ordered zero n xs h c =
+    let e : length xs ≡ 0 = eqb-true (length xs) 0 c in
+    record { above = λ i l. absurd (omega arith); rising = λ i j m l. absurd (omega arith) }
+complete-ordered (suc k) n xs h c =
+    ⊎-elim (λ (N : Named k n xs). rw (N .same) (ordered-more n (N .rest) (complete-ordered k (n + 2) (N .rest) (omega arith) (N .more))))
+    (λ (B : Between k n xs). ordered-less n xs (complete-ordered k (n + 2) xs (omega arith) (B .more))) (next k n xs h c)
+
+enough-ordered : {xs : List ℕ} {p : ℕ} → Enough xs p → Ordered 3 xs
+enough-ordered {xs} E = complete-ordered (E .count) 3 xs (omega arith) (E .all)
+
+-- ---- the inverses
+
+pub record Inverses (xs vs : List ℕ) : Type 0 where
+  pub lengths : length vs ≡ length xs
+  pub one : (j : ℕ) → j < length xs → getD xs j 0 * getD vs j 0 % 4294967296 ≡ 1
+
+inverses-more : (x v : ℕ) (xs vs : List ℕ) → x * v % 4294967296 ≡ 1 → Inverses xs vs → Inverses (x ∷ xs) (v ∷ vs)
+inverses-more x v xs vs e I = record { lengths = ap suc (I .lengths); one = one }
+  where
+    one : (j : ℕ) → j < length (x ∷ xs) → getD (x ∷ xs) j 0 * getD (v ∷ vs) j 0 % 4294967296 ≡ 1
+    one zero l = e
+    one (suc j) l = I .one j (omega arith)
+
+paired-inverses : (xs vs : List ℕ) → paired xs vs ≡ true → Inverses xs vs
+unfolding paired
+paired-inverses [] [] e = record { lengths = refl; one = λ j l. absurd (omega arith) }
+paired-inverses [] (v ∷ vs) e = absurd (true≢false (sym e))
+paired-inverses (x ∷ xs) [] e = absurd (true≢false (sym e))
+paired-inverses (x ∷ xs) (v ∷ vs) e =
+    let b = both (eqb (x * v % 4294967296) 1) (paired xs vs) e in
+    inverses-more x v xs vs (eqb-true (x * v % 4294967296) 1 (b .0)) (paired-inverses xs vs (b .1))
+
+-- where d divides p, p times the inverse of d is the quotient
+quotient : (m d v p : ℕ) → d * v % m ≡ 1 → p < m → p % d ≡ 0 → p * v % m ≡ p / d
+quotient m d v p i l e =
+    let w : p / d * d ≡ p = div-mul-cancel d (dvd-of-mod-eq-zero d e) in
+    let s : p * v ≡ p / d * (d * v) = omega (arith, ap (λ (n : ℕ). n * v) w) in
+    ap (λ (n : ℕ). n % m) s ∙ sym (mul-mod-mod (p / d) (d * v) m) ∙ ap (λ (n : ℕ). p / d * n % m) i
+    ∙ ap (λ (n : ℕ). n % m) (omega arith) ∙ mod-eq-of-lt (omega (arith, div-le-self p d))
+
+-- the quotient by a larger divisor is not larger
+div-antitone : (p d e : ℕ) → 0 < d → d ≤ e → p / e ≤ p / d
+div-antitone p d e z h = le-div-iff-mul-le z .1 (omega (arith, mul-le-mul-left (p / e) h, div-mul-le-self p e))
+
+pub passed-start : (vs : List ℕ) (p q start end : ℕ) → start ≤ end → Passed vs p q start end start
+passed-start vs p q start end h = record { from = omega arith; to = h; above = λ j g l. absurd (omega arith) }
+
+pub passed-next :
+    {vs : List ℕ} {p q start end i : ℕ} → i < end → q < p * getD vs i 0 % 4294967296 → Passed vs p q start end i → Passed vs p q start end (i + 1)
+passed-next {vs} {p} {q} {start} {end} {i} l g P = record { from = omega (arith, P .from); to = omega arith; above = above }
+  where
+    above : (j : ℕ) → start ≤ j → j < i + 1 → q < p * getD vs j 0 % 4294967296
+    above j h m =
+        ⊎-elim (λ (e : j ≡ i). rw e g) (λ (k : j < i). P .above j h k) (eq-or-lt-of-le {n = j} {m = i} (omega arith))
+
+-- ---- the walk over the table
+
+-- no entry before the i-th divides p
+pub record Missed (xs : List ℕ) (p i : ℕ) : Type 0 where
+  pub none : (j : ℕ) → j < i → p % getD xs j 0 ≡ 0 → ⊥
+
+-- an entry that doesn't divide p, and those that are passed over with its quotient
+missed-next :
+    {xs vs : List ℕ} {p i end r : ℕ}
+    → Ordered 3 xs
+    → Inverses xs vs
+    → p < 4294967296
+    → end ≤ length xs
+    → (p % getD xs i 0 ≡ 0 → ⊥)
+    → Passed vs p (p / getD xs i 0) (i + 1) end r
+    → Missed xs p i
+    → Missed xs p r
+missed-next {xs} {vs} {p} {i} {end} {r} O I l h n N M = record { none = none }
+  where
+    after : (j : ℕ) → i + 1 ≤ j → j < r → p % getD xs j 0 ≡ 0 → ⊥
+    after j g m e =
+        let z : j < length xs = omega (arith, N .to) in
+        omega (
+          arith,
+          N .above j g m,
+          quotient 4294967296 (getD xs j 0) (getD vs j 0) p (I .one j z) l e,
+          div-antitone p (getD xs i 0) (getD xs j 0) (omega (arith, O .above i (omega arith))) (O .rising i j (omega arith) z),
+        )
+
+    here : (j : ℕ) → j < r → p % getD xs j 0 ≡ 0 → Dec (i + 1 ≤ j) → Dec (j ≡ i) → ⊥
+    here j m e (yes g) _ = after j g m e
+    here j m e (no g) (yes q) = n (rw q at e)
+    here j m e (no g) (no q) = M .none j (omega arith) e
+
+    none : (j : ℕ) → j < r → p % getD xs j 0 ≡ 0 → ⊥
+    none j m e = here j m e (decLe (i + 1) j) (ℕ-discrete j i)
+
+-- the i-th entry ends the walk: there is none, or its square is above p
+abbrev Ends : List ℕ → ℕ → ℕ → Type 0
+Ends xs p i = i < length xs → p < getD xs i 0 * getD xs i 0
+
+missed-clear :
+    (k n p i : ℕ) (xs : List ℕ)
     → n % 2 ≡ 1
     → 3 ≤ n
     → complete k n xs ≡ true
     → Free p n
     → p < (n + 2 * k) * (n + 2 * k)
-    → tried xs p ≡ true
+    → Missed xs p i
+    → Ends xs p i
     → Clear p
-unfolding tried
-tried-clear zero n p xs o h c F l t = free-clear p n (omega arith) F
-tried-clear (suc k) n p xs o h c F l t =
-    ⊎-elim
-    (λ (N : Named k n xs). ⊎-elim (λ (q : p < n * n). free-clear p n q F)
-    (λ w. tried-clear k (n + 2) p (N .rest) (odd-next n o) (omega arith) (N .more) (free-next p n o F (w .0)) (omega arith) (w .1))
-    (trial-true p n (tried (N .rest) p) (rw (N .same) at t)))
-    (λ (B : Between k n xs). tried-clear k (n + 2) p xs (odd-next n o) (omega arith) (B .more) (free-between p n o h (B .divided) F) (omega arith) t)
+missed-clear zero n p i xs o h c F l M s = free-clear p n (omega arith) F
+missed-clear (suc k) n p zero xs o h c F l M s =
+    ⊎-elim (λ (N : Named k n xs). free-clear p n (first (N .rest) (rw (N .same) at s)) F)
+    (λ (B : Between k n xs). missed-clear k (n + 2) p 0 xs (odd-next n o) (omega arith) (B .more) (free-between p n o h (B .divided) F) (omega arith) M s)
     (next k n xs h c)
-
-none-left : (xs : List ℕ) → length xs ≡ 0 → xs ≡ []
-none-left [] e = refl
-none-left (x ∷ xs) e = absurd (omega arith)
-
-clear-tried : (k n p : ℕ) (xs : List ℕ) → n % 2 ≡ 1 → 3 ≤ n → complete k n xs ≡ true → Clear p → tried xs p ≡ true
-unfolding tried complete
-clear-tried zero n p xs o h c C = rw (none-left xs (eqb-true (length xs) 0 c))
-clear-tried (suc k) n p xs o h c C =
-    ⊎-elim
-    (λ (N : Named k n xs). rw (N .same)
-    (clear-trial p n (tried (N .rest) p) C h o (clear-tried k (n + 2) p (N .rest) (odd-next n o) (omega arith) (N .more) C)))
-    (λ (B : Between k n xs). clear-tried k (n + 2) p xs (odd-next n o) (omega arith) (B .more) C) (next k n xs h c)
-
--- each entry is at least 3
-pub record Above (xs : List ℕ) : Type 0 where
-  pub entry : (i : ℕ) → i < length xs → 3 ≤ getD xs i 0
-
-above-more : (n : ℕ) (xs : List ℕ) → 3 ≤ n → Above xs → Above (n ∷ xs)
-above-more n xs h A = record { entry = entry }
   where
-    entry : (i : ℕ) → i < length (n ∷ xs) → 3 ≤ getD (n ∷ xs) i 0
-    entry zero l = h
-    entry (suc i) l = A .entry i (omega arith)
+    first : (rest : List ℕ) → Ends (n ∷ rest) p 0 → p < n * n
+    first rest t = t (omega arith)
+missed-clear (suc k) n p (suc i) xs o h c F l M s =
+    ⊎-elim
+    (λ (N : Named k n xs). let L = rw (N .same) at M in
+    missed-clear k (n + 2) p i (N .rest) (odd-next n o) (omega arith) (N .more) (free-next p n o F (first (N .rest) L)) (omega arith)
+    (rest (N .rest) L) (ends (N .rest) (rw (N .same) at s)))
+    (λ (B : Between k n xs). missed-clear k (n + 2) p (suc i) xs (odd-next n o) (omega arith) (B .more) (free-between p n o h (B .divided) F) (omega arith) M s)
+    (next k n xs h c)
+  where
+    first : (ys : List ℕ) → Missed (n ∷ ys) p (suc i) → p % n ≡ 0 → ⊥
+    first ys L = L .none 0 (omega arith)
 
-pub complete-above : (k n : ℕ) (xs : List ℕ) → 3 ≤ n → complete k n xs ≡ true → Above xs
-unfolding complete
-complete-above zero n xs h c = record { entry = λ i l. absurd (omega (arith, eqb-true (length xs) 0 c)) }
-complete-above (suc k) n xs h c =
-    ⊎-elim (λ (N : Named k n xs). rw (N .same) (above-more n (N .rest) h (complete-above k (n + 2) (N .rest) (omega arith) (N .more))))
-    (λ (B : Between k n xs). complete-above k (n + 2) xs (omega arith) (B .more)) (next k n xs h c)
+    rest : (ys : List ℕ) → Missed (n ∷ ys) p (suc i) → Missed ys p i
+    rest ys L = record { none = λ j m. L .none (suc j) (omega arith) }
 
-same-test : (a b : Bool) → (a ≡ true → b ≡ true) → (b ≡ true → a ≡ true) → a ≡ b
-same-test true b f g = sym (f refl)
-same-test false true f g = g refl
-same-test false false f g = refl
+    ends : (ys : List ℕ) → Ends (n ∷ ys) p (suc i) → Ends ys p i
+    ends ys t m = t (omega arith)
 
--- 23,169 odd numbers from 3 on reach past the root of 2,147,483,647
-pub tried-odd-prime :
-    (p : ℕ) (xs : List ℕ) → complete 23169 3 xs ≡ true → 3 ≤ p → p ≤ 2147483647 → p % 2 ≡ 1 → tried xs p ≡ oddPrime p
-tried-odd-prime p xs c l h o =
-    same-test (tried xs p) (noDivisor p 3 p)
-    (λ t. clear-no-divisor p 3 p (omega arith) refl (tried-clear 23169 3 p xs refl (omega arith) c (free-start p) (omega arith) t))
-    (λ t. clear-tried 23169 3 p xs refl (omega arith) c (no-divisor-clear p 3 p refl (free-start p) (omega arith) t))
-    ∙ sym (odd-prime-divisors p l h o)
+-- ---- the walk at entry i: p is in range and odd, the table and its inverses are right, and no entry before divides p
 
--- ---- the walk over the table: from entry i on it says what the whole says
+pub record Walk (xs vs : List ℕ) (p i : ℕ) : Type 0 where
+  pub low : 3 ≤ p
+  pub high : p ≤ 2147483647
+  pub odd : p % 2 ≡ 1
+  pub enough : Enough xs p
+  pub inverses : Inverses xs vs
+  pub missed : Missed xs p i
 
-module _ (xs : List ℕ) (p i : ℕ) {whole : Bool} (left : tried (drop i xs) p ≡ whole) where
-  here : i < length xs → whole ≡ trial p (getD xs i 0) (tried (drop (i + 1) xs) p)
-  unfolding tried
-  here h = sym left ∙ rw (add-one, drop-cons xs i 0)
+pub walk-start : (xs vs : List ℕ) (p : ℕ) → 3 ≤ p → p ≤ 2147483647 → p % 2 ≡ 1 → Enough xs p → paired xs vs ≡ true → Walk xs vs p 0
+walk-start xs vs p l h o E e =
+    record {
+      low = l;
+      high = h;
+      odd = o;
+      enough = E;
+      inverses = paired-inverses xs vs e;
+      missed = record { none = λ j m z. absurd (omega arith) };
+    }
 
-  pub walk-past : i < length xs → p < getD xs i 0 * getD xs i 0 → true ≡ whole
-  walk-past h l = sym (here h ∙ trial-past p (getD xs i 0) (tried (drop (i + 1) xs) p) l)
+module _ {xs vs : List ℕ} {p i : ℕ} (W : Walk xs vs p i) where
+  pub walk-above : i < length xs → 3 ≤ getD xs i 0
+  walk-above l = enough-ordered (W .enough) .above i l
 
-  pub walk-hit : i < length xs → getD xs i 0 * getD xs i 0 ≤ p → p % getD xs i 0 ≡ 0 → false ≡ whole
-  walk-hit h l e = sym (here h ∙ trial-hit p (getD xs i 0) (tried (drop (i + 1) xs) p) l e)
+  pub walk-hit : i < length xs → getD xs i 0 * getD xs i 0 ≤ p → p % getD xs i 0 ≡ 0 → false ≡ oddPrime p
+  walk-hit l s e = sym (divided-not p (getD xs i 0) (walk-above l) s e)
 
-  pub walk-miss : i < length xs → getD xs i 0 * getD xs i 0 ≤ p → (p % getD xs i 0 ≡ 0 → ⊥) → tried (drop (i + 1) xs) p ≡ whole
-  walk-miss h l n = sym (here h ∙ trial-miss p (getD xs i 0) (tried (drop (i + 1) xs) p) l n)
+  pub walk-ends : Ends xs p i → true ≡ oddPrime p
+  walk-ends s =
+      let E = W .enough in
+      sym
+      (odd-prime-divisors p (W .low) (W .high) (W .odd)
+      ∙ clear-no-divisor p 3 p (omega arith) refl
+      (missed-clear (E .count) 3 p i xs refl (omega arith) (E .all) (free-start p) (E .past) (W .missed) s))
 
-  pub walk-end : i ≡ length xs → true ≡ whole
-  unfolding tried
-  walk-end e = sym (sym left ∙ rw (e, drop-length xs))
+  pub walk-next :
+      {end r : ℕ}
+      → (p % getD xs i 0 ≡ 0 → ⊥)
+      → end ≤ length xs
+      → Passed vs p (p / getD xs i 0) (i + 1) end r
+      → Walk xs vs p r
+  walk-next n h P =
+      record {
+        low = W .low;
+        high = W .high;
+        odd = W .odd;
+        enough = W .enough;
+        inverses = W .inverses;
+        missed = missed-next (enough-ordered (W .enough)) (W .inverses) (omega (arith, W .high)) h n P (W .missed);
+      }

@@ -107,13 +107,13 @@ no-divisor-clear (suc f) d p o F l t =
 
 -- ---- primes
 
+-- a prime has no divisor whose square is at most p
+prime-undivided : (p d : ℕ) → Prime p → 3 ≤ d → d * d ≤ p → p % d ≡ 0 → ⊥
+prime-undivided p d P h l e =
+    ⊎-elim (λ (q : d ≡ 1). omega arith) (λ (q : d ≡ p). omega (arith, mul-le-mul-right d h)) (P .only d (dvd-of-mod-eq-zero d e))
+
 prime-clear : (p : ℕ) → Prime p → Clear p
-prime-clear p P = record { none = none }
-  where
-    none : (d : ℕ) → 3 ≤ d → d % 2 ≡ 1 → d * d ≤ p → p % d ≡ 0 → ⊥
-    none d h o l e =
-        ⊎-elim (λ (q : d ≡ 1). omega arith) (λ (q : d ≡ p). omega (arith, mul-le-mul-right d h))
-        (P .only d (dvd-of-mod-eq-zero d e))
+prime-clear p P = record { none = λ d h o l e. prime-undivided p d P h l e }
 
 prime-odd-number : (p : ℕ) → Prime p → 3 ≤ p → p % 2 ≡ 1
 prime-odd-number p P h =
@@ -184,7 +184,7 @@ pub prime-odd : (p : ℕ) → Prime p → 3 ≤ p → p ≤ 2147483647 → oddPr
 prime-odd p P l h =
     odd-prime-divisors p l h (prime-odd-number p P l) ∙ clear-no-divisor p 3 p (omega arith) refl (prime-clear p P)
 
--- ---- out of range, even, and the paper's cases
+-- ---- out of range, even, divided, and the paper's cases
 
 pub low-not : (p : ℕ) → p < 3 → oddPrime p ≡ false
 unfolding oddPrime
@@ -197,6 +197,13 @@ high-not p l h = rw (le-leb 3 p l, lt-leb p 2147483647 h)
 pub even-not : (p : ℕ) → 3 ≤ p → p ≤ 2147483647 → p % 2 ≡ 0 → oddPrime p ≡ false
 unfolding oddPrime
 even-not p l h e = rw (le-leb 3 p l, le-leb p 2147483647 h, e)
+
+pub divided-not : (p d : ℕ) → 3 ≤ d → d * d ≤ p → p % d ≡ 0 → oddPrime p ≡ false
+divided-not p d h l e = go (oddPrime p) refl
+  where
+    go : (b : Bool) → oddPrime p ≡ b → b ≡ false
+    go true t = absurd (prime-undivided p d (odd-prime p t) h l e)
+    go false t = refl
 
 pub odd-prime-cases :
     (oddPrime 2 ≡ false)

@@ -1,24 +1,50 @@
 // The prime field of a circuit: the test for an odd prime, and the inverse modulo it.
 ghost use mathlib.Core.Path.{_≡_};
 ghost use mathlib.Core.Bool.{true};
-ghost use Rattle.field.specs.Divisors.{complete};
+ghost use Prim.Native.Nat.{_≤_, _<_};
+ghost use lib.ListN.{length};
+ghost use Rattle.field.specs.Divisors.{Enough, Next, paired};
 ghost use Rattle.field.specs.Prime.{oddPrime};
 
 pub mod modular;
 mod table;
 
 use table::DIVISORS;
+use table::INVERSES;
+use table::SMALL_DIVISORS;
+use table::SMALL_INVERSES;
 
-// Whether p is an odd prime in range, by trial division with a complete table: each odd number from 3 to 46,339, of which there are 23,169,
-// is an entry or has a divisor. The square of the next, 46,341, is past the range.
-fn odd_prime_by(table: &[u16], p: u32) -> bool
-    requires { ⌜ complete 23169 3 (now table) ≡ true ⌝ }
+// The first place from start to end whose entry times p is at most q modulo 4,294,967,296; end where there is none.
+fn next_candidate(inverses: &[u32], p: u32, q: u32, start: usize, end: usize) -> usize
+    requires { ⌜ (start ≤ end) × (end ≤ length (now inverses)) ⌝ }
+    ensures { λ r. ⌜ Next (now (inverses .entry)) p q start end r ⌝ }
+{
+    let mut i = start;
+    while i < end {
+        if p as u64 * inverses[i] as u64 % 4294967296 <= q as u64 {
+            return i;
+        }
+        i += 1;
+    }
+    end
+}
+
+// Where a run of at most 64 places from i ends.
+fn run_end(i: usize, length: usize) -> usize
+    requires { ⌜ i < length ⌝ }
+    ensures { λ r. ⌜ (i < r) × (r ≤ length) ⌝ }
+{
+    if length - i < 64 { length } else { i + 64 }
+}
+
+// Whether p is an odd prime, by trial division with a table that is enough for p. Where d, at most as large as the divisors after it, doesn't divide p,
+// a later one can only where p times its inverse is at most p / d modulo 4,294,967,296: then that is the quotient. The others are passed over,
+// in runs of 64, so that the squares are compared now and then.
+fn odd_prime_by(table: &[u16], inverses: &[u32], p: u32) -> bool
+    requires { ⌜ (p ≤ 2147483647) × Enough (now table) p × (paired (now table) (now inverses) ≡ true) ⌝ }
     ensures { λ r. ⌜ r ≡ oddPrime p ⌝ }
 {
     if p < 3 {
-        return false;
-    }
-    if 2147483647 < p {
         return false;
     }
     if p % 2 == 0 {
@@ -33,14 +59,36 @@ fn odd_prime_by(table: &[u16], p: u32) -> bool
         if p % d == 0 {
             return false;
         }
-        i += 1;
+        i = next_candidate(inverses, p, p / d, i + 1, run_end(i, table.len()));
     }
     true
+}
+
+// The test by the short table, which is all that's read for most circuits.
+fn small_odd_prime(p: u32) -> bool
+    requires { ⌜ p < 1062961 ⌝ }
+    ensures { λ r. ⌜ r ≡ oddPrime p ⌝ }
+{
+    odd_prime_by(&SMALL_DIVISORS, &SMALL_INVERSES, p)
+}
+
+// The test by the whole table.
+fn large_odd_prime(p: u32) -> bool
+    requires { ⌜ p ≤ 2147483647 ⌝ }
+    ensures { λ r. ⌜ r ≡ oddPrime p ⌝ }
+{
+    odd_prime_by(&DIVISORS, &INVERSES, p)
 }
 
 // Whether p is an odd prime, 3 to 2,147,483,647.
 pub fn is_odd_prime(p: u32) -> bool
     ensures { λ r. ⌜ r ≡ oddPrime p ⌝ }
 {
-    odd_prime_by(&DIVISORS, p)
+    if p < 1062961 {
+        return small_odd_prime(p);
+    }
+    if 2147483647 < p {
+        return false;
+    }
+    large_odd_prime(p)
 }
