@@ -19,11 +19,11 @@ use native.Mathlib.Nat.{
 }
 use native.Mathlib.Decide.{decLe, ℕ-discrete}
 use native.Mathlib.Omega.{arith}
-use borrow.Author.Tests.{eq-eqb, ne-eqb, eqb-true, not-true}
-use lib.Dec.{eqb}
+use borrow.Author.Tests.{eq-eqb, ne-eqb, eqb-true, not-true, leb-true, leb-false}
+use lib.Dec.{eqb, leb}
 use lib.ListN.{length, getD}
 use Rattle.field.specs.Prime.{noDivisor, oddPrime}
-use Rattle.field.specs.Divisors.{Enough, Passed, complete, paired}
+use Rattle.field.specs.Divisors.{Enough, Next, Passed, complete, paired}
 use Rattle.field.proofs.Residue.{mul-mod-mod}
 use Rattle.field.proofs.Prime.{
   Clear,
@@ -147,13 +147,29 @@ div-antitone p d e z h = le-div-iff-mul-le z .1 (omega (arith, mul-le-mul-left (
 pub passed-start : (vs : List ℕ) (p q start end : ℕ) → start ≤ end → Passed vs p q start end start
 passed-start vs p q start end h = record { from = omega arith; to = h; above = λ j g l. absurd (omega arith) }
 
-pub passed-next :
-    {vs : List ℕ} {p q start end i : ℕ} → i < end → q < p * getD vs i 0 % 4294967296 → Passed vs p q start end i → Passed vs p q start end (i + 1)
-passed-next {vs} {p} {q} {start} {end} {i} l g P = record { from = omega (arith, P .from); to = omega arith; above = above }
-  where
-    above : (j : ℕ) → start ≤ j → j < i + 1 → q < p * getD vs j 0 % 4294967296
-    above j h m =
-        ⊎-elim (λ (e : j ≡ i). rw e g) (λ (k : j < i). P .above j h k) (eq-or-lt-of-le {n = j} {m = i} (omega arith))
+module _ {vs : List ℕ} {p q start end i : ℕ} (P : Passed vs p q start end i) where
+  pub passed-next : i < end → leb (p * getD vs i 0 % 4294967296) q ≡ false → Passed vs p q start end (i + 1)
+  passed-next l e = record { from = omega (arith, P .from); to = omega arith; above = above }
+    where
+      above : (j : ℕ) → start ≤ j → j < i + 1 → q < p * getD vs j 0 % 4294967296
+      above j h m =
+          ⊎-elim (λ (z : j ≡ i). rw z (leb-false (p * getD vs i 0 % 4294967296) q e)) (λ (k : j < i). P .above j h k)
+          (eq-or-lt-of-le {n = j} {m = i} (omega arith))
+
+  pub next-found : leb (p * getD vs i 0 % 4294967296) q ≡ true → Next vs p q start end i
+  next-found e = record { passed = P; found = λ l. leb-true (p * getD vs i 0 % 4294967296) q e }
+
+  pub next-end : i ≡ end → Next vs p q start end end
+  next-end e = record { passed = rw e at P; found = λ l. absurd (omega arith) }
+
+-- the second of two entries
+module _ {vs : List ℕ} {p q start end i : ℕ} (P : Passed vs p q start end i) (l : i + 1 < end)
+    (e : leb (p * getD vs i 0 % 4294967296) q ≡ false) where
+  pub next-second : leb (p * getD vs (i + 1) 0 % 4294967296) q ≡ true → Next vs p q start end (i + 1)
+  next-second t = next-found (passed-next P (omega arith) e) t
+
+  pub passed-second : leb (p * getD vs (i + 1) 0 % 4294967296) q ≡ false → Passed vs p q start end (i + 2)
+  passed-second t = let z : i + 1 + 1 ≡ i + 2 = omega arith in rw z at (passed-next (passed-next P (omega arith) e) l t)
 
 -- ---- the walk over the table
 
