@@ -28,19 +28,19 @@ use Rattle.field.proofs.Residue.{mod-mul-mod}
 
 -- ---- one trial division
 
-pub trial-past : (p d : ℕ) (rest : Bool) → p < d * d → trial p d rest ≡ true
+trial-past : (p d : ℕ) (rest : Bool) → p < d * d → trial p d rest ≡ true
 unfolding trial
 trial-past p d rest h = rw (lt-ltb p (d * d) h)
 
-pub trial-hit : (p d : ℕ) (rest : Bool) → d * d ≤ p → p % d ≡ 0 → trial p d rest ≡ false
+trial-hit : (p d : ℕ) (rest : Bool) → d * d ≤ p → p % d ≡ 0 → trial p d rest ≡ false
 unfolding trial
 trial-hit p d rest h e = rw (le-ltb p (d * d) h, eq-eqb (p % d) 0 e)
 
-pub trial-miss : (p d : ℕ) (rest : Bool) → d * d ≤ p → (p % d ≡ 0 → ⊥) → trial p d rest ≡ rest
+trial-miss : (p d : ℕ) (rest : Bool) → d * d ≤ p → (p % d ≡ 0 → ⊥) → trial p d rest ≡ rest
 unfolding trial
 trial-miss p d rest h n = rw (le-ltb p (d * d) h, ne-eqb (p % d) 0 n)
 
-pub trial-true : (p d : ℕ) (rest : Bool) → trial p d rest ≡ true → (p < d * d) ⊎ ((p % d ≡ 0 → ⊥) × (rest ≡ true))
+trial-true : (p d : ℕ) (rest : Bool) → trial p d rest ≡ true → (p < d * d) ⊎ ((p % d ≡ 0 → ⊥) × (rest ≡ true))
 trial-true p d rest t = past (decLe (d * d) p)
   where
     hit : d * d ≤ p → Dec (p % d ≡ 0) → (p < d * d) ⊎ ((p % d ≡ 0 → ⊥) × (rest ≡ true))
@@ -84,7 +84,7 @@ free-clear p n l F = record { none = λ d h o s e. F .none d h (below d (omega a
     below : (d : ℕ) → d * d < n * n → d < n
     below d q = lt-of-not-le (λ (h : n ≤ d). omega (arith, mul-le-mul h h))
 
-pub clear-trial : (p d : ℕ) (rest : Bool) → Clear p → 3 ≤ d → d % 2 ≡ 1 → rest ≡ true → trial p d rest ≡ true
+clear-trial : (p d : ℕ) (rest : Bool) → Clear p → 3 ≤ d → d % 2 ≡ 1 → rest ≡ true → trial p d rest ≡ true
 clear-trial p d rest C h o t = go (decLe (d * d) p)
   where
     go : Dec (d * d ≤ p) → trial p d rest ≡ true
@@ -97,7 +97,7 @@ clear-no-divisor zero d p h o C = refl
 clear-no-divisor (suc f) d p h o C =
     clear-trial p d (noDivisor f (d + 2) p) C h o (clear-no-divisor f (d + 2) p (omega arith) (odd-next d o) C)
 
-pub no-divisor-clear : (f d p : ℕ) → d % 2 ≡ 1 → Free p d → p < (d + 2 * f) * (d + 2 * f) → noDivisor f d p ≡ true → Clear p
+no-divisor-clear : (f d p : ℕ) → d % 2 ≡ 1 → Free p d → p < (d + 2 * f) * (d + 2 * f) → noDivisor f d p ≡ true → Clear p
 unfolding noDivisor
 no-divisor-clear zero d p o F l t = free-clear p d (omega arith) F
 no-divisor-clear (suc f) d p o F l t =

@@ -1,4 +1,5 @@
--- Tables of trial divisors: when one has enough of them, and the inverses by which divisors are passed over. How the prime test runs, not what it means.
+-- Tables of trial divisors: when one has enough of them, and the inverses by which divisors are passed over.
+-- How the prime test runs, not what it means.
 -- Assumes nothing.
 use mathlib.Core.Path.{_≡_}
 use mathlib.Core.Bool.{Bool, true, false, not, cond, _&&_}

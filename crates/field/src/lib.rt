@@ -22,8 +22,7 @@ fn at_most(p: u32, v: u32, q: u32) -> bool
     p as u64 * v as u64 % 4294967296 <= q as u64
 }
 
-// The first place from start to end whose entry times p is at most q modulo 4,294,967,296; end where there is none. Two entries a turn
-// are faster than one.
+// The first place from start to end whose entry times p is at most q modulo 4,294,967,296; end where there is none. Two places a turn, for speed.
 fn next_candidate(inverses: &[u32], p: u32, q: u32, start: usize, end: usize) -> usize
     requires { ⌜ (start ≤ end) × (end ≤ length (now inverses)) ⌝ }
     ensures { λ r. ⌜ Next (now (inverses .entry)) p q start end r ⌝ }
@@ -44,7 +43,7 @@ fn next_candidate(inverses: &[u32], p: u32, q: u32, start: usize, end: usize) ->
     if at_most(p, inverses[i], q) { i } else { end }
 }
 
-// The end of a run of at most 128 places after i.
+// The end of a run of at most 128 places after i: any would do, and this soon compares p with a square again.
 fn run_end(i: usize, length: usize) -> usize
     requires { ⌜ i < length ⌝ }
     ensures { λ r. ⌜ (i < r) × (r ≤ length) ⌝ }
@@ -52,9 +51,8 @@ fn run_end(i: usize, length: usize) -> usize
     if length - i < 129 { length } else { i + 129 }
 }
 
-// Whether p is an odd prime, by trial division with a table that is enough for p. Where d, at most as large as the divisors after it, doesn't divide p,
-// a later one can only where p times its inverse is at most p / d modulo 4,294,967,296: then that is the quotient. The others are passed over,
-// in runs of 128, so that the squares are compared now and then.
+// Whether p is an odd prime, by trial division with a table that is enough for p. After d, which doesn't divide p, divisors are passed over
+// without a division: where e divides p, p times the inverse of e is the quotient modulo 4,294,967,296, and it's at most p / d for e above d.
 fn odd_prime_by(table: &[u16], inverses: &[u32], p: u32) -> bool
     requires { ⌜ (p ≤ 2147483647) × Enough (now table) p × (paired (now table) (now inverses) ≡ true) ⌝ }
     ensures { λ r. ⌜ r ≡ oddPrime p ⌝ }
@@ -79,15 +77,7 @@ fn odd_prime_by(table: &[u16], inverses: &[u32], p: u32) -> bool
     true
 }
 
-// The test by the short table, which is all that's read for most circuits.
-fn small_odd_prime(p: u32) -> bool
-    requires { ⌜ p < 1062961 ⌝ }
-    ensures { λ r. ⌜ r ≡ oddPrime p ⌝ }
-{
-    odd_prime_by(&SMALL_DIVISORS, &SMALL_INVERSES, p)
-}
-
-// The test by the whole table.
+// The test by the long tables. It stands apart because a call lays the tables that it names on the stack first, 29 KB here.
 fn large_odd_prime(p: u32) -> bool
     requires { ⌜ p ≤ 2147483647 ⌝ }
     ensures { λ r. ⌜ r ≡ oddPrime p ⌝ }
@@ -95,12 +85,12 @@ fn large_odd_prime(p: u32) -> bool
     odd_prime_by(&DIVISORS, &INVERSES, p)
 }
 
-// Whether p is an odd prime, 3 to 2,147,483,647.
+// Whether p is an odd prime, 3 to 2,147,483,647. The short tables serve below the square of 1,031.
 pub fn is_odd_prime(p: u32) -> bool
     ensures { λ r. ⌜ r ≡ oddPrime p ⌝ }
 {
     if p < 1062961 {
-        return small_odd_prime(p);
+        return odd_prime_by(&SMALL_DIVISORS, &SMALL_INVERSES, p);
     }
     if 2147483647 < p {
         return false;

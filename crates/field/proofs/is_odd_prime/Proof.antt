@@ -1,14 +1,23 @@
--- `field::is_odd_prime` meets its contract: both tests do, and above the range there is none.
+-- `field::is_odd_prime` meets its contract: that the short table is enough, and that its inverses are right, is computed.
 -- Assumes nothing.
-use mathlib.Core.Path.{sym}
+use mathlib.Core.Path.{refl, sym}
 use native.Mathlib.Omega.{arith}
 use borrow.Author.Needs.{needs}
+use Rattle.field.specs.Prime.{trial, noDivisor}
+use Rattle.field.specs.Divisors.{complete, paired}
 use Rattle.field.proofs.Prime.{high-not}
 use Rattle.field.proofs.is_odd_prime.Statement.{statement}
 use Rattle.field.proofs.is_odd_prime.Tie as tie
 
-small-odd-prime-requires : tie.Need-small-odd-prime-requires
-small-odd-prime-requires c κs = search needs
+slice-aggregate-odd-prime-by : tie.Need-slice-aggregate-odd-prime-by
+slice-aggregate-odd-prime-by c = search needs
+
+slice-aggregate-odd-prime-by-2 : tie.Need-slice-aggregate-odd-prime-by-2
+slice-aggregate-odd-prime-by-2 c = search needs
+
+odd-prime-by-requires : tie.Need-odd-prime-by-requires
+unfolding complete noDivisor trial paired
+odd-prime-by-requires c κs = (omega arith, record { count = 514; all = refl; past = omega arith }, refl)
 
 returns : tie.Need-returns
 returns c = search needs
@@ -23,4 +32,13 @@ returns-3 : tie.Need-returns-3
 returns-3 c = search needs
 
 pub is-odd-prime-spec : {M : Type 1} → statement M
-is-odd-prime-spec = tie.close (tie.spec small-odd-prime-requires returns returns-2 large-odd-prime-requires returns-3)
+is-odd-prime-spec =
+    tie.close
+    (tie.spec
+    slice-aggregate-odd-prime-by
+    slice-aggregate-odd-prime-by-2
+    odd-prime-by-requires
+    returns
+    returns-2
+    large-odd-prime-requires
+    returns-3)
