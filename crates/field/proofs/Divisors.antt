@@ -112,6 +112,7 @@ enough-ordered {xs} E = complete-ordered (E .count) 3 xs (omega arith) (E .all)
 
 -- ---- the inverses
 
+-- each entry of vs is the inverse of that of xs
 pub record Inverses (xs vs : List ℕ) : Type 0 where
   pub lengths : length vs ≡ length xs
   pub one : (j : ℕ) → j < length xs → getD xs j 0 * getD vs j 0 % 4294967296 ≡ 1
@@ -144,6 +145,8 @@ quotient m d v p i l e =
 div-antitone : (p d e : ℕ) → 0 < d → d ≤ e → p / e ≤ p / d
 div-antitone p d e z h = le-div-iff-mul-le z .1 (omega (arith, mul-le-mul-left (p / e) h, div-mul-le-self p e))
 
+-- ---- the places that are passed
+
 pub passed-start : (vs : List ℕ) (p q start end : ℕ) → start ≤ end → Passed vs p q start end start
 passed-start vs p q start end h = record { from = omega arith; to = h; above = λ j g l. absurd (omega arith) }
 
@@ -162,7 +165,7 @@ module _ {vs : List ℕ} {p q start end i : ℕ} (P : Passed vs p q start end i)
   pub next-end : i ≡ end → Next vs p q start end end
   next-end e = record { passed = rw e at P; found = λ l. absurd (omega arith) }
 
--- the second of two entries
+-- the second of two places
 module _ {vs : List ℕ} {p q start end i : ℕ} (P : Passed vs p q start end i) (l : i + 1 < end)
     (e : leb (p * getD vs i 0 % 4294967296) q ≡ false) where
   pub next-second : leb (p * getD vs (i + 1) 0 % 4294967296) q ≡ true → Next vs p q start end (i + 1)
@@ -208,44 +211,44 @@ missed-next {xs} {vs} {p} {i} {end} {r} O I l h n N M = record { none = none }
     none : (j : ℕ) → j < r → p % getD xs j 0 ≡ 0 → ⊥
     none j m e = here j m e (decLe (i + 1) j) (ℕ-discrete j i)
 
--- the i-th entry ends the walk: there is none, or its square is above p
-abbrev Ends : List ℕ → ℕ → ℕ → Type 0
-Ends xs p i = i < length xs → p < getD xs i 0 * getD xs i 0
+-- where the walk ends: no entry before divides p, and there is none here or its square is above p
+record Done (xs : List ℕ) (p : ℕ) : Type 0 where
+  place : ℕ
+  missed : Missed xs p place
+  ends : place < length xs → p < getD xs place 0 * getD xs place 0
 
-missed-clear :
-    (k n p i : ℕ) (xs : List ℕ)
+done-next : (n p : ℕ) (xs : List ℕ) → Done (n ∷ xs) p → (p < n * n) ⊎ ((p % n ≡ 0 → ⊥) × Done xs p)
+done-next n p xs D = go (D .place) (D .missed) (D .ends)
+  where
+    go :
+        (i : ℕ)
+        → Missed (n ∷ xs) p i
+        → (i < length (n ∷ xs) → p < getD (n ∷ xs) i 0 * getD (n ∷ xs) i 0)
+        → (p < n * n) ⊎ ((p % n ≡ 0 → ⊥) × Done xs p)
+    go zero M s = inl (s (omega arith))
+    go (suc i) M s =
+        inr (
+          M .none 0 (omega arith),
+          record { place = i; missed = record { none = λ j m. M .none (suc j) (omega arith) }; ends = λ m. s (omega arith) },
+        )
+
+done-clear :
+    (k n p : ℕ) (xs : List ℕ)
     → n % 2 ≡ 1
     → 3 ≤ n
     → complete k n xs ≡ true
     → Free p n
     → p < (n + 2 * k) * (n + 2 * k)
-    → Missed xs p i
-    → Ends xs p i
+    → Done xs p
     → Clear p
-missed-clear zero n p i xs o h c F l M s = free-clear p n (omega arith) F
-missed-clear (suc k) n p zero xs o h c F l M s =
-    ⊎-elim (λ (N : Named k n xs). free-clear p n (first (N .rest) (rw (N .same) at s)) F)
-    (λ (B : Between k n xs). missed-clear k (n + 2) p 0 xs (odd-next n o) (omega arith) (B .more) (free-between p n o h (B .divided) F) (omega arith) M s)
-    (next k n xs h c)
-  where
-    first : (rest : List ℕ) → Ends (n ∷ rest) p 0 → p < n * n
-    first rest t = t (omega arith)
-missed-clear (suc k) n p (suc i) xs o h c F l M s =
+done-clear zero n p xs o h c F l D = free-clear p n (omega arith) F
+done-clear (suc k) n p xs o h c F l D =
     ⊎-elim
-    (λ (N : Named k n xs). let L = rw (N .same) at M in
-    missed-clear k (n + 2) p i (N .rest) (odd-next n o) (omega arith) (N .more) (free-next p n o F (first (N .rest) L)) (omega arith)
-    (rest (N .rest) L) (ends (N .rest) (rw (N .same) at s)))
-    (λ (B : Between k n xs). missed-clear k (n + 2) p (suc i) xs (odd-next n o) (omega arith) (B .more) (free-between p n o h (B .divided) F) (omega arith) M s)
+    (λ (N : Named k n xs). ⊎-elim (λ (q : p < n * n). free-clear p n q F)
+    (λ w. done-clear k (n + 2) p (N .rest) (odd-next n o) (omega arith) (N .more) (free-next p n o F (w .0)) (omega arith) (w .1))
+    (done-next n p (N .rest) (rw (N .same) at D)))
+    (λ (B : Between k n xs). done-clear k (n + 2) p xs (odd-next n o) (omega arith) (B .more) (free-between p n o h (B .divided) F) (omega arith) D)
     (next k n xs h c)
-  where
-    first : (ys : List ℕ) → Missed (n ∷ ys) p (suc i) → p % n ≡ 0 → ⊥
-    first ys L = L .none 0 (omega arith)
-
-    rest : (ys : List ℕ) → Missed (n ∷ ys) p (suc i) → Missed ys p i
-    rest ys L = record { none = λ j m. L .none (suc j) (omega arith) }
-
-    ends : (ys : List ℕ) → Ends (n ∷ ys) p (suc i) → Ends ys p i
-    ends ys t m = t (omega arith)
 
 -- ---- the walk at entry i: p is in range and odd, the table and its inverses are right, and no entry before divides p
 
@@ -275,13 +278,14 @@ module _ {xs vs : List ℕ} {p i : ℕ} (W : Walk xs vs p i) where
   pub walk-hit : i < length xs → getD xs i 0 * getD xs i 0 ≤ p → p % getD xs i 0 ≡ 0 → false ≡ oddPrime p
   walk-hit l s e = sym (divided-not p (getD xs i 0) (walk-above l) s e)
 
-  pub walk-ends : Ends xs p i → true ≡ oddPrime p
+  pub walk-ends : (i < length xs → p < getD xs i 0 * getD xs i 0) → true ≡ oddPrime p
   walk-ends s =
       let E = W .enough in
       sym
       (odd-prime-divisors p (W .low) (W .high) (W .odd)
       ∙ clear-no-divisor p 3 p (omega arith) refl
-      (missed-clear (E .count) 3 p i xs refl (omega arith) (E .all) (free-start p) (E .past) (W .missed) s))
+      (done-clear (E .count) 3 p xs refl (omega arith) (E .all) (free-start p) (E .past)
+      (record { place = i; missed = W .missed; ends = s })))
 
   pub walk-next :
       {end r : ℕ}
