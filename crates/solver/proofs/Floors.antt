@@ -34,10 +34,11 @@ use Rattle.laws.proofs.Sum.{
 use Rattle.laws.proofs.Order.{mark-other, mark-keeps, mark-bound}
 use Rattle.laws.proofs.Forms.{others-at, others-from}
 use Rattle.laws.proofs.Reduced.{reduced-below, reduced-beyond, occurs-yes, nonzero-mod}
+use Rattle.laws.proofs.DigitsRule.{digits-met}
 use Rattle.laws.proofs.Monotone.{digits-met-from}
 use Rattle.rules.proofs.ViewLaws.{getD-repeated}
 use Rattle.solver.specs.Bounds as bounds
-use Rattle.solver.specs.Marks.{IsFloor, Floors, Crowded, FirstLive}
+use Rattle.solver.specs.Marks.{IsFloor, Floors, Crowded, Equals, FirstLive}
 use Rattle.solver.specs.Search.{SomeUnmarked, involves, Forgotten}
 use Rattle.solver.proofs.Untouched.{Uninvolved, uninvolved, uninvolved-reduced}
 
@@ -151,6 +152,12 @@ crowded-fails p n K S r P er X =
     true-or-false _ (and-right (all (suc n) (separate p n (reduced p K) S r)) _ e)
     (le-ltb (sum (suc n) (liveTerm p (reduced p K) S r)) p (crowded-total p n K S r P er X)))
 
+-- Signals with equal coefficients have equal weights
+
+weight-same : (p : ℕ) (R : ℕ → ℕ) (r s u : ℕ) → R s ≡ R u → weight p R r s ≡ weight p R r u
+unfolding weight
+weight-same p R r s u e = ap (λ (x : ℕ). x * inverse p (R r) % p) e
+
 -- a signal of the reduced form is one of 1 to n
 occurs-within : (C : Circuit) → WellFormed C → (k t : ℕ) → 1 ≤ t → occurs (reduced (C .p) (constraintAt C k)) t ≡ true → t ≤ C .n
 occurs-within C W k zero l e = absurd (omega arith)
@@ -218,6 +225,14 @@ module _ (C : Circuit) (W : WellFormed C) (S : Standing) (k : ℕ) where
         (λ u r l a b m e.
         let D = digits-says (C .p) (C .n) K S u r e in
         true-or-false _ (D .is-separated) (crowded-fails (C .p) (C .n) K S r (W .prime) (D .has-reference) X))
+
+    pub digits-equal : Equals (C .n) (reduced (C .p) K) S → IsFloor C S k bounds.none
+    digits-equal X =
+        nothing bounds.none no-product
+        (λ u r l a b m e.
+        digits-met (C .p) (C .n) K S u r e .differ (X .one) (X .other) (omega (arith, X .one-below, X .other-most)) (omega (arith, X .other-most))
+        (X .one-live) (X .other-live) (λ (q : X .one ≡ X .other). omega (arith, X .one-below))
+        (weight-same (C .p) (reduced (C .p) K) r (X .one) (X .other) (X .same)))
 
     pub digits-unreferred :
         ((r : ℕ) → 1 ≤ r → r ≤ C .n → occurs (reduced (C .p) K) r ≡ true → separated (C .p) (C .n) (reduced (C .p) K) S r ≡ false)
@@ -292,22 +307,12 @@ module _ (C : Circuit) (W : WellFormed C) (S : Standing) (k u : ℕ) (low : 1 �
 
 -- Floors in a list
 
-pub no-floors : (C : Circuit) (W : WellFormed C) (S : Standing) (n : ℕ) → Floors C S (set (replicate (suc n) 0) 0 bounds.none)
-no-floors C W S n =
-    record {
-      top = getD-set-same (replicate (suc n) 0) 0 bounds.none 0 (omega arith);
-      each = λ k l h.
-          rw (getD-set-other (replicate (suc n) 0) 0 k bounds.none 0 (λ (z : k ≡ 0). omega arith), getD-repeated {A = ℕ} (suc n) k 0)
-          (nothing-known C W S k);
-    }
+pub no-floors : (C : Circuit) (W : WellFormed C) (S : Standing) (n : ℕ) → Floors C S (replicate n 0)
+no-floors C W S n = record { each = λ k l h. rw (getD-repeated {A = ℕ} n k 0) (nothing-known C W S k) }
 
-pub floors-set : (C : Circuit) (S : Standing) (k floor : ℕ) (floors : List ℕ) → Floors C S floors → 1 ≤ k → k < length floors
-    → IsFloor C S k floor → Floors C S (set floors k floor)
-floors-set C S k floor floors F l h I =
-    record {
-      top = getD-set-other floors k 0 floor 0 (λ (z : 0 ≡ k). omega arith) ∙ F .top;
-      each = λ j a b. each j a b (ℕ-discrete j k);
-    }
+pub floors-set : (C : Circuit) (S : Standing) (k floor : ℕ) (floors : List ℕ) → Floors C S floors → k < length floors → IsFloor C S k floor
+    → Floors C S (set floors k floor)
+floors-set C S k floor floors F h I = record { each = λ j a b. each j a b (ℕ-discrete j k) }
   where
     each : (j : ℕ) → 1 ≤ j → j ≤ C .m → Dec (j ≡ k) → IsFloor C S j (getD (set floors k floor) j 0)
     each j a b (yes q) = rw (q, getD-set-same floors k floor 0 h) I
@@ -316,7 +321,7 @@ floors-set C S k floor floors F l h I =
 -- where a signal is marked, the floors of the constraints that involve it are forgotten, and the others stay
 pub floors-kept : (C : Circuit) (W : WellFormed C) (S : Standing) (u : ℕ) → 1 ≤ u → (before later : List ℕ) → Floors C S before
     → Forgotten C u before later → Floors C (mark S u) later
-floors-kept C W S u low before later F G = record { top = G .top ∙ F .top; each = each }
+floors-kept C W S u low before later F G = record { each = each }
   where
     each : (k : ℕ) → 1 ≤ k → k ≤ C .m → IsFloor C (mark S u) k (getD later k 0)
     each k l m =

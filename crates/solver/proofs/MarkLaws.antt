@@ -8,6 +8,7 @@ use native.Mathlib.Omega.{arith}
 use native.Mathlib.Decide.{ℕ-discrete, decLe}
 use lib.Dec.{ltb, eqb}
 use lib.ListN.{length, getD, set}
+use lib.Seq.{getD-set-same, getD-set-other}
 use borrow.Author.Tests.{lt-ltb, eqb-true, eq-eqb, ne-eqb, not-true}
 use Rattle.circuit.specs.Circuit.{Circuit, WellFormed, Constraint, Form, constraintAt}
 use Rattle.circuit.specs.Reader.{formIn, afterForm, constraintIn}
@@ -20,7 +21,18 @@ use Rattle.rules.proofs.ViewLaws.{bound-within}
 use Rattle.derivation.specs.Offsets.{partOf}
 use Rattle.derivation.specs.Inner.{circuitOf}
 use Rattle.solver.specs.Bounds as bounds′
-use Rattle.solver.specs.Marks.{withMarks, IsFloor, Floors, Crowded, FirstLive, StandingOf}
+use Rattle.solver.specs.Marks.{
+  withMarks,
+  IsFloor,
+  Floors,
+  AtMost,
+  Crowded,
+  Equals,
+  Among,
+  FirstLive,
+  FirstZero,
+  StandingOf,
+}
 use Rattle.solver.specs.Search.{Prepared, SomeUnmarked}
 use Rattle.solver.proofs.SearchLaws.{constraint-part}
 use Rattle.solver.proofs.CandidateLaws.{well-formed}
@@ -104,20 +116,115 @@ module _ (p : ℕ) (R : ℕ → ℕ) (S : Standing) (s found : ℕ) (H : Held p 
             other-bound = h;
           }
 
+-- Two unmarked signals with equal coefficients
+
+-- x is the coefficient of an unmarked signal of 1 to s
+pub record Holder (R : ℕ → ℕ) (S : Standing) (s x : ℕ) : Type 0 where
+  pub holder : ℕ
+  pub most : holder ≤ s
+  pub is-live : live R S holder ≡ true
+  pub is : R holder ≡ x
+
+-- the first values are such coefficients
+pub record Gathered (R : ℕ → ℕ) (S : Standing) (s : ℕ) (values : List ℕ) (count : ℕ) : Type 0 where
+  pub each : (i : ℕ) → i < count → Holder R S s (getD values i 0)
+
+pub gathered-start : (R : ℕ → ℕ) (S : Standing) (values : List ℕ) → Gathered R S 0 values 0
+gathered-start R S values = record { each = λ i h. absurd (omega arith) }
+
+module _ (R : ℕ → ℕ) (S : Standing) (s : ℕ) (values : List ℕ) (count : ℕ) (G : Gathered R S s values count) where
+  later : (x : ℕ) → Holder R S s x → Holder R S (s + 1) x
+  later x H = record { holder = H .holder; most = omega (arith, H .most); is-live = H .is-live; is = H .is }
+
+  pub gathered-on : Gathered R S (s + 1) values count
+  gathered-on = record { each = λ i h. later _ (G .each i h) }
+
+  module _ (e : live R S (s + 1) ≡ true) (x : ℕ) (is : R (s + 1) ≡ x) where
+    pub gathered-new : count < length values → Gathered R S (s + 1) (set values count x) (count + 1)
+    gathered-new room = record { each = λ i h. each i h (ℕ-discrete i count) }
+      where
+        each : (i : ℕ) → i < count + 1 → Dec (i ≡ count) → Holder R S (s + 1) (getD (set values count x) i 0)
+        each i h (yes q) =
+            rw (q, getD-set-same values count x 0 room) (record { holder = s + 1; most = omega arith; is-live = e; is = is })
+        each i h (no d) = rw (getD-set-other values count i x 0 d) (later _ (G .each i (omega arith)))
+
+    pub gathered-equal : (n : ℕ) → s < n → Among values count x → Equals n R S
+    gathered-equal n more A =
+        let H = G .each (A .place) (A .early) in
+        record {
+          one = H .holder;
+          other = s + 1;
+          one-below = omega (arith, H .most);
+          other-most = omega arith;
+          one-live = H .is-live;
+          other-live = e;
+          same = H .is ∙ A .is ∙ sym is;
+        }
+
+pub coef-read : (form : List ℕ) (s : ℕ) → coefIn form s ≡ getD form s 0
+unfolding coefIn
+coef-read form s = refl
+
 -- a bound read
 pub bound-read : (p : ℕ) (bounds : List ℕ) (marks : List Bool) (s x : ℕ) → s < length bounds → getD bounds s 0 ≡ x
     → viewOf p bounds marks .bound s ≡ x
 unfolding viewOf
 bound-read p bounds marks s x h e = sym (bound-within p bounds s h) ∙ e
 
+pub bound-nonzero : (p : ℕ) (bounds : List ℕ) (marks : List Bool) (s : ℕ) → s < length bounds → viewOf p bounds marks .bound s ≡ 0
+    → getD bounds s 0 ≡ 0
+unfolding viewOf
+bound-nonzero p bounds marks s h e = bound-within p bounds s h ∙ e
+
+-- a mark read
+pub mark-read : (marks : List Bool) (s : ℕ) {b : Bool} → getD marks s false ≡ b → markIn marks s ≡ b
+unfolding markIn
+mark-read marks s e = e
+
 pub view-live : (p : ℕ) (bounds : List ℕ) (marks : List Bool) (R : ℕ → ℕ) (s : ℕ) (r : Bool)
     → ((b : ℕ → ℕ) → r ≡ live R (withMarks b marks) s) → r ≡ live R (viewOf p bounds marks) s
 unfolding viewOf
 view-live p bounds marks R s r h = h (boundIn p bounds)
 
+pub view-equals : (p : ℕ) (bounds : List ℕ) (marks : List Bool) (R : ℕ → ℕ) (n : ℕ) → ((b : ℕ → ℕ) → Equals n R (withMarks b marks))
+    → Equals n R (viewOf p bounds marks)
+unfolding viewOf
+view-equals p bounds marks R n h = h (boundIn p bounds)
+
 pub view-marked : (p : ℕ) (bounds : List ℕ) (marks : List Bool) (s : ℕ) {b : Bool} → markIn marks s ≡ b → viewOf p bounds marks .marked s ≡ b
 unfolding viewOf
 view-marked p bounds marks s e = e
+
+-- An unmarked signal with bound 0
+
+-- none of 1 to s is one
+pub record Nonzero (S : Standing) (s : ℕ) : Type 0 where
+  pub each : (u : ℕ) → 1 ≤ u → u ≤ s → S .marked u ≡ false → S .bound u ≡ 0 → ⊥
+
+pub nonzero-start : (S : Standing) → Nonzero S 0
+nonzero-start S = record { each = λ u l m e h. absurd (omega arith) }
+
+module _ (S : Standing) (s : ℕ) (Z : Nonzero S s) where
+  pub nonzero-on : (S .marked (s + 1) ≡ false → S .bound (s + 1) ≡ 0 → ⊥) → Nonzero S (s + 1)
+  nonzero-on d = record { each = λ u l m e h. each u l m e h (ℕ-discrete u (s + 1)) }
+    where
+      each : (u : ℕ) → 1 ≤ u → u ≤ s + 1 → S .marked u ≡ false → S .bound u ≡ 0 → Dec (u ≡ s + 1) → ⊥
+      each u l m e h (yes q) = d (rw q at e) (rw q at h)
+      each u l m e h (no x) = Z .each u l (omega arith) e h
+
+  below-zero : (t u : ℕ) → t ≤ s + 1 → 1 ≤ u → S .marked u ≡ false → S .bound u ≡ 0 → t ≤ u
+  below-zero t u a l e h = go (decLe u s)
+    where
+      go : Dec (u ≤ s) → t ≤ u
+      go (yes m) = absurd (Z .each u l m e h)
+      go (no x) = omega arith
+
+  pub zero-found : (n : ℕ) → s < n → S .marked (s + 1) ≡ false → S .bound (s + 1) ≡ 0 → FirstZero S n (s + 1)
+  zero-found n more e h =
+      record { found = inr (omega arith, omega arith, e, h); lowest = λ u l m a b. below-zero (s + 1) u (omega arith) l a b }
+
+  pub zero-none : (n : ℕ) → s ≤ n → n ≤ s → FirstZero S n (n + 1)
+  zero-none n a b = record { found = inl refl; lowest = λ u l m x y. below-zero (n + 1) u (omega arith) l x y }
 
 -- References
 
@@ -150,84 +257,52 @@ tested p n R S r b h e = let same : min n 256 ≡ n = omega arith in e ∙ ap (�
 
 -- The floor of constraint k
 
-module _ (c table bounds : List ℕ) (marks : List Bool) (p n k : ℕ) (B : StandingOf c table bounds marks p n) (first : 1 ≤ k)
-    (last : k ≤ circuitOf c .m) (part : List ℕ) (is-part : part ≡ partOf c table k) where
+module _ (c table : List ℕ) (P : Prepared c table) (k : ℕ) (first : 1 ≤ k) (last : k ≤ circuitOf c .m) (part : List ℕ)
+    (is-part : part ≡ partOf c table k) where
   abbrev C : Circuit
   C = circuitOf c
 
-  abbrev S : Standing
-  S = viewOf p bounds marks
-
   W : WellFormed C
-  W = well-formed c table (B .prepared)
+  W = well-formed c table P
 
   same : constraintIn part ≡ constraintAt C k
-  same = constraint-part c table (B .prepared) k first last part is-part
+  same = constraint-part c table P k first last part is-part
 
-  module _ (b : Bool) (is-linear : b ≡ linear (constraintIn part)) where
+  pub form-at : (p : ℕ) → p ≡ C .p → (form : List ℕ) → ((s : ℕ) → coefIn form s ≡ keep (ltb 1 p) (reduced p (constraintIn part) s))
+      → coefIn form ≡ reduced (C .p) (constraintAt C k)
+  form-at p is-p form is-form =
+      fun-ext
+      (λ s.
+      is-form s
+      ∙ keep-true (ltb 1 p) _ (lt-ltb 1 p (omega (arith, is-p, W .p-least)))
+      ∙ ap (λ (K : Constraint). reduced p K s) same
+      ∙ ap (λ (q : ℕ). reduced q (constraintAt C k) s) is-p)
+
+  module _ (b : Bool) (is-linear : b ≡ linear (constraintIn part)) (S : Standing) where
     linear-at : linear (constraintAt C k) ≡ b
     linear-at = sym (is-linear ∙ ap linear same)
 
     module _ (nonlinear : b ≡ false) (second third : List ℕ) (is-second : second ≡ afterForm part) (is-third : third ≡ afterForm second) (t : ℕ)
-        (U : SomeUnmarked (markIn marks) (formIn third) t) where
+        (U : SomeUnmarked (S .marked) (formIn third) t) where
       unmarked-at : SomeUnmarked (S .marked) (constraintAt C k .c) t
-      unfolding constraintIn viewOf
+      unfolding constraintIn
       unmarked-at = rw (is-third, is-second, ap (λ (K : Constraint). K .c) same) at U
 
       pub floor-unnamed : t ≡ 0 → IsFloor C S k bounds′.none
       floor-unnamed = floors.product-unnamed C W S k (linear-at ∙ nonlinear) t unmarked-at
 
-      pub floor-unmet : (met : Bool) → ((f : ℕ → ℕ) → met ≡ productMet (constraintIn part) (withMarks f marks) t) → met ≡ false
-          → IsFloor C S k bounds′.none
-      unfolding viewOf
+      pub floor-unmet : (met : Bool) → met ≡ productMet (constraintIn part) S t → met ≡ false → IsFloor C S k bounds′.none
       floor-unmet met is-met e =
           floors.product-unmet C W S k (linear-at ∙ nonlinear) t unmarked-at
-          (sym (is-met (S .bound) ∙ ap (λ (K : Constraint). productMet K S t) same) ∙ e)
+          (sym (is-met ∙ ap (λ (K : Constraint). productMet K S t) same) ∙ e)
 
       pub floor-product : IsFloor C S k t
       floor-product = floors.product-floor C W S k (linear-at ∙ nonlinear) t unmarked-at
 
-    module _ (linear : b ≡ true) (form : List ℕ) (is-form : (s : ℕ) → coefIn form s ≡ keep (ltb 1 p) (reduced p (constraintIn part) s)) where
-      form-at : coefIn form ≡ reduced (C .p) (constraintAt C k)
-      form-at =
-          fun-ext
-          (λ s.
-          is-form s
-          ∙ keep-true (ltb 1 p) _ (lt-ltb 1 p (omega (arith, B .is-p, W .p-least)))
-          ∙ ap (λ (K : Constraint). reduced p K s) same
-          ∙ ap (λ (q : ℕ). reduced q (constraintAt C k) s) (B .is-p))
-
-      pub floor-crowded : Crowded p n (coefIn form) S → IsFloor C S k bounds′.none
-      floor-crowded X = floors.digits-crowded C W S k (linear-at ∙ linear) (rw form-at at crowd)
-        where
-          crowd : Crowded (C .p) (C .n) (coefIn form) S
-          crowd =
-              record {
-                one = X .one;
-                other = X .other;
-                one-least = X .one-least;
-                one-below = X .one-below;
-                other-most = omega (arith, X .other-most, B .is-n);
-                one-live = X .one-live;
-                other-live = X .other-live;
-                one-bound = X .one-bound ∙ ap (λ (q : ℕ). q - 1) (B .is-p);
-                other-bound = X .other-bound ∙ ap (λ (q : ℕ). q - 1) (B .is-p);
-              }
-
-      pub floor-unreferred : ((r : ℕ) → 1 ≤ r → r ≤ n → occurs (coefIn form) r ≡ true → separated p n (coefIn form) S r ≡ false)
-          → IsFloor C S k bounds′.none
-      floor-unreferred f =
-          floors.digits-unreferred C W S k (linear-at ∙ linear)
-          (λ r l m e.
-          ap (λ (q : ℕ). separated q (C .n) (reduced (C .p) (constraintAt C k)) S r) (sym (B .is-p))
-          ∙ ap (λ (j : ℕ). separated p j (reduced (C .p) (constraintAt C k)) S r) (sym (B .is-n))
-          ∙ ap (λ (R : ℕ → ℕ). separated p n R S r) (sym form-at)
-          ∙ f r l (omega (arith, B .is-n)) (ap (λ (R : ℕ → ℕ). occurs R r) form-at ∙ e))
-
-      module _ (t : ℕ) (F : (f : ℕ → ℕ) → FirstLive (coefIn form) (withMarks f marks) n t) where
+    module _ (linear : b ≡ true) (form : List ℕ) (is-form : coefIn form ≡ reduced (C .p) (constraintAt C k)) where
+      module _ (t n : ℕ) (is-n : n ≡ C .n) (F : FirstLive (coefIn form) S n t) where
         first-at : FirstLive (reduced (C .p) (constraintAt C k)) S (C .n) t
-        unfolding viewOf
-        first-at = rw (form-at, B .is-n) at (F (S .bound))
+        first-at = rw (is-form, is-n) at F
 
         pub floor-none : t ≡ 0 → IsFloor C S k bounds′.none
         floor-none = floors.digits-none C W S k (linear-at ∙ linear) t first-at
@@ -235,43 +310,55 @@ module _ (c table bounds : List ℕ) (marks : List Bool) (p n k : ℕ) (B : Stan
         pub floor-digits : IsFloor C S k t
         floor-digits = floors.digits-floor C W S k (linear-at ∙ linear) t first-at
 
-      -- a digits step for t with reference r
-      module _ (t : ℕ) where
-        pub target-absent : getD form t 0 ≡ 0 → (r : ℕ) → digitsMet (C .p) (C .n) (constraintAt C k) S t r ≡ false
-        target-absent e r =
-            false-by _
-            (λ d.
-            true-or-false _ (floors.digits-says (C .p) (C .n) (constraintAt C k) S t r d .has-target)
-            (ap (λ (R : ℕ → ℕ). occurs R t) (sym form-at) ∙ absent form t e))
+      module _ (p n : ℕ) (is-p : p ≡ C .p) (is-n : n ≡ C .n) where
+        pub floor-crowded : Crowded p n (coefIn form) S → IsFloor C S k bounds′.none
+        floor-crowded X = floors.digits-crowded C W S k (linear-at ∙ linear) (rw (is-form, is-p, is-n) at X)
 
-        pub reference-absent : (r : ℕ) → getD form r 0 ≡ 0 → digitsMet (C .p) (C .n) (constraintAt C k) S t r ≡ false
-        reference-absent r e =
-            false-by _
-            (λ d.
-            true-or-false _ (floors.digits-says (C .p) (C .n) (constraintAt C k) S t r d .has-reference)
-            (ap (λ (R : ℕ → ℕ). occurs R r) (sym form-at) ∙ absent form r e))
+        pub floor-equal : Equals n (coefIn form) S → IsFloor C S k bounds′.none
+        floor-equal X = floors.digits-equal C W S k (linear-at ∙ linear) (rw (is-form, is-n) at X)
 
-        module _ (r : ℕ) (x : Bool) (is-separated : x ≡ separated p (min n 256) (coefIn form) S r) where
-          separated-at : separated (C .p) (C .n) (reduced (C .p) (constraintAt C k)) S r ≡ x
-          separated-at =
-              sym
-              (tested p n (coefIn form) S r x (omega (arith, B .is-n, W .n-most)) is-separated
-              ∙ ap (λ (R : ℕ → ℕ). separated p n R S r) form-at
-              ∙ ap (λ (q : ℕ). separated q n (reduced (C .p) (constraintAt C k)) S r) (B .is-p)
-              ∙ ap (λ (j : ℕ). separated (C .p) j (reduced (C .p) (constraintAt C k)) S r) (B .is-n))
+        -- whether r separates
+        separated-at : (r : ℕ) (x : Bool) → x ≡ separated p n (coefIn form) S r
+            → separated (C .p) (C .n) (reduced (C .p) (constraintAt C k)) S r ≡ x
+        separated-at r x e = sym (rw (is-form, is-p, is-n) at e)
+
+        pub floor-unreferred : ((r : ℕ) → 1 ≤ r → r ≤ n → occurs (coefIn form) r ≡ true → separated p n (coefIn form) S r ≡ false)
+            → IsFloor C S k bounds′.none
+        floor-unreferred f =
+            floors.digits-unreferred C W S k (linear-at ∙ linear)
+            (λ r l m e. separated-at r false (sym (f r l (omega (arith, is-n)) (ap (λ (R : ℕ → ℕ). occurs R r) is-form ∙ e))))
+
+        -- a digits step for t with reference r
+        module _ (t r : ℕ) (x : Bool) (is-separated : x ≡ separated p (min n 256) (coefIn form) S r) where
+          tested-at : separated (C .p) (C .n) (reduced (C .p) (constraintAt C k)) S r ≡ x
+          tested-at = separated-at r x (tested p n (coefIn form) S r x (omega (arith, is-n, W .n-most)) is-separated)
 
           pub reference-unmet : x ≡ false → digitsMet (C .p) (C .n) (constraintAt C k) S t r ≡ false
           reference-unmet e =
               false-by _
-              (λ d. true-or-false _ (floors.digits-says (C .p) (C .n) (constraintAt C k) S t r d .is-separated) (separated-at ∙ e))
+              (λ d. true-or-false _ (floors.digits-says (C .p) (C .n) (constraintAt C k) S t r d .is-separated) (tested-at ∙ e))
 
           pub reference-met : (getD form t 0 ≡ 0 → ⊥) → (getD form r 0 ≡ 0 → ⊥) → x ≡ true
               → digitsMet (C .p) (C .n) (constraintAt C k) S t r ≡ true
           reference-met a e h =
               floors.digits-holds (C .p) (C .n) (constraintAt C k) S t r (linear-at ∙ linear)
-              (ap (λ (R : ℕ → ℕ). occurs R t) (sym form-at) ∙ present form t a)
-              (ap (λ (R : ℕ → ℕ). occurs R r) (sym form-at) ∙ present form r e)
-              (separated-at ∙ h)
+              (ap (λ (R : ℕ → ℕ). occurs R t) (sym is-form) ∙ present form t a)
+              (ap (λ (R : ℕ → ℕ). occurs R r) (sym is-form) ∙ present form r e)
+              (tested-at ∙ h)
+
+      pub target-absent : (t : ℕ) → getD form t 0 ≡ 0 → (r : ℕ) → digitsMet (C .p) (C .n) (constraintAt C k) S t r ≡ false
+      target-absent t e r =
+          false-by _
+          (λ d.
+          true-or-false _ (floors.digits-says (C .p) (C .n) (constraintAt C k) S t r d .has-target)
+          (ap (λ (R : ℕ → ℕ). occurs R t) (sym is-form) ∙ absent form t e))
+
+      pub reference-absent : (t r : ℕ) → getD form r 0 ≡ 0 → digitsMet (C .p) (C .n) (constraintAt C k) S t r ≡ false
+      reference-absent t r e =
+          false-by _
+          (λ d.
+          true-or-false _ (floors.digits-says (C .p) (C .n) (constraintAt C k) S t r d .has-reference)
+          (ap (λ (R : ℕ → ℕ). occurs R r) (sym is-form) ∙ absent form r e))
 
     pub nonlinear-unmet : b ≡ false → (t r : ℕ) → digitsMet (C .p) (C .n) (constraintAt C k) S t r ≡ false
     nonlinear-unmet e t r =
@@ -295,6 +382,29 @@ product-part c table P k l m part e f marks t met h =
     sym (h f ∙ ap (λ (K : Constraint). productMet K (withMarks f marks) t) (constraint-part c table P k l m part e))
 
 -- Floors found one after the other
+
+pub at-most-start : (floors : List ℕ) (r : ℕ) → AtMost floors 0 r
+at-most-start floors r = record { each = λ k a b. absurd (omega arith) }
+
+pub at-most-on : (before later : List ℕ) (k lowest r : ℕ) → AtMost before k lowest
+    → ((j : ℕ) → (j ≡ k + 1 → ⊥) → getD later j 0 ≡ getD before j 0) → r ≤ lowest → r ≤ getD later (k + 1) 0 → AtMost later (k + 1) r
+at-most-on before later k lowest r A others least own = record { each = λ j a b. each j a b (ℕ-discrete j (k + 1)) }
+  where
+    each : (j : ℕ) → 1 ≤ j → j ≤ k + 1 → Dec (j ≡ k + 1) → r ≤ getD later j 0
+    each j a b (yes q) = rw q own
+    each j a b (no d) = omega (arith, others j d, A .each j a (omega arith))
+
+pub at-most-same : (floors : List ℕ) (k lowest : ℕ) → AtMost floors k lowest → lowest ≤ getD floors (k + 1) 0 → AtMost floors (k + 1) lowest
+at-most-same floors k lowest A h = at-most-on floors floors k lowest lowest A (λ j d. refl) (omega arith) h
+
+pub at-most-set : (floors : List ℕ) (k lowest floor r : ℕ) → AtMost floors k lowest → k + 1 < length floors → r ≤ lowest → r ≤ floor
+    → AtMost (set floors (k + 1) floor) (k + 1) r
+at-most-set floors k lowest floor r A h a b =
+    at-most-on floors (set floors (k + 1) floor) k lowest r A (λ j d. getD-set-other floors (k + 1) j floor 0 d) a
+    (omega (arith, getD-set-same floors (k + 1) floor 0 h))
+
+pub at-most-all : (floors : List ℕ) (m k lowest : ℕ) → AtMost floors k lowest → m ≤ k → AtMost floors m lowest
+at-most-all floors m k lowest A h = record { each = λ j a b. A .each j a (omega arith) }
 
 pub record Small (p n : ℕ) : Type 0 where
   pub n-most : n ≤ 256

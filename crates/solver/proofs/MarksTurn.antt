@@ -22,7 +22,6 @@ use Rattle.derivation.specs.Encoded.{stepBytes, stepsBytes}
 use Rattle.derivation.specs.Inner.{circuitOf}
 use Rattle.rules.specs.declared.standing.Kind as K
 use Rattle.solver.specs.Bytes.{listed, stored}
-use Rattle.solver.specs.Bounds as bounds′
 use Rattle.solver.specs.Marks.{Floors, choiceOf, StandingOf, Marked}
 use Rattle.solver.specs.Search.{Forgotten}
 use Rattle.solver.specs.declared.marks.Choice.{Choice}
@@ -64,7 +63,7 @@ module _ (c table bounds : List ℕ) (marks : List Bool) (p n : ℕ) (B : Standi
   W = well-formed c table (B .prepared)
 
   pub turning-start : (output : List ℕ) (base size : ℕ) → viewOf p bounds marks ≡ bounded C
-      → Turning c bounds marks (set (replicate (suc size) 0) 0 bounds′.none) output output p base 0
+      → Turning c bounds marks (replicate size 0) output output p base 0
   unfolding stepsBytes
   turning-start output base size e =
       record {

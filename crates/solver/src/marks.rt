@@ -1,7 +1,6 @@
 // The marks phase: the lowest unmarked target that some step marks, by the lowest kind, constraint and reference, until none is left.
 
 use crate::memo::forget;
-use crate::memo::least;
 use crate::output::put_step;
 use crate::search::unmarked_in;
 use circuit::reader::after_form;
@@ -24,7 +23,21 @@ ghost use Rattle.laws.specs.Solver.{step, kindNumber, firstProduct, firstDigits
 ghost use Rattle.rules.specs.View.{coefIn, markIn, viewOf};
 ghost use Rattle.rules.specs.Promise.{kindOf};
 ghost use Rattle.derivation.specs.Inner.{circuitOf};
-ghost use Rattle.solver.specs.Marks.{withMarks, IsFloor, Floors, Crowded, FirstLive, found, choiceOf, StandingOf, Marked};
+ghost use Rattle.solver.specs.Marks.{
+  withMarks,
+  IsFloor,
+  Floors,
+  AtMost,
+  Crowded,
+  Equals,
+  Among,
+  FirstLive,
+  FirstZero,
+  found,
+  choiceOf,
+  StandingOf,
+  Marked,
+};
 ghost use Rattle.solver.specs.Search.{Prepared};
 
 // A floor above all signals: the constraint marks nothing.
@@ -95,6 +108,43 @@ fn is_crowded<'a>(form: &[u32], bounds: &'a [u32], marks: &'a [bool], n: u32, p:
     false
 }
 
+// Whether x is among the first values.
+fn is_among(values: &[u32; 257], count: usize, x: u32) -> bool
+    requires { ⌜ count ≤ 257 ⌝ }
+    ensures { λ r. ⌜ (r ≡ true → Among (now (values .entry)) count x) ⌝ }
+{
+    let mut i: usize = 0;
+    while i < count {
+        if values[i] == x {
+            return true;
+        }
+        i = i + 1;
+    }
+    false
+}
+
+// Whether two unmarked signals of the form have equal coefficients. Their weights are equal then, whatever the reference.
+fn has_equals(form: &[u32], marks: &[bool], n: u32) -> bool
+    requires { ⌜ (n < length (now form)) × (n < length (now marks)) × (n ≤ 256) ⌝ }
+    ensures { λ r. ⌜ (r ≡ true → (b : ℕ → ℕ) → Equals n (coefIn (now (form .entry))) (withMarks b (now (marks .entry)))) ⌝ }
+{
+    let mut seen = [0u32; 257];
+    let mut count: usize = 0;
+    let mut s: u32 = 0;
+    while s < n {
+        s = s + 1;
+        if is_live(form, marks, s) {
+            let coef = form[s as usize];
+            if is_among(&seen, count, coef) {
+                return true;
+            }
+            seen[count] = coef;
+            count = count + 1;
+        }
+    }
+    false
+}
+
 // Whether some signal of the form may be the reference of a digits step.
 fn has_reference<'a>(form: &[u32], bounds: &'a [u32], marks: &'a [bool], n: u32, p: u32) -> bool
     requires { ⌜ (n < length (now form)) × (n ≤ 256) ⌝ }
@@ -113,18 +163,11 @@ fn has_reference<'a>(form: &[u32], bounds: &'a [u32], marks: &'a [bool], n: u32,
     false
 }
 
-// The lowest unmarked signal that a step by constraint k marks.
-fn floor_of<'a>(
-    circuit: &[u8],
-    table: &[u32; 513],
-    bounds: &'a [u32],
-    marks: &'a [bool],
-    p: u32,
-    n: u32,
-    k: u32,
-) -> u64
-    requires { ⌜ StandingOf (now circuit) (now table) (now bounds) (now marks) p n × (1 ≤ k) × (k ≤ circuitOf (now circuit) .m) ⌝ }
-    ensures { λ r. ⌜ IsFloor (circuitOf (now (circuit .entry))) (viewOf p (now (bounds .entry)) (now (marks .entry))) k r ⌝ }
+// A number at most the lowest unmarked signal that a step by constraint k marks: where k is linear, its lowest unmarked signal.
+fn low_of(circuit: &[u8], table: &[u32; 513], marks: &[bool], p: u32, n: u32, k: u32) -> u64
+    requires { ⌜ Prepared (now circuit) (now table) × (p ≡ circuitOf (now circuit) .p) × (n ≡ circuitOf (now circuit) .n)
+        × (length (now marks) ≡ 257) × (1 ≤ k) × (k ≤ circuitOf (now circuit) .m) ⌝ }
+    ensures { λ r. ⌜ ((b : ℕ → ℕ) → IsFloor (circuitOf (now (circuit .entry))) (withMarks b (now (marks .entry))) k r) ⌝ }
 {
     let part = part_of(circuit, table, k);
     if !is_linear(part) {
@@ -143,37 +186,106 @@ fn floor_of<'a>(
     if t == 0 {
         return NONE;
     }
+    t as u64
+}
+
+// The floor `low` of constraint k, or none where it's loose, k is linear, and no digits step by k is met.
+fn floor_of<'a>(
+    circuit: &[u8],
+    table: &[u32; 513],
+    bounds: &'a [u32],
+    marks: &'a [bool],
+    p: u32,
+    n: u32,
+    k: u32,
+    low: u64,
+    is_loose: bool,
+) -> u64
+    requires { ⌜ StandingOf (now circuit) (now table) (now bounds) (now marks) p n × (1 ≤ k) × (k ≤ circuitOf (now circuit) .m)
+        × IsFloor (circuitOf (now circuit)) (viewOf p (now bounds) (now marks)) k low ⌝ }
+    ensures { λ r. ⌜ IsFloor (circuitOf (now (circuit .entry))) (viewOf p (now (bounds .entry)) (now (marks .entry))) k r ⌝ }
+{
+    if !is_loose {
+        return low;
+    }
+    let part = part_of(circuit, table, k);
+    if !is_linear(part) {
+        return low;
+    }
+    let form = reduced_form(part, p);
     if is_crowded(&form, bounds, marks, n, p) {
+        return NONE;
+    }
+    if has_equals(&form, marks, n) {
         return NONE;
     }
     if !has_reference(&form, bounds, marks, n, p) {
         return NONE;
     }
-    t as u64
+    low
 }
 
-// Finds the floors that are not known.
-fn raise_floors<'a>(
+// Finds the floors that are not known, as loose ones.
+fn fill_floors(
     circuit: &[u8],
     table: &[u32; 513],
-    bounds: &'a [u32],
-    marks: &'a [bool],
+    marks: &[bool],
     floors: &mut [u64],
+    loose: &mut [bool],
     p: u32,
     n: u32,
     m: u32,
 )
-    requires { ⌜ StandingOf (now circuit) (now table) (now bounds) (now marks) p n × (m ≡ circuitOf (now circuit) .m) × (m < length (now floors))
-        × Floors (circuitOf (now circuit)) (viewOf p (now bounds) (now marks)) (now floors) ⌝ }
-    ensures { λ r. ⌜ Floors (circuitOf (now (circuit .entry))) (viewOf p (now (bounds .entry)) (now (marks .entry))) (now (floors .exit)) ⌝ }
+    requires { ⌜ Prepared (now circuit) (now table) × (p ≡ circuitOf (now circuit) .p) × (n ≡ circuitOf (now circuit) .n)
+        × (length (now marks) ≡ 257) × (m ≡ circuitOf (now circuit) .m) × (m < length (now floors)) × (m < length (now loose)) ⌝ }
+    ensures { λ r. ⌜ ((b : ℕ → ℕ) → Floors (circuitOf (now (circuit .entry))) (withMarks b (now (marks .entry))) (now (floors .entry))
+        → Floors (circuitOf (now (circuit .entry))) (withMarks b (now (marks .entry))) (now (floors .exit))) ⌝ }
 {
     let mut k: u32 = 0;
     while k < m {
         k = k + 1;
         if floors[k as usize] == 0 {
-            floors[k as usize] = floor_of(circuit, table, bounds, marks, p, n, k);
+            floors[k as usize] = low_of(circuit, table, marks, p, n, k);
+            loose[k as usize] = true;
         }
     }
+}
+
+// The lowest of `start` and the floors. A loose floor is raised only where it is below what was found before.
+fn lowest_floor<'a>(
+    circuit: &[u8],
+    table: &[u32; 513],
+    bounds: &'a [u32],
+    marks: &'a [bool],
+    floors: &mut [u64],
+    loose: &mut [bool],
+    p: u32,
+    n: u32,
+    m: u32,
+    start: u64,
+) -> u64
+    requires { ⌜ StandingOf (now circuit) (now table) (now bounds) (now marks) p n × (m ≡ circuitOf (now circuit) .m)
+        × (m < length (now floors)) × (m < length (now loose))
+        × Floors (circuitOf (now circuit)) (viewOf p (now bounds) (now marks)) (now floors) ⌝ }
+    ensures { λ r. ⌜ Floors (circuitOf (now (circuit .entry))) (viewOf p (now (bounds .entry)) (now (marks .entry))) (now (floors .exit))
+        × AtMost (now (floors .exit)) m r ⌝ }
+{
+    let mut lowest = start;
+    let mut k: u32 = 0;
+    while k < m {
+        k = k + 1;
+        let at = k as usize;
+        let low = floors[at];
+        if low < lowest {
+            let floor = floor_of(circuit, table, bounds, marks, p, n, k, low, loose[at]);
+            floors[at] = floor;
+            loose[at] = false;
+            if floor < lowest {
+                lowest = floor;
+            }
+        }
+    }
+    lowest
 }
 
 // The lowest constraint by which a product step marks t, 0 where there is none.
@@ -253,6 +365,24 @@ fn digits_for<'a>(
     }
 }
 
+// The lowest unmarked signal with bound 0, n + 1 where there is none.
+fn first_zero<'a>(bounds: &'a [u32], marks: &'a [bool], n: u32) -> u32
+    requires { ⌜ (n < length (now bounds)) × (n < length (now marks)) × (n ≤ 256) ⌝ }
+    ensures { λ r. ⌜ ((p : ℕ) → FirstZero (viewOf p (now (bounds .entry)) (now (marks .entry))) n r) ⌝ }
+{
+    let mut s: u32 = 0;
+    while s < n {
+        s = s + 1;
+        let at = s as usize;
+        if bounds[at] == 0 {
+            if !marks[at] {
+                return s;
+            }
+        }
+    }
+    n + 1
+}
+
 fn taken(kind: Kind, target: u32, constraint: u32, reference: u32) -> Choice
     ensures { λ r. ⌜ choiceOf r ≡ some (step (kindOf kind) target constraint reference) ⌝ }
 {
@@ -264,7 +394,8 @@ fn taken(kind: Kind, target: u32, constraint: u32, reference: u32) -> Choice
     }
 }
 
-// The step that the marks phase takes: the lowest unmarked target that some step marks, by zero, product or digits.
+// The step that the marks phase takes: the lowest unmarked target that some step marks, by zero, product or digits. Below `lowest` only
+// a zero step does.
 fn next_mark<'a>(
     circuit: &[u8],
     table: &[u32; 513],
@@ -274,12 +405,12 @@ fn next_mark<'a>(
     p: u32,
     n: u32,
     m: u32,
+    lowest: u64,
 ) -> Choice
     requires { ⌜ StandingOf (now circuit) (now table) (now bounds) (now marks) p n × (m ≡ circuitOf (now circuit) .m) × (m < length (now floors))
-        × Floors (circuitOf (now circuit)) (viewOf p (now bounds) (now marks)) (now floors) ⌝ }
+        × Floors (circuitOf (now circuit)) (viewOf p (now bounds) (now marks)) (now floors) × AtMost (now floors) m lowest ⌝ }
     ensures { λ r. ⌜ choiceOf r ≡ firstMark (circuitOf (now (circuit .entry))) (viewOf p (now (bounds .entry)) (now (marks .entry))) ⌝ }
 {
-    let lowest = floors[least(floors, m) as usize];
     let mut t: u32 = 0;
     while t < n {
         t = t + 1;
@@ -334,11 +465,24 @@ pub(crate) fn add_marks(
     ensures { λ r. ⌜ Marked (now (circuit .entry)) (now (bounds .entry)) (now (marks .exit)) (now (output .entry)) (now (output .exit)) base r ⌝ }
 {
     let mut floors = [0u64; 513];
-    floors[0] = NONE;
+    let mut loose = [false; 513];
     let mut count: u32 = 0;
     while count < n {
-        raise_floors(circuit, table, bounds, marks, &mut floors, p, n, m);
-        let choice = next_mark(circuit, table, bounds, marks, &floors, p, n, m);
+        let zero = first_zero(bounds, marks, n);
+        fill_floors(circuit, table, marks, &mut floors, &mut loose, p, n, m);
+        let lowest = lowest_floor(
+            circuit,
+            table,
+            bounds,
+            marks,
+            &mut floors,
+            &mut loose,
+            p,
+            n,
+            m,
+            zero as u64,
+        );
+        let choice = next_mark(circuit, table, bounds, marks, &floors, p, n, m, lowest);
         let Choice::Taken {
             kind,
             target,

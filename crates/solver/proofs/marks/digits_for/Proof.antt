@@ -123,9 +123,12 @@ loop-again c =
       at-loop .loop .inv .1,
       at-loop .loop .inv .2,
       left.reference-on _ _ _ _ _ _ (at-loop .loop .inv .3) (omega (arith, entry .pre .0 .is-n, at-loop-test .loop-test .taken))
-          (laws.reference-unmet _ _ _ _ _ _ _ (entry .pre .0) (omega arith) (omega (arith, entry .pre .1, at-search-test .search-test .taken)) _
-          (at-part-of .part-of .ensures) _ (at-is-linear .is-linear .ensures) (at-if2 .if2 .taken) _ (at-reduced-form .reduced-form .ensures) _ _ _
-          (c .before .separated .ensures) (c .if5 .left)),
+          (laws.reference-unmet _ _ (entry .pre .0 .prepared) _ (omega arith)
+          (omega (arith, entry .pre .1, at-search-test .search-test .taken)) _ (at-part-of .part-of .ensures) _ (at-is-linear .is-linear .ensures) _
+          (at-if2 .if2 .taken) _
+          (laws.form-at _ _ (entry .pre .0 .prepared) _ (omega arith) (omega (arith, entry .pre .1, at-search-test .search-test .taken)) _
+          (at-part-of .part-of .ensures) _ (entry .pre .0 .is-p) _ (at-reduced-form .reduced-form .ensures)) _ _
+          (entry .pre .0 .is-p) (entry .pre .0 .is-n) _ _ _ (c .before .separated .ensures) (c .if5 .left)),
     )
 
 loop-less-2 : tie.Need-loop-less-2 Inv-loop μ-loop Inv-search μ-search
@@ -144,8 +147,11 @@ loop-again-2 c =
       at-loop .loop .inv .1,
       at-loop .loop .inv .2,
       left.reference-on _ _ _ _ _ _ (at-loop .loop .inv .3) (omega (arith, entry .pre .0 .is-n, c .before .loop-test .taken))
-          (laws.reference-absent _ _ _ _ _ _ _ (entry .pre .0) (omega arith) (omega (arith, entry .pre .1, at-search-test .search-test .taken)) _
-          (at-part-of .part-of .ensures) _ (at-is-linear .is-linear .ensures) (at-if2 .if2 .taken) _ (at-reduced-form .reduced-form .ensures) _ _
+          (laws.reference-absent _ _ (entry .pre .0 .prepared) _ (omega arith)
+          (omega (arith, entry .pre .1, at-search-test .search-test .taken)) _ (at-part-of .part-of .ensures) _ (at-is-linear .is-linear .ensures) _
+          (at-if2 .if2 .taken) _
+          (laws.form-at _ _ (entry .pre .0 .prepared) _ (omega arith) (omega (arith, entry .pre .1, at-search-test .search-test .taken)) _
+          (at-part-of .part-of .ensures) _ (entry .pre .0 .is-p) _ (at-reduced-form .reduced-form .ensures)) _ _
           (c .if4 .left)),
     )
 
@@ -164,9 +170,11 @@ search-again-2 c =
       at-search .search .inv .1,
       at-search .search .inv .2,
       left.digits-on _ _ _ _ _ (at-search .search .inv .3) (omega (arith, at-search-test .search-test .taken))
-          (λ u l h. laws.target-absent _ _ _ _ _ _ _ (entry .pre .0) (omega arith) (omega (arith, entry .pre .1, at-search-test .search-test .taken))
-          _ (at-part-of .part-of .ensures) _ (at-is-linear .is-linear .ensures) (at-if2 .if2 .taken) _ (c .before .reduced-form .ensures) _
-          (c .if3 .left) u),
+          (λ u l h. laws.target-absent _ _ (entry .pre .0 .prepared) _ (omega arith)
+          (omega (arith, entry .pre .1, at-search-test .search-test .taken)) _ (at-part-of .part-of .ensures) _ (at-is-linear .is-linear .ensures) _
+          (at-if2 .if2 .taken) _
+          (laws.form-at _ _ (entry .pre .0 .prepared) _ (omega arith) (omega (arith, entry .pre .1, at-search-test .search-test .taken)) _
+          (at-part-of .part-of .ensures) _ (entry .pre .0 .is-p) _ (c .before .reduced-form .ensures)) _ (c .if3 .left) u),
     )
 
 search-less-3 : tie.Need-search-less-3 Inv-loop μ-loop Inv-search μ-search
@@ -182,8 +190,8 @@ search-again-3 c =
       at-search .search .inv .1,
       at-search .search .inv .2,
       left.digits-on _ _ _ _ _ (at-search .search .inv .3) (omega (arith, at-search-test .search-test .taken))
-          (λ u l h. laws.nonlinear-unmet _ _ _ _ _ _ _ (entry .pre .0) (omega arith)
-          (omega (arith, entry .pre .1, at-search-test .search-test .taken)) _ (at-part-of .part-of .ensures) _ (c .before .is-linear .ensures)
+          (λ u l h. laws.nonlinear-unmet _ _ (entry .pre .0 .prepared) _ (omega arith)
+          (omega (arith, entry .pre .1, at-search-test .search-test .taken)) _ (at-part-of .part-of .ensures) _ (c .before .is-linear .ensures) _
           (c .if2 .left) _ u),
     )
 
@@ -227,9 +235,12 @@ returns-2 c =
       omega (arith, at-loop-test .loop-test .taken),
       λ later.
           left.reference-hit _ _ _ _ _ _ (at-loop .loop .inv .3) (omega arith) (omega (arith, entry .pre .0 .is-n, at-loop-test .loop-test .taken))
-          (laws.reference-met _ _ _ _ _ _ _ (entry .pre .0) (omega arith) (omega (arith, entry .pre .1, at-search-test .search-test .taken)) _
-          (at-part-of .part-of .ensures) _ (at-is-linear .is-linear .ensures) (at-if2 .if2 .taken) _ (at-reduced-form .reduced-form .ensures) _ _
-          _ (c .before .separated .ensures) (at-if3 .if3 .taken) (at-if4 .if4 .taken) (c .if5 .taken)) later,
+          (laws.reference-met _ _ (entry .pre .0 .prepared) _ (omega arith)
+          (omega (arith, entry .pre .1, at-search-test .search-test .taken)) _ (at-part-of .part-of .ensures) _ (at-is-linear .is-linear .ensures) _
+          (at-if2 .if2 .taken) _
+          (laws.form-at _ _ (entry .pre .0 .prepared) _ (omega arith) (omega (arith, entry .pre .1, at-search-test .search-test .taken)) _
+          (at-part-of .part-of .ensures) _ (entry .pre .0 .is-p) _ (at-reduced-form .reduced-form .ensures)) _ _
+          (entry .pre .0 .is-p) (entry .pre .0 .is-n) _ _ _ (c .before .separated .ensures) (at-if3 .if3 .taken) (at-if4 .if4 .taken) (c .if5 .taken)) later,
     )
 
 pub digits-for-spec : {M : Type 1} → statement M

@@ -7,15 +7,15 @@ use Rattle.solver.proofs.marks.floor_of.Statement.{statement}
 use Rattle.solver.proofs.marks.floor_of.Tie as tie
 use Rattle.solver.proofs.marks.floor_of.Reads as reads
 use Rattle.solver.proofs.marks.floor_of.Lts as lts
-use Rattle.circuit.proofs.reader.after_form.Reads as after-form-reads
 use Rattle.derivation.proofs.offsets.part_of.Reads as part-of-reads
 use Rattle.rules.proofs.constraint.is_linear.Reads as is-linear-reads
-use Rattle.rules.proofs.constraint.product_met.Reads as product-met-reads
 use Rattle.rules.proofs.form.reduced_form.Reads as reduced-form-reads
-use Rattle.solver.proofs.marks.first_live.Reads as first-live-reads
+use Rattle.solver.proofs.marks.has_equals.Reads as has-equals-reads
 use Rattle.solver.proofs.marks.has_reference.Reads as has-reference-reads
 use Rattle.solver.proofs.marks.is_crowded.Reads as is-crowded-reads
-use Rattle.solver.proofs.search.unmarked_in.Reads as unmarked-in-reads
+
+returns : tie.Need-returns
+returns c = search needs
 
 part-of-requires : tie.Need-part-of-requires
 part-of-requires c κs = search needs
@@ -23,105 +23,57 @@ part-of-requires c κs = search needs
 is-linear-requires : tie.Need-is-linear-requires
 is-linear-requires c κs = search needs
 
-after-form-requires : tie.Need-after-form-requires
-after-form-requires c κs = search needs
-
-after-form-requires-2 : tie.Need-after-form-requires-2
-after-form-requires-2 c κs = search needs
-
-unmarked-in-requires : tie.Need-unmarked-in-requires
-unmarked-in-requires c κs = search needs
-
-returns : tie.Need-returns
-returns c =
-    let at-after-form2 = c .before .before in
-    let at-after-form = at-after-form2 .before in
-    let at-if1 = at-after-form .before in
-    let at-is-linear = at-if1 .before in
-    let at-part-of = at-is-linear .before in
-    let entry = at-part-of .before .before .before .before .before in
-    laws.floor-unnamed _ _ _ _ _ _ _ (entry .pre .0) (entry .pre .1) (entry .pre .2) _ (at-part-of .part-of .ensures) _
-    (at-is-linear .is-linear .ensures) (not-true _ (at-if1 .if1 .taken)) _ _ (at-after-form .after-form .ensures)
-    (at-after-form2 .after-form2 .ensures) _ (c .before .unmarked-in .ensures) (c .if2 .taken)
-
-product-met-requires : tie.Need-product-met-requires
-product-met-requires c κs = search needs
-
 returns-2 : tie.Need-returns-2
-returns-2 c =
-    let at-unmarked-in = c .before .before .before in
-    let at-after-form2 = at-unmarked-in .before in
-    let at-after-form = at-after-form2 .before in
-    let at-if1 = at-after-form .before in
-    let at-is-linear = at-if1 .before in
-    let at-part-of = at-is-linear .before in
-    let entry = at-part-of .before .before .before .before .before in
-    laws.floor-unmet _ _ _ _ _ _ _ (entry .pre .0) (entry .pre .1) (entry .pre .2) _ (at-part-of .part-of .ensures) _
-    (at-is-linear .is-linear .ensures) (not-true _ (at-if1 .if1 .taken)) _ _ (at-after-form .after-form .ensures)
-    (at-after-form2 .after-form2 .ensures) _ (at-unmarked-in .unmarked-in .ensures) _ (c .before .product-met .ensures)
-    (not-true _ (c .if3 .taken))
-
-cast-result : tie.Need-cast-result
-cast-result c = search needs
-
-returns-3 : tie.Need-returns-3
-returns-3 c =
-    let at-unmarked-in = c .before .before .before in
-    let at-after-form2 = at-unmarked-in .before in
-    let at-after-form = at-after-form2 .before in
-    let at-if1 = at-after-form .before in
-    let at-is-linear = at-if1 .before in
-    let at-part-of = at-is-linear .before in
-    let entry = at-part-of .before .before .before .before .before in
-    laws.floor-product _ _ _ _ _ _ _ (entry .pre .0) (entry .pre .1) (entry .pre .2) _ (at-part-of .part-of .ensures) _
-    (at-is-linear .is-linear .ensures) (not-true _ (at-if1 .if1 .taken)) _ _ (at-after-form .after-form .ensures)
-    (at-after-form2 .after-form2 .ensures) _ (at-unmarked-in .unmarked-in .ensures)
+returns-2 c = search needs
 
 reduced-form-requires : tie.Need-reduced-form-requires
 reduced-form-requires c κs = search needs
-
-slice-aggregate-first-live : tie.Need-slice-aggregate-first-live
-slice-aggregate-first-live c = search needs
-
-first-live-requires : tie.Need-first-live-requires
-first-live-requires c κs =
-    let entry = c .before .before .before .before .before .before .before .before .before in
-    let s = laws.sizes (entry .pre .0) in
-    let l = c .before .reduced-form .ok in
-    (omega arith, omega (arith, entry .pre .0 .marks-sized))
-
-returns-4 : tie.Need-returns-4
-returns-4 c =
-    let at-reduced-form = c .before .before .before in
-    let at-if1 = at-reduced-form .before in
-    let at-is-linear = at-if1 .before in
-    let at-part-of = at-is-linear .before in
-    let entry = at-part-of .before .before .before .before .before in
-    laws.floor-none _ _ _ _ _ _ _ (entry .pre .0) (entry .pre .1) (entry .pre .2) _ (at-part-of .part-of .ensures) _
-    (at-is-linear .is-linear .ensures) (not-false _ (at-if1 .if1 .left)) _ (at-reduced-form .reduced-form .ensures) _
-    (c .before .first-live .ensures) (c .if4 .taken)
 
 slice-aggregate-is-crowded : tie.Need-slice-aggregate-is-crowded
 slice-aggregate-is-crowded c = search needs
 
 is-crowded-requires : tie.Need-is-crowded-requires
 is-crowded-requires c κs =
-    let at-reduced-form = c .before .before .before .before in
-    let entry = at-reduced-form .before .before .before .before .before .before .before .before in
+    let at-reduced-form = c .before in
+    let entry = at-reduced-form .before .before .before .before .before .before .before .before .before in
     let s = laws.sizes (entry .pre .0) in
     let l = at-reduced-form .reduced-form .ok in
     (omega arith, omega (arith, entry .pre .0 .bounds-sized), omega (arith, entry .pre .0 .marks-sized), omega arith)
 
-returns-5 : tie.Need-returns-5
-returns-5 c =
-    let at-reduced-form = c .before .before .before .before .before .before in
-    let at-if1 = at-reduced-form .before in
-    let at-is-linear = at-if1 .before in
+returns-3 : tie.Need-returns-3
+returns-3 c =
+    let at-reduced-form = c .before .before .before in
+    let at-if2 = at-reduced-form .before in
+    let at-is-linear = at-if2 .before in
     let at-part-of = at-is-linear .before in
-    let entry = at-part-of .before .before .before .before .before in
-    laws.floor-crowded _ _ _ _ _ _ _ (entry .pre .0) (entry .pre .1) (entry .pre .2) _ (at-part-of .part-of .ensures) _
-    (at-is-linear .is-linear .ensures) (not-false _ (at-if1 .if1 .left)) _ (at-reduced-form .reduced-form .ensures)
-    (c .before .is-crowded .ensures (c .if5 .taken))
+    let entry = at-part-of .before .before .before .before .before .before in
+    laws.floor-crowded _ _ (entry .pre .0 .prepared) _ (entry .pre .1) (entry .pre .2) _ (at-part-of .part-of .ensures) _
+    (at-is-linear .is-linear .ensures) _ (not-false _ (at-if2 .if2 .left)) _
+    (laws.form-at _ _ (entry .pre .0 .prepared) _ (entry .pre .1) (entry .pre .2) _ (at-part-of .part-of .ensures) _ (entry .pre .0 .is-p) _
+    (at-reduced-form .reduced-form .ensures)) _ _ (entry .pre .0 .is-p) (entry .pre .0 .is-n) (c .before .is-crowded .ensures (c .if3 .taken))
+
+slice-aggregate-has-equals : tie.Need-slice-aggregate-has-equals
+slice-aggregate-has-equals c = search needs
+
+has-equals-requires : tie.Need-has-equals-requires
+has-equals-requires c κs =
+    let at-reduced-form = c .before .before .before .before in
+    let entry = at-reduced-form .before .before .before .before .before .before .before .before .before in
+    let s = laws.sizes (entry .pre .0) in
+    let l = at-reduced-form .reduced-form .ok in
+    (omega arith, omega (arith, entry .pre .0 .marks-sized), omega arith)
+
+returns-4 : tie.Need-returns-4
+returns-4 c =
+    let at-reduced-form = c .before .before .before .before .before .before in
+    let at-if2 = at-reduced-form .before in
+    let at-is-linear = at-if2 .before in
+    let at-part-of = at-is-linear .before in
+    let entry = at-part-of .before .before .before .before .before .before in
+    laws.floor-equal _ _ (entry .pre .0 .prepared) _ (entry .pre .1) (entry .pre .2) _ (at-part-of .part-of .ensures) _
+    (at-is-linear .is-linear .ensures) _ (not-false _ (at-if2 .if2 .left)) _
+    (laws.form-at _ _ (entry .pre .0 .prepared) _ (entry .pre .1) (entry .pre .2) _ (at-part-of .part-of .ensures) _ (entry .pre .0 .is-p) _
+    (at-reduced-form .reduced-form .ensures)) _ _ (entry .pre .0 .is-p) (entry .pre .0 .is-n) (laws.view-equals _ _ _ _ _ (c .before .has-equals .ensures (c .if4 .taken)))
 
 slice-aggregate-has-reference : tie.Need-slice-aggregate-has-reference
 slice-aggregate-has-reference c = search needs
@@ -129,60 +81,42 @@ slice-aggregate-has-reference c = search needs
 has-reference-requires : tie.Need-has-reference-requires
 has-reference-requires c κs =
     let at-reduced-form = c .before .before .before .before .before .before .before in
-    let entry = at-reduced-form .before .before .before .before .before .before .before .before in
+    let entry = at-reduced-form .before .before .before .before .before .before .before .before .before in
     let s = laws.sizes (entry .pre .0) in
     let l = at-reduced-form .reduced-form .ok in
     (omega arith, omega arith)
 
-returns-6 : tie.Need-returns-6
-returns-6 c =
+returns-5 : tie.Need-returns-5
+returns-5 c =
     let at-reduced-form = c .before .before .before .before .before .before .before .before .before in
-    let at-if1 = at-reduced-form .before in
-    let at-is-linear = at-if1 .before in
+    let at-if2 = at-reduced-form .before in
+    let at-is-linear = at-if2 .before in
     let at-part-of = at-is-linear .before in
-    let entry = at-part-of .before .before .before .before .before in
-    laws.floor-unreferred _ _ _ _ _ _ _ (entry .pre .0) (entry .pre .1) (entry .pre .2) _ (at-part-of .part-of .ensures) _
-    (at-is-linear .is-linear .ensures) (not-false _ (at-if1 .if1 .left)) _ (at-reduced-form .reduced-form .ensures)
-    (c .before .has-reference .ensures (not-true _ (c .if6 .taken)))
+    let entry = at-part-of .before .before .before .before .before .before in
+    laws.floor-unreferred _ _ (entry .pre .0 .prepared) _ (entry .pre .1) (entry .pre .2) _ (at-part-of .part-of .ensures) _
+    (at-is-linear .is-linear .ensures) _ (not-false _ (at-if2 .if2 .left)) _
+    (laws.form-at _ _ (entry .pre .0 .prepared) _ (entry .pre .1) (entry .pre .2) _ (at-part-of .part-of .ensures) _ (entry .pre .0 .is-p) _
+    (at-reduced-form .reduced-form .ensures)) _ _ (entry .pre .0 .is-p) (entry .pre .0 .is-n) (c .before .has-reference .ensures (not-true _ (c .if5 .taken)))
 
-cast-result-2 : tie.Need-cast-result-2
-cast-result-2 c = search needs
-
-returns-7 : tie.Need-returns-7
-returns-7 c =
-    let at-first-live = c .before .before .before .before .before .before .before in
-    let at-reduced-form = at-first-live .before .before in
-    let at-if1 = at-reduced-form .before in
-    let at-is-linear = at-if1 .before in
-    let at-part-of = at-is-linear .before in
-    let entry = at-part-of .before .before .before .before .before in
-    laws.floor-digits _ _ _ _ _ _ _ (entry .pre .0) (entry .pre .1) (entry .pre .2) _ (at-part-of .part-of .ensures) _
-    (at-is-linear .is-linear .ensures) (not-false _ (at-if1 .if1 .left)) _ (at-reduced-form .reduced-form .ensures) _
-    (at-first-live .first-live .ensures)
+returns-6 : tie.Need-returns-6
+returns-6 c = search needs
 
 pub floor-of-spec : {M : Type 1} → statement M
 floor-of-spec =
     tie.close
     (tie.spec
+    returns
     part-of-requires
     is-linear-requires
-    after-form-requires
-    after-form-requires-2
-    unmarked-in-requires
-    returns
-    product-met-requires
     returns-2
-    cast-result
-    returns-3
     reduced-form-requires
-    slice-aggregate-first-live
-    first-live-requires
-    returns-4
     slice-aggregate-is-crowded
     is-crowded-requires
-    returns-5
+    returns-3
+    slice-aggregate-has-equals
+    has-equals-requires
+    returns-4
     slice-aggregate-has-reference
     has-reference-requires
-    returns-6
-    cast-result-2
-    returns-7)
+    returns-5
+    returns-6)
