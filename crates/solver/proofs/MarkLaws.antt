@@ -191,6 +191,12 @@ pub view-equals : (p : ℕ) (bounds : List ℕ) (marks : List Bool) (R : ℕ →
 unfolding viewOf
 view-equals p bounds marks R n h = h (boundIn p bounds)
 
+pub view-floors : (C : Circuit) (p : ℕ) (bounds : List ℕ) (marks : List Bool) (before later : List ℕ)
+    → ((b : ℕ → ℕ) → Floors C (withMarks b marks) before → Floors C (withMarks b marks) later)
+    → Floors C (viewOf p bounds marks) before → Floors C (viewOf p bounds marks) later
+unfolding viewOf
+view-floors C p bounds marks before later h F = h (boundIn p bounds) F
+
 pub view-marked : (p : ℕ) (bounds : List ℕ) (marks : List Bool) (s : ℕ) {b : Bool} → markIn marks s ≡ b → viewOf p bounds marks .marked s ≡ b
 unfolding viewOf
 view-marked p bounds marks s e = e

@@ -288,6 +288,58 @@ fn lowest_floor<'a>(
     lowest
 }
 
+// The lowest unmarked signal with bound 0, n + 1 where there is none.
+fn first_zero<'a>(bounds: &'a [u32], marks: &'a [bool], n: u32) -> u32
+    requires { ⌜ (n < length (now bounds)) × (n < length (now marks)) × (n ≤ 256) ⌝ }
+    ensures { λ r. ⌜ ((p : ℕ) → FirstZero (viewOf p (now (bounds .entry)) (now (marks .entry))) n r) ⌝ }
+{
+    let mut s: u32 = 0;
+    while s < n {
+        s = s + 1;
+        let at = s as usize;
+        if bounds[at] == 0 {
+            if !marks[at] {
+                return s;
+            }
+        }
+    }
+    n + 1
+}
+
+// Finds as many floors as it takes to know the lowest target of a step, or a number at most each floor, and answers it.
+fn raise_floors<'a>(
+    circuit: &[u8],
+    table: &[u32; 513],
+    bounds: &'a [u32],
+    marks: &'a [bool],
+    floors: &mut [u64],
+    loose: &mut [bool],
+    p: u32,
+    n: u32,
+    m: u32,
+) -> u64
+    requires { ⌜ StandingOf (now circuit) (now table) (now bounds) (now marks) p n × (m ≡ circuitOf (now circuit) .m)
+        × (m < length (now floors)) × (m < length (now loose))
+        × Floors (circuitOf (now circuit)) (viewOf p (now bounds) (now marks)) (now floors) ⌝ }
+    ensures { λ r. ⌜ Floors (circuitOf (now (circuit .entry))) (viewOf p (now (bounds .entry)) (now (marks .entry))) (now (floors .exit))
+        × AtMost (now (floors .exit)) m r ⌝ }
+{
+    let zero = first_zero(bounds, marks, n);
+    fill_floors(circuit, table, marks, floors, loose, p, n, m);
+    lowest_floor(
+        circuit,
+        table,
+        bounds,
+        marks,
+        floors,
+        loose,
+        p,
+        n,
+        m,
+        zero as u64,
+    )
+}
+
 // The lowest constraint by which a product step marks t, 0 where there is none.
 fn product_for(
     circuit: &[u8],
@@ -363,24 +415,6 @@ fn digits_for<'a>(
         constraint,
         reference,
     }
-}
-
-// The lowest unmarked signal with bound 0, n + 1 where there is none.
-fn first_zero<'a>(bounds: &'a [u32], marks: &'a [bool], n: u32) -> u32
-    requires { ⌜ (n < length (now bounds)) × (n < length (now marks)) × (n ≤ 256) ⌝ }
-    ensures { λ r. ⌜ ((p : ℕ) → FirstZero (viewOf p (now (bounds .entry)) (now (marks .entry))) n r) ⌝ }
-{
-    let mut s: u32 = 0;
-    while s < n {
-        s = s + 1;
-        let at = s as usize;
-        if bounds[at] == 0 {
-            if !marks[at] {
-                return s;
-            }
-        }
-    }
-    n + 1
 }
 
 fn taken(kind: Kind, target: u32, constraint: u32, reference: u32) -> Choice
@@ -468,9 +502,7 @@ pub(crate) fn add_marks(
     let mut loose = [false; 513];
     let mut count: u32 = 0;
     while count < n {
-        let zero = first_zero(bounds, marks, n);
-        fill_floors(circuit, table, marks, &mut floors, &mut loose, p, n, m);
-        let lowest = lowest_floor(
+        let lowest = raise_floors(
             circuit,
             table,
             bounds,
@@ -480,7 +512,6 @@ pub(crate) fn add_marks(
             p,
             n,
             m,
-            zero as u64,
         );
         let choice = next_mark(circuit, table, bounds, marks, &floors, p, n, m, lowest);
         let Choice::Taken {

@@ -18,37 +18,39 @@ use Rattle.solver.proofs.memo.forget.Reads as forget-reads
 use Rattle.solver.proofs.output.put_step.Reads as put-step-reads
 
 abbrev Inv-loop : tie.InvT-loop
-Inv-loop circuit table bounds marks₀ output₀ p n m base floors₀ count₀ marks output floors count =
-    (count ≤ n) × (length marks ≡ 257) × (length floors ≡ 513) × (length output ≡ length output₀)
+Inv-loop circuit table bounds marks₀ output₀ p n m base floors₀ loose₀ count₀ marks output floors loose count =
+    (count ≤ n) × (length marks ≡ 257) × (length floors ≡ 513) × (length loose ≡ 513) × (length output ≡ length output₀)
     × laws.Turning circuit bounds marks floors output₀ output p base count
 
 abbrev μ-loop : tie.MeasureT-loop
-μ-loop circuit table bounds marks₀ output₀ p n m base floors₀ count₀ marks output floors count = n - count
-
-array-write-floors : tie.Need-array-write-floors Inv-loop μ-loop
-array-write-floors c = search needs
+μ-loop circuit table bounds marks₀ output₀ p n m base floors₀ loose₀ count₀ marks output floors loose count = n - count
 
 loop-holds : tie.Need-loop-holds Inv-loop μ-loop
 loop-holds c =
-    let a = c .before .before .before .before in (
+    let pre = c .before .before .before .before .pre in (
       omega arith,
-      a .pre .0 .marks-sized,
+      pre .0 .marks-sized,
+      search needs,
       search needs,
       refl,
-      laws.turning-start _ _ _ _ _ _ (a .pre .0) _ _ 512 (a .pre .2),
+      laws.turning-start _ _ _ _ _ _ (pre .0) _ _ 513 (pre .2),
     )
 
 slice-aggregate-raise-floors : tie.Need-slice-aggregate-raise-floors Inv-loop μ-loop
 slice-aggregate-raise-floors c = search needs
 
+slice-aggregate-raise-floors-2 : tie.Need-slice-aggregate-raise-floors-2 Inv-loop μ-loop
+slice-aggregate-raise-floors-2 c = search needs
+
 raise-floors-requires : tie.Need-raise-floors-requires Inv-loop μ-loop
 raise-floors-requires c κs =
-    let at-loop = c .before .before .before in
-    let entry = at-loop .before .before .before .before .before in (
-      (laws.standing-on (entry .pre .0) _ (at-loop .loop .inv .1)),
+    let entry = c .before .before .before .before .before .before .before .before .before in
+    let l = c .before .before .before .before .loop in (
+      (laws.standing-on (entry .pre .0) _ (l .inv .1)),
       entry .pre .1,
-      omega (arith, entry .pre .1, few-constraints (entry .pre .0 .prepared), at-loop .loop .inv .2),
-      at-loop .loop .inv .4 .floored,
+      omega (arith, entry .pre .1, few-constraints (entry .pre .0 .prepared), l .inv .2),
+      omega (arith, entry .pre .1, few-constraints (entry .pre .0 .prepared), l .inv .3),
+      l .inv .5 .floored,
     )
 
 slice-aggregate-next-mark : tie.Need-slice-aggregate-next-mark Inv-loop μ-loop
@@ -56,19 +58,21 @@ slice-aggregate-next-mark c = search needs
 
 next-mark-requires : tie.Need-next-mark-requires Inv-loop μ-loop
 next-mark-requires c κs =
-    let at-raise-floors = c .before .before .before in
-    let at-loop = at-raise-floors .before .before .before .before in
-    let entry = at-loop .before .before .before .before .before in (
-      (laws.standing-on (entry .pre .0) _ (at-loop .loop .inv .1)),
+    let at-raise-floors = c .before .before .before .before in
+    let at-loop-test = at-raise-floors .before .before .before .before in
+    let entry = at-loop-test .before .before .before .before .before .before in
+    let l = at-loop-test .before .loop in (
+      (laws.standing-on (entry .pre .0) _ (l .inv .1)),
       entry .pre .1,
       omega (
         arith,
         entry .pre .1,
         few-constraints (entry .pre .0 .prepared),
-        at-loop .loop .inv .2,
+        l .inv .2,
         at-raise-floors .raise-floors .kept .1 .1 .1 .1 .0,
       ),
-      at-raise-floors .raise-floors .ensures,
+      at-raise-floors .raise-floors .ensures .0,
+      at-raise-floors .raise-floors .ensures .1,
     )
 
 enum-known-choice : tie.Need-enum-known-choice Inv-loop μ-loop
@@ -79,31 +83,28 @@ enum-told c = search needs
 
 add-result : tie.Need-add-result Inv-loop μ-loop
 add-result c =
-    let past = c .before .before .before .before .before .before .before .before .before .before in
-    let entry = past .before .before .before .before .before in
+    let entry = c .before .before .before .before .before .before .before .before .before .before .before .before .before .before .before .before .before in
     let s = sizes (entry .pre .0) in omega arith
 
 same-length : tie.Need-same-length Inv-loop μ-loop
 same-length c =
-    let at-loop = c .before .before .before .before .before .before .before .before .before .before in
-    let entry = at-loop .before .before .before .before .before in
-    at-loop .loop .inv .1 ∙ sym (entry .pre .0 .marks-sized)
+    let entry = c .before .before .before .before .before .before .before .before .before .before .before .before .before .before .before .before .before in
+    let l = c .before .before .before .before .before .before .before .before .before .before .before .before .loop in
+    l .inv .1 ∙ sym (entry .pre .0 .marks-sized)
 
 same-length-2 : tie.Need-same-length-2 Inv-loop μ-loop
-same-length-2 c = c .before .before .before .before .before .before .before .before .before .before .loop .inv .3
+same-length-2 c = c .before .before .before .before .before .before .before .before .before .before .before .before .loop .inv .4
 
 returns : tie.Need-returns Inv-loop μ-loop
 returns c =
-    let at-next-mark = c .before .before in
-    let at-loop = at-next-mark .before .before .before .before .before .before .before .before in
-    let entry = at-loop .before .before .before .before .before in
-    laws.turning-none _ _ _ _ _ _ (laws.standing-on (entry .pre .0) _ (at-loop .loop .inv .1)) _ _ _ _ _ (at-loop .loop .inv .4) _
-    (at-next-mark .next-mark .ensures) (c .enum-told .given .1)
+    let entry = c .before .before .before .before .before .before .before .before .before .before .before .before .before .before .before .before .before in
+    let l = c .before .before .before .before .before .before .before .before .before .before .before .before .loop in
+    laws.turning-none _ _ _ _ _ _ (laws.standing-on (entry .pre .0) _ (l .inv .1)) _ _ _ _ _ (l .inv .5) _ (c .before .before .next-mark .ensures)
+    (c .enum-told .given .1)
 
 add-put-step : tie.Need-add-put-step Inv-loop μ-loop
 add-put-step c =
-    let past = c .before .before .before .before .before .before .before .before .before .before in
-    let entry = past .before .before .before .before .before .before .before in
+    let entry = c .before .before .before .before .before .before .before .before .before .before .before .before .before .before .before .before .before .before .before in
     let s = sizes (entry .pre .0) in omega arith
 
 number-of-requires : tie.Need-number-of-requires Inv-loop μ-loop
@@ -113,14 +114,14 @@ put-step-requires : tie.Need-put-step-requires Inv-loop μ-loop
 put-step-requires c κs =
     let at-choice = c .before .before .before in
     let at-next-mark = at-choice .before .before in
-    let at-loop-test = at-next-mark .before .before .before .before .before .before .before in
-    let at-loop = at-loop-test .before in
-    let entry = at-loop .before .before .before .before .before in
-    let t = laws.target-small _ _ _ _ _ _ (laws.standing-on (entry .pre .0) _ (at-loop .loop .inv .1)) _ _ _ _ _ (at-loop .loop .inv .4) _
-    (at-next-mark .next-mark .ensures) _ _ _ _ (at-choice .choice .given .1) in
-    let f = laws.fields-small _ _ _ _ _ _ (laws.standing-on (entry .pre .0) _ (at-loop .loop .inv .1)) _ _ _ _ _ (at-loop .loop .inv .4) _
-    (at-next-mark .next-mark .ensures) _ _ _ _ (at-choice .choice .given .1) in (
-      omega (arith, entry .pre .3, entry .pre .4, at-loop .loop .inv .3, at-loop-test .loop-test .taken),
+    let at-loop-test = at-next-mark .before .before .before .before .before .before .before .before .before in
+    let entry = at-loop-test .before .before .before .before .before .before in
+    let l = at-loop-test .before .loop in
+    let t = laws.target-small _ _ _ _ _ _ (laws.standing-on (entry .pre .0) _ (l .inv .1)) _ _ _ _ _ (l .inv .5) _ (at-next-mark .next-mark .ensures)
+    _ _ _ _ (at-choice .choice .given .1) in
+    let f = laws.fields-small _ _ _ _ _ _ (laws.standing-on (entry .pre .0) _ (l .inv .1)) _ _ _ _ _ (l .inv .5) _ (at-next-mark .next-mark .ensures)
+    _ _ _ _ (at-choice .choice .given .1) in (
+      omega (arith, entry .pre .3, entry .pre .4, l .inv .4, at-loop-test .loop-test .taken),
       c .number-of .ensures .1,
       omega (arith, t .1),
       omega (arith, f .0),
@@ -134,13 +135,14 @@ slice-write-marks : tie.Need-slice-write-marks Inv-loop μ-loop
 slice-write-marks c =
     let at-choice = c .before .before .before .before .before .before in
     let at-next-mark = at-choice .before .before in
-    let at-loop = at-next-mark .before .before .before .before .before .before .before .before in
+    let at-loop = at-next-mark .before .before .before .before .before .before .before .before .before .before in
     let entry = at-loop .before .before .before .before .before in
+    let l = at-loop .loop in
     omega (
       arith,
-      laws.target-small _ _ _ _ _ _ (laws.standing-on (entry .pre .0) _ (at-loop .loop .inv .1)) _ _ _ _ _ (at-loop .loop .inv .4) _
+      laws.target-small _ _ _ _ _ _ (laws.standing-on (entry .pre .0) _ (l .inv .1)) _ _ _ _ _ (l .inv .5) _
           (at-next-mark .next-mark .ensures) _ _ _ _ (at-choice .choice .given .1) .1,
-      at-loop .loop .inv .1,
+      l .inv .1,
     )
 
 slice-aggregate-forget : tie.Need-slice-aggregate-forget Inv-loop μ-loop
@@ -148,25 +150,27 @@ slice-aggregate-forget c = search needs
 
 forget-requires : tie.Need-forget-requires Inv-loop μ-loop
 forget-requires c κs =
-    let at-raise-floors = c .before .before .before .before .before .before .before .before .before .before .before .before .before in
-    let at-loop = at-raise-floors .before .before .before .before in
-    let entry = at-loop .before .before .before .before .before in (
+    let at-raise-floors = c .before .before .before .before .before .before .before .before .before .before .before .before .before .before in
+    let at-loop-test = at-raise-floors .before .before .before .before in
+    let entry = at-loop-test .before .before .before .before .before .before in
+    let l = at-loop-test .before .loop in (
       entry .pre .0 .prepared,
       entry .pre .1,
       omega (
         arith,
         entry .pre .1,
         few-constraints (entry .pre .0 .prepared),
-        at-loop .loop .inv .2,
+        l .inv .2,
         at-raise-floors .raise-floors .kept .1 .1 .1 .1 .0,
       ),
     )
 
 add-count : tie.Need-add-count Inv-loop μ-loop
 add-count c =
-    let past = c .before .before .before .before .before .before .before .before .before .before in
-    let at-loop-test = past .before .before .before .before .before .before .before .before in
+    let at-raise-floors = c .before .before .before .before .before .before .before .before .before .before .before .before .before .before .before .before in
+    let at-loop-test = at-raise-floors .before .before .before .before in
     let entry = at-loop-test .before .before .before .before .before .before in
+    let l = at-loop-test .before .loop in
     let s = sizes (entry .pre .0) in omega (arith, at-loop-test .loop-test .taken)
 
 loop-less : tie.Need-loop-less Inv-loop μ-loop
@@ -178,18 +182,18 @@ loop-again c =
     let at-number-of = at-put-step .before in
     let at-choice = at-number-of .before .before .before in
     let at-next-mark = at-choice .before .before in
-    let at-raise-floors = at-next-mark .before .before .before .before in
-    let at-loop-test = at-raise-floors .before .before .before in
-    let at-loop = at-loop-test .before in
-    let entry = at-loop .before .before .before .before .before in
-    let l = at-loop .loop in (
+    let at-raise-floors = at-next-mark .before .before .before .before .before in
+    let at-loop-test = at-raise-floors .before .before .before .before in
+    let entry = at-loop-test .before .before .before .before .before .before in
+    let l = at-loop-test .before .loop in (
       omega arith,
       simp length-set (l .inv .1),
       c .before .forget .kept .1 .1 .0 ∙ at-raise-floors .raise-floors .kept .1 .1 .1 .1 .0 ∙ l .inv .2,
-      at-put-step .put-step .kept .0 ∙ l .inv .3,
-      laws.turning-next _ _ _ _ _ _ (laws.standing-on (entry .pre .0) _ (at-loop .loop .inv .1)) _ _ _ _ _ (at-loop .loop .inv .4) _
+      at-raise-floors .raise-floors .kept .1 .1 .1 .1 .1 .0 ∙ l .inv .3,
+      at-put-step .put-step .kept .0 ∙ l .inv .4,
+      laws.turning-next _ _ _ _ _ _ (laws.standing-on (entry .pre .0) _ (l .inv .1)) _ _ _ _ _ (l .inv .5) _
           (at-next-mark .next-mark .ensures) _ _ _ _ (at-choice .choice .given .1) (at-loop-test .loop-test .taken) _ _ _ _
-          (at-number-of .number-of .ensures .0) (at-put-step .put-step .ensures) (at-raise-floors .raise-floors .ensures)
+          (at-number-of .number-of .ensures .0) (at-put-step .put-step .ensures) (at-raise-floors .raise-floors .ensures .0)
           (c .before .forget .ensures),
     )
 
@@ -200,12 +204,13 @@ same-length-3 : tie.Need-same-length-3 Inv-loop μ-loop
 same-length-3 c = c .before .loop .inv .1 ∙ sym (c .before .before .before .before .before .before .pre .0 .marks-sized)
 
 same-length-4 : tie.Need-same-length-4 Inv-loop μ-loop
-same-length-4 c = c .before .loop .inv .3
+same-length-4 c = c .before .loop .inv .4
 
 returns-2 : tie.Need-returns-2 Inv-loop μ-loop
 returns-2 c =
     let entry = c .before .before .before .before .before .before in
-    laws.turning-all _ _ _ _ _ _ (laws.standing-on (entry .pre .0) _ (c .before .loop .inv .1)) _ _ _ _ _ (c .before .loop .inv .4)
+    let l = c .before .loop in
+    laws.turning-all _ _ _ _ _ _ (laws.standing-on (entry .pre .0) _ (l .inv .1)) _ _ _ _ _ (l .inv .5)
     (c .loop-test .left)
 
 pub add-marks-spec : {M : Type 1} → statement M
@@ -214,9 +219,9 @@ add-marks-spec =
     (tie.spec
     Inv-loop
     μ-loop
-    array-write-floors
     loop-holds
     slice-aggregate-raise-floors
+    slice-aggregate-raise-floors-2
     raise-floors-requires
     slice-aggregate-next-mark
     next-mark-requires
