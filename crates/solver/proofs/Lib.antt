@@ -6,6 +6,7 @@ pub mod Progress
 pub mod BoundsPhase
 pub mod Written
 pub mod SearchLaws
+pub mod RowLaws
 pub mod CandidateLaws
 pub mod BoundsTurn
 pub mod Floors

@@ -6,4 +6,5 @@ pub mod call;
 mod marks;
 mod memo;
 mod output;
+mod rows;
 mod search;
