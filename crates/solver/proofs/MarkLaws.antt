@@ -1,21 +1,20 @@
 -- Laws of the searches of the marks phase in one form, and of the ways out of the search for a constraint's floor.
 use Prim.Native.Nat.{ℕ, zero, suc, _+_, _*_, _-_, _≤_, _<_, min}
-use mathlib.Core.Path.{_≡_, refl, sym, ap, _∙_, fun-ext}
+use mathlib.Core.Path.{_≡_, refl, sym, ap, _∙_}
 use mathlib.Core.Bool.{Bool, true, false, not, _&&_}
 use mathlib.Core.List.{List}
 use mathlib.Core.Logic.{_⊎_, inl, inr, ⊎-elim}
 use native.Mathlib.Omega.{arith}
 use native.Mathlib.Decide.{ℕ-discrete, decLe}
-use lib.Dec.{ltb, eqb}
+use lib.Dec.{eqb}
 use lib.ListN.{length, getD, set}
 use lib.Seq.{getD-set-same, getD-set-other}
-use borrow.Author.Tests.{lt-ltb, eqb-true, eq-eqb, ne-eqb, not-true}
+use borrow.Author.Tests.{eqb-true, eq-eqb, ne-eqb, not-true}
 use Rattle.circuit.specs.Circuit.{Circuit, WellFormed, Constraint, Form, constraintAt}
 use Rattle.circuit.specs.Reader.{formIn, afterForm, constraintIn}
-use Rattle.laws.specs.Sum.{keep}
 use Rattle.laws.specs.Standing.{Standing}
 use Rattle.laws.specs.Rules.{linear, reduced, occurs, live, productMet, separated, digitsMet}
-use Rattle.laws.proofs.Sum.{true-or-false, false-by, keep-true}
+use Rattle.laws.proofs.Sum.{true-or-false, false-by}
 use Rattle.rules.specs.View.{coefIn, boundIn, markIn, viewOf}
 use Rattle.rules.proofs.ViewLaws.{bound-within}
 use Rattle.derivation.specs.Offsets.{partOf}
@@ -33,9 +32,11 @@ use Rattle.solver.specs.Marks.{
   FirstZero,
   StandingOf,
 }
+use Rattle.solver.specs.Rows.{row, Rows}
 use Rattle.solver.specs.Search.{Prepared, SomeUnmarked}
 use Rattle.solver.proofs.SearchLaws.{constraint-part}
 use Rattle.solver.proofs.CandidateLaws.{well-formed}
+use Rattle.solver.proofs.RowLaws.{row-form}
 use Rattle.solver.proofs.Floors as floors
 
 -- An unmarked signal of a form
@@ -274,16 +275,6 @@ module _ (c table : List ℕ) (P : Prepared c table) (k : ℕ) (first : 1 ≤ k)
   same : constraintIn part ≡ constraintAt C k
   same = constraint-part c table P k first last part is-part
 
-  pub form-at : (p : ℕ) → p ≡ C .p → (form : List ℕ) → ((s : ℕ) → coefIn form s ≡ keep (ltb 1 p) (reduced p (constraintIn part) s))
-      → coefIn form ≡ reduced (C .p) (constraintAt C k)
-  form-at p is-p form is-form =
-      fun-ext
-      (λ s.
-      is-form s
-      ∙ keep-true (ltb 1 p) _ (lt-ltb 1 p (omega (arith, is-p, W .p-least)))
-      ∙ ap (λ (K : Constraint). reduced p K s) same
-      ∙ ap (λ (q : ℕ). reduced q (constraintAt C k) s) is-p)
-
   module _ (b : Bool) (is-linear : b ≡ linear (constraintIn part)) (S : Standing) where
     linear-at : linear (constraintAt C k) ≡ b
     linear-at = sym (is-linear ∙ ap linear same)
@@ -305,8 +296,11 @@ module _ (c table : List ℕ) (P : Prepared c table) (k : ℕ) (first : 1 ≤ k)
       pub floor-product : IsFloor C S k t
       floor-product = floors.product-floor C W S k (linear-at ∙ nonlinear) t unmarked-at
 
-    module _ (linear : b ≡ true) (form : List ℕ) (is-form : coefIn form ≡ reduced (C .p) (constraintAt C k)) where
-      module _ (t n : ℕ) (is-n : n ≡ C .n) (F : FirstLive (coefIn form) S n t) where
+    module _ (linear : b ≡ true) (rows : List ℕ) (R : Rows C rows) (n : ℕ) (is-n : n ≡ C .n) (form : List ℕ) (is-row : form ≡ row rows n k) where
+      is-form : coefIn form ≡ reduced (C .p) (constraintAt C k)
+      is-form = row-form C rows R n k is-n last W first (linear-at ∙ linear) form is-row
+
+      module _ (t : ℕ) (F : FirstLive (coefIn form) S n t) where
         first-at : FirstLive (reduced (C .p) (constraintAt C k)) S (C .n) t
         first-at = rw (is-form, is-n) at F
 
@@ -316,12 +310,12 @@ module _ (c table : List ℕ) (P : Prepared c table) (k : ℕ) (first : 1 ≤ k)
         pub floor-digits : IsFloor C S k t
         floor-digits = floors.digits-floor C W S k (linear-at ∙ linear) t first-at
 
-      module _ (p n : ℕ) (is-p : p ≡ C .p) (is-n : n ≡ C .n) where
+      pub floor-equal : Equals n (coefIn form) S → IsFloor C S k bounds′.none
+      floor-equal X = floors.digits-equal C W S k (linear-at ∙ linear) (rw (is-form, is-n) at X)
+
+      module _ (p : ℕ) (is-p : p ≡ C .p) where
         pub floor-crowded : Crowded p n (coefIn form) S → IsFloor C S k bounds′.none
         floor-crowded X = floors.digits-crowded C W S k (linear-at ∙ linear) (rw (is-form, is-p, is-n) at X)
-
-        pub floor-equal : Equals n (coefIn form) S → IsFloor C S k bounds′.none
-        floor-equal X = floors.digits-equal C W S k (linear-at ∙ linear) (rw (is-form, is-n) at X)
 
         -- whether r separates
         separated-at : (r : ℕ) (x : Bool) → x ≡ separated p n (coefIn form) S r

@@ -2,13 +2,13 @@
 
 use crate::memo::forget;
 use crate::output::put_step;
+use crate::rows::row_of;
 use crate::search::unmarked_in;
 use circuit::reader::after_form;
 use derivation::offsets::part_of;
 use rules::constraint::is_linear;
 use rules::constraint::product_met;
 use rules::digits::separated;
-use rules::form::reduced_form;
 use rules::standing::Kind;
 ghost use mathlib.Core.Path.{_≡_};
 ghost use mathlib.Core.Bool.{true, false};
@@ -38,6 +38,7 @@ ghost use Rattle.solver.specs.Marks.{
   StandingOf,
   Marked,
 };
+ghost use Rattle.solver.specs.Rows.{Rows};
 ghost use Rattle.solver.specs.Search.{Prepared};
 
 // A floor above all signals: the constraint marks nothing.
@@ -164,8 +165,8 @@ fn has_reference<'a>(form: &[u32], bounds: &'a [u32], marks: &'a [bool], n: u32,
 }
 
 // A number at most the lowest unmarked signal that a step by constraint k marks: where k is linear, its lowest unmarked signal.
-fn low_of(circuit: &[u8], table: &[u32; 513], marks: &[bool], p: u32, n: u32, k: u32) -> u64
-    requires { ⌜ Prepared (now circuit) (now table) × (p ≡ circuitOf (now circuit) .p) × (n ≡ circuitOf (now circuit) .n)
+fn low_of(circuit: &[u8], table: &[u32; 513], rows: &[u32], marks: &[bool], n: u32, k: u32) -> u64
+    requires { ⌜ Prepared (now circuit) (now table) × Rows (circuitOf (now circuit)) (now rows) × (n ≡ circuitOf (now circuit) .n)
         × (length (now marks) ≡ 257) × (1 ≤ k) × (k ≤ circuitOf (now circuit) .m) ⌝ }
     ensures { λ r. ⌜ ((b : ℕ → ℕ) → IsFloor (circuitOf (now (circuit .entry))) (withMarks b (now (marks .entry))) k r) ⌝ }
 {
@@ -181,8 +182,8 @@ fn low_of(circuit: &[u8], table: &[u32; 513], marks: &[bool], p: u32, n: u32, k:
         }
         return t as u64;
     }
-    let form = reduced_form(part, p);
-    let t = first_live(&form, marks, n);
+    let form = row_of(rows, n, k);
+    let t = first_live(form, marks, n);
     if t == 0 {
         return NONE;
     }
@@ -193,6 +194,7 @@ fn low_of(circuit: &[u8], table: &[u32; 513], marks: &[bool], p: u32, n: u32, k:
 fn floor_of<'a>(
     circuit: &[u8],
     table: &[u32; 513],
+    rows: &[u32],
     bounds: &'a [u32],
     marks: &'a [bool],
     p: u32,
@@ -202,7 +204,8 @@ fn floor_of<'a>(
     is_loose: bool,
 ) -> u64
     requires { ⌜ StandingOf (now circuit) (now table) (now bounds) (now marks) p n × (1 ≤ k) × (k ≤ circuitOf (now circuit) .m)
-        × IsFloor (circuitOf (now circuit)) (viewOf p (now bounds) (now marks)) k low ⌝ }
+        × IsFloor (circuitOf (now circuit)) (viewOf p (now bounds) (now marks)) k low
+        × Rows (circuitOf (now circuit)) (now rows) ⌝ }
     ensures { λ r. ⌜ IsFloor (circuitOf (now (circuit .entry))) (viewOf p (now (bounds .entry)) (now (marks .entry))) k r ⌝ }
 {
     if !is_loose {
@@ -212,14 +215,14 @@ fn floor_of<'a>(
     if !is_linear(part) {
         return low;
     }
-    let form = reduced_form(part, p);
-    if is_crowded(&form, bounds, marks, n, p) {
+    let form = row_of(rows, n, k);
+    if is_crowded(form, bounds, marks, n, p) {
         return NONE;
     }
-    if has_equals(&form, marks, n) {
+    if has_equals(form, marks, n) {
         return NONE;
     }
-    if !has_reference(&form, bounds, marks, n, p) {
+    if !has_reference(form, bounds, marks, n, p) {
         return NONE;
     }
     low
@@ -229,14 +232,14 @@ fn floor_of<'a>(
 fn fill_floors(
     circuit: &[u8],
     table: &[u32; 513],
+    rows: &[u32],
     marks: &[bool],
     floors: &mut [u64],
     loose: &mut [bool],
-    p: u32,
     n: u32,
     m: u32,
 )
-    requires { ⌜ Prepared (now circuit) (now table) × (p ≡ circuitOf (now circuit) .p) × (n ≡ circuitOf (now circuit) .n)
+    requires { ⌜ Prepared (now circuit) (now table) × Rows (circuitOf (now circuit)) (now rows) × (n ≡ circuitOf (now circuit) .n)
         × (length (now marks) ≡ 257) × (m ≡ circuitOf (now circuit) .m) × (m < length (now floors)) × (m < length (now loose)) ⌝ }
     ensures { λ r. ⌜ ((b : ℕ → ℕ) → Floors (circuitOf (now (circuit .entry))) (withMarks b (now (marks .entry))) (now (floors .entry))
         → Floors (circuitOf (now (circuit .entry))) (withMarks b (now (marks .entry))) (now (floors .exit))) ⌝ }
@@ -245,7 +248,7 @@ fn fill_floors(
     while k < m {
         k = k + 1;
         if floors[k as usize] == 0 {
-            floors[k as usize] = low_of(circuit, table, marks, p, n, k);
+            floors[k as usize] = low_of(circuit, table, rows, marks, n, k);
             loose[k as usize] = true;
         }
     }
@@ -255,6 +258,7 @@ fn fill_floors(
 fn lowest_floor<'a>(
     circuit: &[u8],
     table: &[u32; 513],
+    rows: &[u32],
     bounds: &'a [u32],
     marks: &'a [bool],
     floors: &mut [u64],
@@ -266,7 +270,8 @@ fn lowest_floor<'a>(
 ) -> u64
     requires { ⌜ StandingOf (now circuit) (now table) (now bounds) (now marks) p n × (m ≡ circuitOf (now circuit) .m)
         × (m < length (now floors)) × (m < length (now loose))
-        × Floors (circuitOf (now circuit)) (viewOf p (now bounds) (now marks)) (now floors) ⌝ }
+        × Floors (circuitOf (now circuit)) (viewOf p (now bounds) (now marks)) (now floors)
+        × Rows (circuitOf (now circuit)) (now rows) ⌝ }
     ensures { λ r. ⌜ Floors (circuitOf (now (circuit .entry))) (viewOf p (now (bounds .entry)) (now (marks .entry))) (now (floors .exit))
         × AtMost (now (floors .exit)) m r ⌝ }
 {
@@ -277,7 +282,7 @@ fn lowest_floor<'a>(
         let at = k as usize;
         let low = floors[at];
         if low < lowest {
-            let floor = floor_of(circuit, table, bounds, marks, p, n, k, low, loose[at]);
+            let floor = floor_of(circuit, table, rows, bounds, marks, p, n, k, low, loose[at]);
             floors[at] = floor;
             loose[at] = false;
             if floor < lowest {
@@ -310,6 +315,7 @@ fn first_zero<'a>(bounds: &'a [u32], marks: &'a [bool], n: u32) -> u32
 fn raise_floors<'a>(
     circuit: &[u8],
     table: &[u32; 513],
+    rows: &[u32],
     bounds: &'a [u32],
     marks: &'a [bool],
     floors: &mut [u64],
@@ -320,15 +326,17 @@ fn raise_floors<'a>(
 ) -> u64
     requires { ⌜ StandingOf (now circuit) (now table) (now bounds) (now marks) p n × (m ≡ circuitOf (now circuit) .m)
         × (m < length (now floors)) × (m < length (now loose))
-        × Floors (circuitOf (now circuit)) (viewOf p (now bounds) (now marks)) (now floors) ⌝ }
+        × Floors (circuitOf (now circuit)) (viewOf p (now bounds) (now marks)) (now floors)
+        × Rows (circuitOf (now circuit)) (now rows) ⌝ }
     ensures { λ r. ⌜ Floors (circuitOf (now (circuit .entry))) (viewOf p (now (bounds .entry)) (now (marks .entry))) (now (floors .exit))
         × AtMost (now (floors .exit)) m r ⌝ }
 {
     let zero = first_zero(bounds, marks, n);
-    fill_floors(circuit, table, marks, floors, loose, p, n, m);
+    fill_floors(circuit, table, rows, marks, floors, loose, n, m);
     lowest_floor(
         circuit,
         table,
+        rows,
         bounds,
         marks,
         floors,
@@ -371,6 +379,7 @@ fn product_for(
 fn digits_for<'a>(
     circuit: &[u8],
     table: &[u32; 513],
+    rows: &[u32],
     bounds: &'a [u32],
     marks: &'a [bool],
     floors: &[u64],
@@ -381,7 +390,8 @@ fn digits_for<'a>(
 ) -> Place
     requires { ⌜ StandingOf (now circuit) (now table) (now bounds) (now marks) p n × (m ≡ circuitOf (now circuit) .m) × (m < length (now floors))
         × (1 ≤ t) × (t ≤ n) × (markIn (now marks) t ≡ false)
-        × Floors (circuitOf (now circuit)) (viewOf p (now bounds) (now marks)) (now floors) ⌝ }
+        × Floors (circuitOf (now circuit)) (viewOf p (now bounds) (now marks)) (now floors)
+        × Rows (circuitOf (now circuit)) (now rows) ⌝ }
     ensures { λ r. ⌜ (r .constraint ≤ m) × (r .reference ≤ n) × ((later : Option Step)
         → firstDigits (circuitOf (now (circuit .entry))) (viewOf p (now (bounds .entry)) (now (marks .entry))) t 0 m later
         ≡ found (r .constraint) (step Digits t (r .constraint) (r .reference)) later) ⌝ }
@@ -394,13 +404,13 @@ fn digits_for<'a>(
         if floors[k as usize] <= t as u64 {
             let part = part_of(circuit, table, k);
             if is_linear(part) {
-                let form = reduced_form(part, p);
+                let form = row_of(rows, n, k);
                 if form[t as usize] != 0 {
                     let mut r: u32 = 0;
                     while r < n {
                         r = r + 1;
                         if form[r as usize] != 0 {
-                            if separated(&form, bounds, marks, n, p, r) {
+                            if separated(form, bounds, marks, n, p, r) {
                                 constraint = k;
                                 reference = r;
                                 break 'search;
@@ -433,6 +443,7 @@ fn taken(kind: Kind, target: u32, constraint: u32, reference: u32) -> Choice
 fn next_mark<'a>(
     circuit: &[u8],
     table: &[u32; 513],
+    rows: &[u32],
     bounds: &'a [u32],
     marks: &'a [bool],
     floors: &[u64],
@@ -442,7 +453,8 @@ fn next_mark<'a>(
     lowest: u64,
 ) -> Choice
     requires { ⌜ StandingOf (now circuit) (now table) (now bounds) (now marks) p n × (m ≡ circuitOf (now circuit) .m) × (m < length (now floors))
-        × Floors (circuitOf (now circuit)) (viewOf p (now bounds) (now marks)) (now floors) × AtMost (now floors) m lowest ⌝ }
+        × Floors (circuitOf (now circuit)) (viewOf p (now bounds) (now marks)) (now floors) × AtMost (now floors) m lowest
+        × Rows (circuitOf (now circuit)) (now rows) ⌝ }
     ensures { λ r. ⌜ choiceOf r ≡ firstMark (circuitOf (now (circuit .entry))) (viewOf p (now (bounds .entry)) (now (marks .entry))) ⌝ }
 {
     let mut t: u32 = 0;
@@ -457,7 +469,7 @@ fn next_mark<'a>(
                 if k != 0 {
                     return taken(Kind::Product, t, k, 0);
                 }
-                let place = digits_for(circuit, table, bounds, marks, floors, p, n, m, t);
+                let place = digits_for(circuit, table, rows, bounds, marks, floors, p, n, m, t);
                 if place.constraint != 0 {
                     return taken(Kind::Digits, t, place.constraint, place.reference);
                 }
@@ -484,6 +496,7 @@ fn number_of(kind: Kind) -> u32
 pub(crate) fn add_marks(
     circuit: &[u8],
     table: &[u32; 513],
+    rows: &[u32],
     bounds: &[u32],
     marks: &mut [bool],
     output: &mut [u8],
@@ -495,7 +508,7 @@ pub(crate) fn add_marks(
     requires { ⌜ StandingOf (now circuit) (now table) (now bounds) (now marks) p n × (m ≡ circuitOf (now circuit) .m)
         × (viewOf p (now bounds) (now marks)
         ≡ replay (circuitOf (now circuit)) (start (circuitOf (now circuit))) (boundSteps (circuitOf (now circuit))))
-        × (base ≤ n) × (7 + 14 * n ≤ length (now output)) ⌝ }
+        × (base ≤ n) × (7 + 14 * n ≤ length (now output)) × Rows (circuitOf (now circuit)) (now rows) ⌝ }
     ensures { λ r. ⌜ Marked (now (circuit .entry)) (now (bounds .entry)) (now (marks .exit)) (now (output .entry)) (now (output .exit)) base r ⌝ }
 {
     let mut floors = [0u64; 513];
@@ -505,6 +518,7 @@ pub(crate) fn add_marks(
         let lowest = raise_floors(
             circuit,
             table,
+            rows,
             bounds,
             marks,
             &mut floors,
@@ -513,7 +527,18 @@ pub(crate) fn add_marks(
             n,
             m,
         );
-        let choice = next_mark(circuit, table, bounds, marks, &floors, p, n, m, lowest);
+        let choice = next_mark(
+            circuit,
+            table,
+            rows,
+            bounds,
+            marks,
+            &floors,
+            p,
+            n,
+            m,
+            lowest,
+        );
         let Choice::Taken {
             kind,
             target,
