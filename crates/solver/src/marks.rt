@@ -25,6 +25,7 @@ ghost use Rattle.rules.specs.View.{coefIn, markIn, viewOf};
 ghost use Rattle.rules.specs.Promise.{kindOf};
 ghost use Rattle.derivation.specs.Inner.{circuitOf};
 ghost use Rattle.solver.specs.Marks.{withMarks, IsFloor, Floors, Crowded, FirstLive, found, choiceOf, StandingOf, Marked};
+ghost use Rattle.solver.specs.Rows.{Rows};
 ghost use Rattle.solver.specs.Search.{Prepared};
 
 // A floor above all signals: the constraint marks nothing.
@@ -319,6 +320,7 @@ fn number_of(kind: Kind) -> u32
 pub(crate) fn add_marks(
     circuit: &[u8],
     table: &[u32; 513],
+    rows: &[u32],
     bounds: &[u32],
     marks: &mut [bool],
     output: &mut [u8],
@@ -330,7 +332,7 @@ pub(crate) fn add_marks(
     requires { ⌜ StandingOf (now circuit) (now table) (now bounds) (now marks) p n × (m ≡ circuitOf (now circuit) .m)
         × (viewOf p (now bounds) (now marks)
         ≡ replay (circuitOf (now circuit)) (start (circuitOf (now circuit))) (boundSteps (circuitOf (now circuit))))
-        × (base ≤ n) × (7 + 14 * n ≤ length (now output)) ⌝ }
+        × (base ≤ n) × (7 + 14 * n ≤ length (now output)) × Rows (circuitOf (now circuit)) (now rows) ⌝ }
     ensures { λ r. ⌜ Marked (now (circuit .entry)) (now (bounds .entry)) (now (marks .exit)) (now (output .entry)) (now (output .exit)) base r ⌝ }
 {
     let mut floors = [0u64; 513];
@@ -357,7 +359,7 @@ pub(crate) fn add_marks(
             reference,
         );
         marks[target as usize] = true;
-        forget(circuit, table, &mut floors, m, target);
+        forget(rows, &mut floors, n, m, target);
         count = count + 1;
     }
     base + count

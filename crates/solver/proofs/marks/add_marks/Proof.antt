@@ -6,6 +6,7 @@ use borrow.Author.Needs.{needs}
 use lib.ListN.{length, length-set}
 use Rattle.solver.proofs.CandidateLaws.{few-constraints}
 use Rattle.solver.proofs.MarkLaws.{sizes}
+use Rattle.solver.proofs.RowLaws.{row-inside}
 use Rattle.solver.proofs.MarksTurn as laws
 use Rattle.solver.proofs.marks.add_marks.Statement.{statement}
 use Rattle.solver.proofs.marks.add_marks.Tie as tie
@@ -18,19 +19,19 @@ use Rattle.solver.proofs.memo.forget.Reads as forget-reads
 use Rattle.solver.proofs.output.put_step.Reads as put-step-reads
 
 abbrev Inv-loop : tie.InvT-loop
-Inv-loop circuit table bounds marks₀ output₀ p n m base floors₀ count₀ marks output floors count =
+Inv-loop circuit table rows bounds marks₀ output₀ p n m base floors₀ count₀ marks output floors count =
     (count ≤ n) × (length marks ≡ 257) × (length floors ≡ 513) × (length output ≡ length output₀)
     × laws.Turning circuit bounds marks floors output₀ output p base count
 
 abbrev μ-loop : tie.MeasureT-loop
-μ-loop circuit table bounds marks₀ output₀ p n m base floors₀ count₀ marks output floors count = n - count
+μ-loop circuit table rows bounds marks₀ output₀ p n m base floors₀ count₀ marks output floors count = n - count
 
 array-write-floors : tie.Need-array-write-floors Inv-loop μ-loop
 array-write-floors c = search needs
 
 loop-holds : tie.Need-loop-holds Inv-loop μ-loop
 loop-holds c =
-    let a = c .before .before .before .before in (
+    let a = c .before .before .before .before .before in (
       omega arith,
       a .pre .0 .marks-sized,
       search needs,
@@ -44,7 +45,7 @@ slice-aggregate-raise-floors c = search needs
 raise-floors-requires : tie.Need-raise-floors-requires Inv-loop μ-loop
 raise-floors-requires c κs =
     let at-loop = c .before .before .before in
-    let entry = at-loop .before .before .before .before .before in (
+    let entry = at-loop .before .before .before .before .before .before in (
       (laws.standing-on (entry .pre .0) _ (at-loop .loop .inv .1)),
       entry .pre .1,
       omega (arith, entry .pre .1, few-constraints (entry .pre .0 .prepared), at-loop .loop .inv .2),
@@ -58,7 +59,7 @@ next-mark-requires : tie.Need-next-mark-requires Inv-loop μ-loop
 next-mark-requires c κs =
     let at-raise-floors = c .before .before .before in
     let at-loop = at-raise-floors .before .before .before .before in
-    let entry = at-loop .before .before .before .before .before in (
+    let entry = at-loop .before .before .before .before .before .before in (
       (laws.standing-on (entry .pre .0) _ (at-loop .loop .inv .1)),
       entry .pre .1,
       omega (
@@ -80,13 +81,13 @@ enum-told c = search needs
 add-result : tie.Need-add-result Inv-loop μ-loop
 add-result c =
     let past = c .before .before .before .before .before .before .before .before .before .before in
-    let entry = past .before .before .before .before .before in
+    let entry = past .before .before .before .before .before .before in
     let s = sizes (entry .pre .0) in omega arith
 
 same-length : tie.Need-same-length Inv-loop μ-loop
 same-length c =
     let at-loop = c .before .before .before .before .before .before .before .before .before .before in
-    let entry = at-loop .before .before .before .before .before in
+    let entry = at-loop .before .before .before .before .before .before in
     at-loop .loop .inv .1 ∙ sym (entry .pre .0 .marks-sized)
 
 same-length-2 : tie.Need-same-length-2 Inv-loop μ-loop
@@ -96,14 +97,14 @@ returns : tie.Need-returns Inv-loop μ-loop
 returns c =
     let at-next-mark = c .before .before in
     let at-loop = at-next-mark .before .before .before .before .before .before .before .before in
-    let entry = at-loop .before .before .before .before .before in
+    let entry = at-loop .before .before .before .before .before .before in
     laws.turning-none _ _ _ _ _ _ (laws.standing-on (entry .pre .0) _ (at-loop .loop .inv .1)) _ _ _ _ _ (at-loop .loop .inv .4) _
     (at-next-mark .next-mark .ensures) (c .enum-told .given .1)
 
 add-put-step : tie.Need-add-put-step Inv-loop μ-loop
 add-put-step c =
     let past = c .before .before .before .before .before .before .before .before .before .before in
-    let entry = past .before .before .before .before .before .before .before in
+    let entry = past .before .before .before .before .before .before .before .before in
     let s = sizes (entry .pre .0) in omega arith
 
 number-of-requires : tie.Need-number-of-requires Inv-loop μ-loop
@@ -115,7 +116,7 @@ put-step-requires c κs =
     let at-next-mark = at-choice .before .before in
     let at-loop-test = at-next-mark .before .before .before .before .before .before .before in
     let at-loop = at-loop-test .before in
-    let entry = at-loop .before .before .before .before .before in
+    let entry = at-loop .before .before .before .before .before .before in
     let t = laws.target-small _ _ _ _ _ _ (laws.standing-on (entry .pre .0) _ (at-loop .loop .inv .1)) _ _ _ _ _ (at-loop .loop .inv .4) _
     (at-next-mark .next-mark .ensures) _ _ _ _ (at-choice .choice .given .1) in
     let f = laws.fields-small _ _ _ _ _ _ (laws.standing-on (entry .pre .0) _ (at-loop .loop .inv .1)) _ _ _ _ _ (at-loop .loop .inv .4) _
@@ -135,7 +136,7 @@ slice-write-marks c =
     let at-choice = c .before .before .before .before .before .before in
     let at-next-mark = at-choice .before .before in
     let at-loop = at-next-mark .before .before .before .before .before .before .before .before in
-    let entry = at-loop .before .before .before .before .before in
+    let entry = at-loop .before .before .before .before .before .before in
     omega (
       arith,
       laws.target-small _ _ _ _ _ _ (laws.standing-on (entry .pre .0) _ (at-loop .loop .inv .1)) _ _ _ _ _ (at-loop .loop .inv .4) _
@@ -148,11 +149,14 @@ slice-aggregate-forget c = search needs
 
 forget-requires : tie.Need-forget-requires Inv-loop μ-loop
 forget-requires c κs =
-    let at-raise-floors = c .before .before .before .before .before .before .before .before .before .before .before .before .before in
+    let at-choice = c .before .before .before .before .before .before .before in
+    let at-next-mark = at-choice .before .before in
+    let at-raise-floors = at-next-mark .before .before .before .before in
     let at-loop = at-raise-floors .before .before .before .before in
-    let entry = at-loop .before .before .before .before .before in (
-      entry .pre .0 .prepared,
-      entry .pre .1,
+    let entry = at-loop .before .before .before .before .before .before in
+    let t = laws.target-small _ _ _ _ _ _ (laws.standing-on (entry .pre .0) _ (at-loop .loop .inv .1)) _ _ _ _ _ (at-loop .loop .inv .4) _
+    (at-next-mark .next-mark .ensures) _ _ _ _ (at-choice .choice .given .1) in (
+      row-inside _ _ (entry .pre .5) _ _ (entry .pre .0 .is-n) (omega (arith, entry .pre .1)),
       omega (
         arith,
         entry .pre .1,
@@ -160,13 +164,14 @@ forget-requires c κs =
         at-loop .loop .inv .2,
         at-raise-floors .raise-floors .kept .1 .1 .1 .1 .0,
       ),
+      t .2,
     )
 
 add-count : tie.Need-add-count Inv-loop μ-loop
 add-count c =
     let past = c .before .before .before .before .before .before .before .before .before .before in
     let at-loop-test = past .before .before .before .before .before .before .before .before in
-    let entry = at-loop-test .before .before .before .before .before .before in
+    let entry = at-loop-test .before .before .before .before .before .before .before in
     let s = sizes (entry .pre .0) in omega (arith, at-loop-test .loop-test .taken)
 
 loop-less : tie.Need-loop-less Inv-loop μ-loop
@@ -181,30 +186,30 @@ loop-again c =
     let at-raise-floors = at-next-mark .before .before .before .before in
     let at-loop-test = at-raise-floors .before .before .before in
     let at-loop = at-loop-test .before in
-    let entry = at-loop .before .before .before .before .before in
+    let entry = at-loop .before .before .before .before .before .before in
     let l = at-loop .loop in (
       omega arith,
       simp length-set (l .inv .1),
-      c .before .forget .kept .1 .1 .0 ∙ at-raise-floors .raise-floors .kept .1 .1 .1 .1 .0 ∙ l .inv .2,
+      c .before .forget .kept .1 .0 ∙ at-raise-floors .raise-floors .kept .1 .1 .1 .1 .0 ∙ l .inv .2,
       at-put-step .put-step .kept .0 ∙ l .inv .3,
       laws.turning-next _ _ _ _ _ _ (laws.standing-on (entry .pre .0) _ (at-loop .loop .inv .1)) _ _ _ _ _ (at-loop .loop .inv .4) _
           (at-next-mark .next-mark .ensures) _ _ _ _ (at-choice .choice .given .1) (at-loop-test .loop-test .taken) _ _ _ _
           (at-number-of .number-of .ensures .0) (at-put-step .put-step .ensures) (at-raise-floors .raise-floors .ensures)
-          (c .before .forget .ensures),
+          (c .before .forget .ensures _ (entry .pre .5) (entry .pre .0 .is-n) (entry .pre .1)),
     )
 
 add-result-2 : tie.Need-add-result-2 Inv-loop μ-loop
-add-result-2 c = let s = sizes (c .before .before .before .before .before .before .pre .0) in omega arith
+add-result-2 c = let s = sizes (c .before .before .before .before .before .before .before .pre .0) in omega arith
 
 same-length-3 : tie.Need-same-length-3 Inv-loop μ-loop
-same-length-3 c = c .before .loop .inv .1 ∙ sym (c .before .before .before .before .before .before .pre .0 .marks-sized)
+same-length-3 c = c .before .loop .inv .1 ∙ sym (c .before .before .before .before .before .before .before .pre .0 .marks-sized)
 
 same-length-4 : tie.Need-same-length-4 Inv-loop μ-loop
 same-length-4 c = c .before .loop .inv .3
 
 returns-2 : tie.Need-returns-2 Inv-loop μ-loop
 returns-2 c =
-    let entry = c .before .before .before .before .before .before in
+    let entry = c .before .before .before .before .before .before .before in
     laws.turning-all _ _ _ _ _ _ (laws.standing-on (entry .pre .0) _ (c .before .loop .inv .1)) _ _ _ _ _ (c .before .loop .inv .4)
     (c .loop-test .left)
 
