@@ -90,8 +90,12 @@ module _ (c table : List ℕ) (P : Prepared c table) where
         abbrev x : Step
         x = step (H .kind) (H .target) k 0
 
-        pub target-small : (1 ≤ key / 4 % 512) × (key / 4 % 512 ≤ 256)
-        target-small = (omega (arith, H .is-target, H .target-least), omega (arith, H .is-target, H .target-most, W .n-most))
+        pub target-small : (1 ≤ key / 4 % 512) × (key / 4 % 512 ≤ 256) × (key / 4 % 512 ≤ C .n)
+        target-small = (
+          omega (arith, H .is-target, H .target-least),
+          omega (arith, H .is-target, H .target-most, W .n-most),
+          omega (arith, H .is-target, H .target-most),
+        )
 
         pub bound-small : key / 4 / 512 < C .p
         bound-small =

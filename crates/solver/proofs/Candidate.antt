@@ -79,7 +79,7 @@ named-within {n} r t e = go (decLe t n)
     go (no d) = true-or-false _ e (unnamed-beyond r t (omega arith))
 
 -- a constraint that meets the root rule is not linear: A and B name the target
-root-not-linear : (K : Constraint) (t : ℕ) → 1 ≤ t → rootMet K t ≡ true → linear K ≡ false
+pub root-not-linear : (K : Constraint) (t : ℕ) → 1 ≤ t → rootMet K t ≡ true → linear K ≡ false
 unfolding rootMet linear
 root-not-linear K t l e =
     let a = and-right (isZero (K .c)) (names (K .a) t && namesOnly t (K .a)) (and-left _ _ e) in

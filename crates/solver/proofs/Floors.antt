@@ -1,4 +1,4 @@
--- Floors: below which no step by a constraint marks an unmarked signal. A floor stays while the marks of the signals that it names stay.
+-- Floors: below which no step by a constraint marks an unmarked signal. A floor stays while the marks of the signals that it turns on stay.
 use Prim.Native.Nat.{ℕ, zero, suc, _+_, _*_, _-_, _%_, _≤_, _<_}
 use mathlib.Core.Path.{_≡_, refl, sym, ap, _∙_}
 use mathlib.Core.Bool.{Bool, true, false, cond, not, _&&_, _||_}
@@ -39,8 +39,8 @@ use Rattle.laws.proofs.Monotone.{digits-met-from}
 use Rattle.rules.proofs.ViewLaws.{getD-repeated}
 use Rattle.solver.specs.Bounds as bounds
 use Rattle.solver.specs.Marks.{IsFloor, Floors, Crowded, Equals, FirstLive}
-use Rattle.solver.specs.Search.{SomeUnmarked, involves, Forgotten}
-use Rattle.solver.proofs.Untouched.{Uninvolved, uninvolved, uninvolved-reduced}
+use Rattle.solver.specs.Search.{SomeUnmarked, Apart, Forgotten}
+use Rattle.solver.proofs.Untouched.{apart-uninvolved, apart-reduced}
 
 -- The rules taken apart
 
@@ -258,7 +258,8 @@ module _ (C : Circuit) (W : WellFormed C) (S : Standing) (k : ℕ) where
 
 -- A floor stays
 
-module _ (C : Circuit) (W : WellFormed C) (S : Standing) (k u : ℕ) (low : 1 ≤ u) (U : Uninvolved (constraintAt C k) u) where
+module _ (C : Circuit) (W : WellFormed C) (S : Standing) (k u : ℕ) (low : 1 ≤ u)
+    (A : Apart (C .p) (constraintAt C k) u) where
   -- where a signal that the constraint does not name was marked, the others were marked before
   others-before : (t : ℕ) (f : Form) → names f u ≡ false → othersMarked (mark S u) t f ≡ true → othersMarked S t f ≡ true
   others-before t f n e = others-from S t f (λ s h. before s h (ℕ-discrete s u) (others-at (mark S u) t f e s h))
@@ -280,7 +281,7 @@ module _ (C : Circuit) (W : WellFormed C) (S : Standing) (k u : ℕ) (low : 1 �
       other q =
           occurs-yes (C .p) (constraintAt C k) (suc s) (and-left _ _ e)
           (ap (reduced (C .p) (constraintAt C k)) q
-          ∙ uninvolved-reduced (C .p) (constraintAt C k) u (omega (arith, W .p-least)) low U)
+          ∙ apart-reduced (C .p) (constraintAt C k) u (omega (arith, W .p-least)) low A)
 
   unmarked-before : (t : ℕ) → mark S u .marked t ≡ false → S .marked t ≡ false
   unmarked-before t e = false-by _ (λ m. true-or-false _ (mark-keeps S u t m) e)
@@ -290,6 +291,7 @@ module _ (C : Circuit) (W : WellFormed C) (S : Standing) (k u : ℕ) (low : 1 �
   product-before t e =
       let K = constraintAt C k in
       let X = product-says K (mark S u) t e in
+      let U = apart-uninvolved (C .p) K u A (X .nonlinear) in
       let stands = names (K .c) t && not (names (K .a) t) && not (names (K .b) t) in
       and-both _ _ (and-left (not (linear K) && stands) _ e)
       (and-both _ _
@@ -318,14 +320,13 @@ floors-set C S k floor floors F h I = record { each = λ j a b. each j a b (ℕ-
     each j a b (yes q) = rw (q, getD-set-same floors k floor 0 h) I
     each j a b (no d) = rw (getD-set-other floors k j floor 0 d) (F .each j a b)
 
--- where a signal is marked, the floors of the constraints that involve it are forgotten, and the others stay
+-- where a signal is marked, floors are forgotten, but for constraints that it is apart from, whose floors stay
 pub floors-kept : (C : Circuit) (W : WellFormed C) (S : Standing) (u : ℕ) → 1 ≤ u → (before later : List ℕ) → Floors C S before
     → Forgotten C u before later → Floors C (mark S u) later
 floors-kept C W S u low before later F G = record { each = each }
   where
     each : (k : ℕ) → 1 ≤ k → k ≤ C .m → IsFloor C (mark S u) k (getD later k 0)
     each k l m =
-        by-test (involves (constraintAt C k) u) (λ e. rw (G .each k l m, e) (nothing-known C W (mark S u) k))
-        (λ e.
-        rw (G .each k l m, e)
-        (floor-kept C W S k u low (uninvolved (constraintAt C k) u e) (getD before k 0) (F .each k l m)))
+        ⊎-elim (λ z. rw z (nothing-known C W (mark S u) k))
+        (λ w. rw (w .0) (floor-kept C W S k u low (w .1) (getD before k 0) (F .each k l m)))
+        (G .each k l m)

@@ -114,10 +114,10 @@ module _ (c table bounds : List ℕ) (marks : List Bool) (p n : ℕ) (B : Standi
       M : Marking (circuitOf c) S x
       M = first-mark-some (circuitOf c) S x taken
 
-      pub target-small : (1 ≤ target) × (target ≤ 256)
+      pub target-small : (1 ≤ target) × (target ≤ 256) × (target ≤ n)
       target-small =
           let w = target-within (circuitOf c) x (M .in-range) in
-          (w .0, omega (arith, w .1, W c table bounds marks p n B .n-most))
+          (w .0, omega (arith, w .1, W c table bounds marks p n B .n-most), omega (arith, w .1, B .is-n))
 
       pub fields-small : (constraint ≤ 512) × (reference ≤ 256)
       fields-small =

@@ -3,7 +3,7 @@ use Prim.Native.Nat.{ℕ, zero, suc, _+_, _*_, _-_, _≤_, _<_}
 use mathlib.Core.Path.{_≡_, refl, sym, ap, _∙_, fun-ext}
 use mathlib.Core.Bool.{Bool, true, false}
 use mathlib.Core.List.{List}
-use mathlib.Core.Logic.{⊎-elim}
+use mathlib.Core.Logic.{_⊎_, inl, inr, ⊎-elim}
 use native.Mathlib.Omega.{arith}
 use native.Mathlib.Decide.{decLe, ℕ-discrete}
 use native.Mathlib.Nat.{mul-le-mul-right}
@@ -23,7 +23,7 @@ use Rattle.rules.proofs.ViewLaws.{coef-past}
 use Rattle.rules.proofs.Walk.{termsFrom, names-turn, names-end, form-start}
 use Rattle.derivation.specs.Inner.{circuitOf}
 use Rattle.derivation.specs.Offsets.{partOf}
-use Rattle.solver.specs.Search.{Prepared, involves}
+use Rattle.solver.specs.Search.{Prepared, involves, Apart, Forgotten}
 use Rattle.solver.specs.Rows.{entry, row, IsRow, Rows, NamesAdded, Copied}
 use Rattle.solver.proofs.SearchLaws.{constraint-part}
 
@@ -208,3 +208,54 @@ module _ (c table : List ℕ) (P : Prepared c table) (p n k : ℕ) (is-p : p ≡
           let below : (j + 1) * (C .n + 1) ≤ (k + 1) * (C .n + 1) = mul-le-mul-right (C .n + 1) (omega arith) in
           row-from (C .p) (C .n) (C .n) (constraintAt C j) (entry before (C .n) j) _ (omega arith) (F .each j l (omega arith))
           (λ s m. G .kept (j * (C .n + 1) + s) (omega (arith, begins)))
+
+-- What is forgotten
+
+-- what was kept of the constraints up to k is forgotten, but where 0 stands in the signal's column; the rest is as before
+pub record Forgetting (rows : List ℕ) (n signal k : ℕ) (before later : List ℕ) : Type 0 where
+  pub top : getD later 0 0 ≡ getD before 0 0
+  pub done : (j : ℕ) → 1 ≤ j → j ≤ k → (getD later j 0 ≡ 0) ⊎ ((getD later j 0 ≡ getD before j 0) × (entry rows n j signal ≡ 0))
+  pub same : (j : ℕ) → k < j → getD later j 0 ≡ getD before j 0
+
+pub forgetting-start : (rows : List ℕ) (n signal : ℕ) (before : List ℕ) → Forgetting rows n signal 0 before before
+forgetting-start rows n signal before = record { top = refl; done = λ j l m. absurd (omega arith); same = λ j h. refl }
+
+pub forgetting-end : (rows : List ℕ) (n m signal k : ℕ) (before later : List ℕ) → Forgetting rows n signal k before later → m ≤ k → signal ≤ n
+    → (C : Circuit) → Rows C rows → n ≡ C .n → m ≡ C .m → Forgotten C signal before later
+forgetting-end rows n m signal k before later F h low C R is-n is-m = record { top = F .top; each = each }
+  where
+    apart : (j : ℕ) → 1 ≤ j → j ≤ C .m → entry rows (C .n) j signal ≡ 0 → Apart (C .p) (constraintAt C j) signal
+    apart j l g z =
+        record {
+          absent = λ e. sym (R .each j l g .reduces e signal (omega arith)) ∙ z;
+          unnamed = λ e. R .each j l g .unnamed e signal (omega arith) z;
+        }
+
+    each : (j : ℕ) → 1 ≤ j → j ≤ C .m → (getD later j 0 ≡ 0) ⊎ ((getD later j 0 ≡ getD before j 0) × Apart (C .p) (constraintAt C j) signal)
+    each j l g = ⊎-elim inl (λ w. inr (w .0, apart j l g (rw is-n at (w .1)))) (F .done j l (omega arith))
+
+module _ (rows : List ℕ) (n signal k : ℕ) (before later : List ℕ) (F : Forgetting rows n signal k before later) where
+  pub forgetting-set : k + 1 < length later → Forgetting rows n signal (k + 1) before (set later (k + 1) 0)
+  forgetting-set h =
+      record {
+        top = getD-set-other later (k + 1) 0 0 0 (λ (z : 0 ≡ k + 1). omega arith) ∙ F .top;
+        done = λ j l m. done j l m (ℕ-discrete j (k + 1));
+        same = λ j g. getD-set-other later (k + 1) j 0 0 (λ (z : j ≡ k + 1). omega arith) ∙ F .same j (omega arith);
+      }
+    where
+      done : (j : ℕ) → 1 ≤ j → j ≤ k + 1 → Dec (j ≡ k + 1)
+          → (getD (set later (k + 1) 0) j 0 ≡ 0) ⊎ ((getD (set later (k + 1) 0) j 0 ≡ getD before j 0) × (entry rows n j signal ≡ 0))
+      done j l m (yes q) = inl (rw q (getD-set-same later (k + 1) 0 0 h))
+      done j l m (no d) = rw (getD-set-other later (k + 1) j 0 0 d) (F .done j l (omega arith))
+
+  pub forgetting-on : (at : ℕ) → at ≡ k * (n + 1) + signal → getD rows (at + (n + 1)) 0 ≡ 0 → Forgetting rows n signal (k + 1) before later
+  unfolding entry
+  forgetting-on at is-at e =
+      record { top = F .top; done = λ j l m. done j l m (ℕ-discrete j (k + 1)); same = λ j g. F .same j (omega arith) }
+    where
+      done : (j : ℕ) → 1 ≤ j → j ≤ k + 1 → Dec (j ≡ k + 1)
+          → (getD later j 0 ≡ 0) ⊎ ((getD later j 0 ≡ getD before j 0) × (entry rows n j signal ≡ 0))
+      done j l m (yes q) =
+          let there : at + (n + 1) ≡ (k + 1) * (n + 1) + signal = omega arith in
+          inr (rw q (F .same (k + 1) (omega arith), ap (λ (i : ℕ). getD rows i 0) (sym there) ∙ e))
+      done j l m (no d) = F .done j l (omega arith)

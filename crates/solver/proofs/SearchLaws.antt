@@ -22,27 +22,7 @@ use Rattle.solver.specs.Bounds.{Least}
 use Rattle.derivation.specs.Offsets.{partOf}
 use Rattle.derivation.proofs.OffsetLaws.{part-is}
 use Rattle.derivation.specs.Inner.{circuitOf}
-use Rattle.solver.specs.Search.{Prepared, SomeUnmarked, Only, free, involves, Forgotten}
-
--- Whether a constraint involves a signal
-
-module _ (s : List ℕ) (t : ℕ) where
-  pub involved-a : names (formIn s) t ≡ true → true ≡ involves (constraintIn s) t
-  unfolding involves constraintIn
-  involved-a a = rw a
-
-  pub involved-b : (b : List ℕ) → names (formIn s) t ≡ false → b ≡ afterForm s → names (formIn b) t ≡ true → true ≡ involves (constraintIn s) t
-  unfolding involves constraintIn
-  involved-b b a e f = rw (a, sym (ap (λ (r : List ℕ). names (formIn r) t) e) ∙ f)
-
-  pub involved-c : (b c : List ℕ) (r : Bool) → names (formIn s) t ≡ false → b ≡ afterForm s → names (formIn b) t ≡ false
-      → c ≡ afterForm b → r ≡ names (formIn c) t → r ≡ involves (constraintIn s) t
-  unfolding involves constraintIn
-  involved-c b c r a e f g h =
-      let second : names (formIn (afterForm s)) t ≡ false = sym (ap (λ (z : List ℕ). names (formIn z) t) e) ∙ f in
-      let third : names (formIn (afterForm (afterForm s))) t ≡ r
-      = sym (h ∙ ap (λ (z : List ℕ). names (formIn z) t) (g ∙ ap afterForm e)) in
-      rw (a, second, third)
+use Rattle.solver.specs.Search.{Prepared, SomeUnmarked, Only, free}
 
 -- An unmarked signal
 
@@ -199,49 +179,8 @@ module _ (entries : List ℕ) (m r : ℕ) (L : Least entries m r) where
       least k h (yes q) = rw q l
       least k h (no d) = L .least k (omega arith)
 
--- What is forgotten
-
--- the same as in a table of k constraints: those up to k are done, the others as before
-pub record Forgetting (C : Circuit) (signal k : ℕ) (before later : List ℕ) : Type 0 where
-  pub top : getD later 0 0 ≡ getD before 0 0
-  pub done : (j : ℕ) → 1 ≤ j → j ≤ k → getD later j 0 ≡ cond (involves (constraintAt C j) signal) 0 (getD before j 0)
-  pub same : (j : ℕ) → k < j → getD later j 0 ≡ getD before j 0
-
-pub forgetting-start : (C : Circuit) (signal : ℕ) (before : List ℕ) → Forgetting C signal 0 before before
-forgetting-start C signal before = record { top = refl; done = λ j l m. absurd (omega arith); same = λ j h. refl }
-
-pub forgetting-end : (C : Circuit) (signal k : ℕ) (before later : List ℕ) → Forgetting C signal k before later → C .m ≤ k
-    → Forgotten C signal before later
-forgetting-end C signal k before later F h = record { top = F .top; each = λ j l m. F .done j l (omega arith) }
-
-module _ (C : Circuit) (signal k : ℕ) (before later : List ℕ) (F : Forgetting C signal k before later) (b : Bool)
-    (is : b ≡ involves (constraintAt C (k + 1)) signal) where
-  pub forgetting-set : k + 1 < length later → b ≡ true → Forgetting C signal (k + 1) before (set later (k + 1) 0)
-  forgetting-set h e =
-      record {
-        top = getD-set-other later (k + 1) 0 0 0 (λ (z : 0 ≡ k + 1). omega arith) ∙ F .top;
-        done = λ j l m. done j l m (ℕ-discrete j (k + 1));
-        same = λ j g. getD-set-other later (k + 1) j 0 0 (λ (z : j ≡ k + 1). omega arith) ∙ F .same j (omega arith);
-      }
-    where
-      done : (j : ℕ) → 1 ≤ j → j ≤ k + 1 → Dec (j ≡ k + 1)
-          → getD (set later (k + 1) 0) j 0 ≡ cond (involves (constraintAt C j) signal) 0 (getD before j 0)
-      done j l m (yes q) = rw (q, sym is ∙ e) (getD-set-same later (k + 1) 0 0 h)
-      done j l m (no d) = getD-set-other later (k + 1) j 0 0 d ∙ F .done j l (omega arith)
-
-  pub forgetting-on : b ≡ false → Forgetting C signal (k + 1) before later
-  forgetting-on e = record { top = F .top; done = λ j l m. done j l m (ℕ-discrete j (k + 1)); same = λ j g. F .same j (omega arith) }
-    where
-      done : (j : ℕ) → 1 ≤ j → j ≤ k + 1 → Dec (j ≡ k + 1) → getD later j 0 ≡ cond (involves (constraintAt C j) signal) 0 (getD before j 0)
-      done j l m (yes q) = rw (q, sym is ∙ e) (F .same (k + 1) (omega arith))
-      done j l m (no d) = F .done j l (omega arith)
-
 -- The part of a constraint
 
 pub constraint-part : (c table : List ℕ) → Prepared c table → (k : ℕ) → 1 ≤ k → k ≤ circuitOf c .m → (part : List ℕ) → part ≡ partOf c table k
     → constraintIn part ≡ constraintAt (circuitOf c) k
 constraint-part c table P k l m part e = ap constraintIn e ∙ part-is c (circuitOf c) (P .size) (P .read) table (P .offsets) k l m
-
-pub involved-part : (c table : List ℕ) → Prepared c table → (k : ℕ) → 1 ≤ k → k ≤ circuitOf c .m → (part : List ℕ) → part ≡ partOf c table k
-    → (signal : ℕ) (b : Bool) → b ≡ involves (constraintIn part) signal → b ≡ involves (constraintAt (circuitOf c) k) signal
-involved-part c table P k l m part e signal b h = h ∙ ap (λ (K : Constraint). involves K signal) (constraint-part c table P k l m part e)

@@ -557,7 +557,7 @@ pub(crate) fn add_marks(
             reference,
         );
         marks[target as usize] = true;
-        forget(circuit, table, &mut floors, m, target);
+        forget(rows, &mut floors, n, m, target);
         count = count + 1;
     }
     base + count

@@ -1,32 +1,15 @@
-// Signals in forms: whether a constraint involves one, an unmarked one, and the only one whose bound is still p - 1.
+// Signals in forms: an unmarked one, and the only one whose bound is still p - 1.
 
 use circuit::bytes::byte_at;
 use circuit::bytes::u16_at;
-use circuit::reader::after_form;
-use rules::form::names_signal;
 ghost use mathlib.Core.Path.{_≡_};
 ghost use mathlib.Core.Bool.{not, _&&_};
 ghost use Prim.Native.Nat.{_<_};
 ghost use lib.ListN.{length};
 ghost use lib.Dec.{ltb, leb};
-ghost use Rattle.circuit.specs.Reader.{formIn, constraintIn};
+ghost use Rattle.circuit.specs.Reader.{formIn};
 ghost use Rattle.rules.specs.View.{markIn};
-ghost use Rattle.solver.specs.Search as search;
 ghost use Rattle.solver.specs.Search.{SomeUnmarked, Only, free};
-
-// Whether one of the three forms names the signal.
-pub(crate) fn involves(part: &[u8], signal: u32) -> bool
-    ensures { λ r. ⌜ r ≡ search.involves (constraintIn (now (part .entry))) signal ⌝ }
-{
-    if names_signal(part, signal) {
-        return true;
-    }
-    let b = after_form(part);
-    if names_signal(b, signal) {
-        return true;
-    }
-    names_signal(after_form(b), signal)
-}
 
 // An unmarked signal of the form at the start of the part, 0 where it has none.
 pub(crate) fn unmarked_in(part: &[u8], marks: &[bool]) -> u32
