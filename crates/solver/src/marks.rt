@@ -16,8 +16,7 @@ ghost use mathlib.Core.Option.{Option, some};
 ghost use Prim.Native.Nat.{ℕ, _+_, _*_, _≤_, _<_};
 ghost use lib.ListN.{length};
 ghost use Rattle.laws.specs.Standing.{start};
-ghost use Rattle.laws.specs.Rules as rules;
-ghost use Rattle.laws.specs.Rules.{live, occurs};
+ghost use Rattle.laws.specs.Rules.{live};
 ghost use Rattle.laws.specs.Step.{Step, Product, Digits, replay};
 ghost use Rattle.laws.specs.Solver.{step, kindNumber, firstProduct, firstDigits, firstMark, boundSteps};
 ghost use Rattle.rules.specs.View.{coefIn, markIn, viewOf};
@@ -32,6 +31,7 @@ ghost use Rattle.solver.specs.Marks.{
   Equals,
   Among,
   FirstLive,
+  FirstReference,
   FirstZero,
   found,
   choiceOf,
@@ -146,22 +146,21 @@ fn has_equals(form: &[u32], marks: &[bool], n: u32) -> bool
     false
 }
 
-// Whether some signal of the form may be the reference of a digits step.
-fn has_reference<'a>(form: &[u32], bounds: &'a [u32], marks: &'a [bool], n: u32, p: u32) -> bool
+// The lowest signal of the form that may be the reference of a digits step, 0 where there is none.
+fn first_reference<'a>(form: &[u32], bounds: &'a [u32], marks: &'a [bool], n: u32, p: u32) -> u32
     requires { ⌜ (n < length (now form)) × (n ≤ 256) ⌝ }
-    ensures { λ b. ⌜ (b ≡ false → (r : ℕ) → 1 ≤ r → r ≤ n → occurs (coefIn (now (form .entry))) r ≡ true
-        → rules.separated p n (coefIn (now (form .entry))) (viewOf p (now (bounds .entry)) (now (marks .entry))) r ≡ false) ⌝ }
+    ensures { λ r. ⌜ FirstReference p n (coefIn (now (form .entry))) (viewOf p (now (bounds .entry)) (now (marks .entry))) r ⌝ }
 {
     let mut r: u32 = 0;
     while r < n {
         r = r + 1;
         if form[r as usize] != 0 {
             if separated(form, bounds, marks, n, p, r) {
-                return true;
+                return r;
             }
         }
     }
-    false
+    0
 }
 
 // A number at most the lowest unmarked signal that a step by constraint k marks: where k is linear, its lowest unmarked signal.
@@ -222,7 +221,7 @@ fn floor_of<'a>(
     if has_equals(form, marks, n) {
         return NONE;
     }
-    if !has_reference(form, bounds, marks, n, p) {
+    if first_reference(form, bounds, marks, n, p) == 0 {
         return NONE;
     }
     low
@@ -396,34 +395,27 @@ fn digits_for<'a>(
         → firstDigits (circuitOf (now (circuit .entry))) (viewOf p (now (bounds .entry)) (now (marks .entry))) t 0 m later
         ≡ found (r .constraint) (step Digits t (r .constraint) (r .reference)) later) ⌝ }
 {
-    let mut constraint: u32 = 0;
-    let mut reference: u32 = 0;
     let mut k: u32 = 0;
-    'search: while k < m {
+    while k < m {
         k = k + 1;
         if floors[k as usize] <= t as u64 {
-            let part = part_of(circuit, table, k);
-            if is_linear(part) {
+            if is_linear(part_of(circuit, table, k)) {
                 let form = row_of(rows, n, k);
                 if form[t as usize] != 0 {
-                    let mut r: u32 = 0;
-                    while r < n {
-                        r = r + 1;
-                        if form[r as usize] != 0 {
-                            if separated(form, bounds, marks, n, p, r) {
-                                constraint = k;
-                                reference = r;
-                                break 'search;
-                            }
-                        }
+                    let reference = first_reference(form, bounds, marks, n, p);
+                    if reference != 0 {
+                        return Place {
+                            constraint: k,
+                            reference,
+                        };
                     }
                 }
             }
         }
     }
     Place {
-        constraint,
-        reference,
+        constraint: 0,
+        reference: 0,
     }
 }
 

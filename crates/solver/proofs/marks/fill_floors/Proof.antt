@@ -14,12 +14,12 @@ use Rattle.solver.proofs.marks.fill_floors.Lts as lts
 use Rattle.solver.proofs.marks.low_of.Reads as low-of-reads
 
 abbrev Inv-loop : tie.InvT-loop
-Inv-loop circuit table marks floors₀ loose₀ p n m k₀ floors loose k =
+Inv-loop circuit table rows marks floors₀ loose₀ n m k₀ floors loose k =
     (k ≤ m) × (length floors ≡ length floors₀) × (length loose ≡ length loose₀)
     × ((b : ℕ → ℕ) → Floors (circuitOf circuit) (withMarks b marks) floors₀ → Floors (circuitOf circuit) (withMarks b marks) floors)
 
 abbrev μ-loop : tie.MeasureT-loop
-μ-loop circuit table marks floors₀ loose₀ p n m k₀ floors loose k = m - k
+μ-loop circuit table rows marks floors₀ loose₀ n m k₀ floors loose k = m - k
 
 loop-holds : tie.Need-loop-holds Inv-loop μ-loop
 loop-holds c = (omega arith, refl, refl, λ b F. F)
@@ -38,7 +38,7 @@ slice-read-if1 c = search needs
 
 low-of-requires : tie.Need-low-of-requires Inv-loop μ-loop
 low-of-requires c κs =
-    let pre = c .before .before .before .before .before .before .before .before .pre in
+    let pre = c .before .before .before .before .before .before .before .before .before .pre in
     (pre .0, pre .1, pre .2, pre .3, omega arith, omega (arith, pre .4))
 
 cast-floors : tie.Need-cast-floors Inv-loop μ-loop

@@ -16,15 +16,15 @@ use Rattle.solver.proofs.marks.lowest_floor.Lts as lts
 use Rattle.solver.proofs.marks.floor_of.Reads as floor-of-reads
 
 abbrev Inv-loop : tie.InvT-loop
-Inv-loop circuit table bounds marks floors₀ loose₀ p n m start lowest₀ k₀ floors loose lowest k =
+Inv-loop circuit table rows bounds marks floors₀ loose₀ p n m start lowest₀ k₀ floors loose lowest k =
     (k ≤ m) × (length floors ≡ length floors₀) × (length loose ≡ length loose₀) × Floors (circuitOf circuit) (viewOf p bounds marks) floors
     × AtMost floors k lowest
 
 abbrev μ-loop : tie.MeasureT-loop
-μ-loop circuit table bounds marks floors₀ loose₀ p n m start lowest₀ k₀ floors loose lowest k = m - k
+μ-loop circuit table rows bounds marks floors₀ loose₀ p n m start lowest₀ k₀ floors loose lowest k = m - k
 
 loop-holds : tie.Need-loop-holds Inv-loop μ-loop
-loop-holds c = (omega arith, refl, refl, c .before .before .before .before .before .pre .4, laws.at-most-start _ _)
+loop-holds c = (omega arith, refl, refl, c .before .before .before .before .before .before .pre .4, laws.at-most-start _ _)
 
 add-k : tie.Need-add-k Inv-loop μ-loop
 add-k c = search needs
@@ -44,8 +44,8 @@ slice-read-floor-of c = search needs
 floor-of-requires : tie.Need-floor-of-requires Inv-loop μ-loop
 floor-of-requires c κs =
     let l = c .before .before .before .before .loop in
-    let entry = c .before .before .before .before .before .before .before .before .before .before in
-    (entry .pre .0, omega arith, omega (arith, entry .pre .1), l .inv .3 .each _ (omega arith) (omega (arith, entry .pre .1)))
+    let entry = c .before .before .before .before .before .before .before .before .before .before .before in
+    (entry .pre .0, omega arith, omega (arith, entry .pre .1), l .inv .3 .each _ (omega arith) (omega (arith, entry .pre .1)), entry .pre .5)
 
 mul-floors : tie.Need-mul-floors Inv-loop μ-loop
 mul-floors c = search needs

@@ -13,7 +13,7 @@ use Rattle.solver.proofs.marks.lowest_floor.Reads as lowest-floor-reads
 
 first-zero-requires : tie.Need-first-zero-requires
 first-zero-requires c κs =
-    let entry = c .before .before .before .before .before in
+    let entry = c .before .before .before .before .before .before in
     let s = laws.sizes (entry .pre .0) in
     (omega (arith, entry .pre .0 .bounds-sized), omega (arith, entry .pre .0 .marks-sized), omega arith)
 
@@ -26,12 +26,13 @@ cast-lowest-floor c = search needs
 lowest-floor-requires : tie.Need-lowest-floor-requires
 lowest-floor-requires c κs =
     let fill-floors = c .before .before .before .before .before .before .fill-floors in
-    let entry = c .before .before .before .before .before .before .before .before .before .before .before .before .before .before .before in (
+    let entry = c .before .before .before .before .before .before .before .before .before .before .before .before .before .before .before .before in (
       entry .pre .0,
       entry .pre .1,
-      omega (arith, fill-floors .kept .1 .1 .1 .0),
       omega (arith, fill-floors .kept .1 .1 .1 .1 .0),
+      omega (arith, fill-floors .kept .1 .1 .1 .1 .1 .0),
       laws.view-floors _ _ _ _ _ _ (fill-floors .ensures) (entry .pre .4),
+      entry .pre .5,
     )
 
 same-length : tie.Need-same-length
