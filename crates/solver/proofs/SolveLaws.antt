@@ -4,6 +4,7 @@ use mathlib.Core.Path.{_≡_, refl, sym, ap, _∙_}
 use mathlib.Core.Bool.{Bool, true, false}
 use mathlib.Core.List.{List, [], _∷_, _++_}
 use native.Mathlib.Omega.{arith}
+use native.Mathlib.Nat.{mul-le-mul}
 use lib.Dec.{leb}
 use lib.ListN.{length, drop, length-append}
 use borrow.Author.Tests.{le-leb, lt-leb}
@@ -80,6 +81,13 @@ module _ (c : List ℕ) (p n i o m : ℕ) (Z : Sized c p n m) (is-i : i ≡ circ
         sym (call-on c output C (Z .size) (Z .read) ∙ ap (λ (b : Bool). fitting b C) few),
         sym (output-on c output C (Z .size) (Z .read) ∙ ap (λ (b : Bool). leftBy b C output) few),
       )
+
+  -- the large table is large enough
+  pub rows-fit : (m + 1) * (n + 1) ≤ 131841
+  rows-fit =
+      let fewest : n + 1 ≤ 257 = omega (arith, Z .is-n, W .n-most) in
+      let most : m + 1 ≤ 513 = omega (arith, Z .is-m, W .m-most) in
+      omega (arith, mul-le-mul most fewest)
 
   module _ (table : List ℕ) (O : Offsets c (min m 512) table) where
     pub prepared : Prepared c table

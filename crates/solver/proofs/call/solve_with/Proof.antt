@@ -1,4 +1,10 @@
+-- `solver::call::solve_with`: the table, the two phases one after the other, then the header and the answer.
+use Prim.Native.Nat.{_+_, _*_, _≤_}
+use mathlib.Core.Path.{_≡_, refl, _∙_}
+use native.Mathlib.Omega.{arith}
 use borrow.Author.Needs.{needs}
+use lib.ListN.{length}
+use Rattle.solver.proofs.SolveLaws as laws
 use Rattle.solver.proofs.call.solve_with.Statement.{statement}
 use Rattle.solver.proofs.call.solve_with.Tie as tie
 use Rattle.solver.proofs.call.solve_with.Reads as reads
@@ -12,81 +18,140 @@ use Rattle.solver.proofs.marks.add_marks.Reads as add-marks-reads
 use Rattle.solver.proofs.output.put_header.Reads as put-header-reads
 use Rattle.solver.proofs.rows.fill_rows.Reads as fill-rows-reads
 
--- src/call.rt:55:17
+sized-bounds : (c : tie.After-start) → length (c .start .result .bounds) ≡ 257
+sized-bounds c = search needs
+
+sized-marks : (c : tie.After-start) → length (c .start .result .marks) ≡ 257
+sized-marks c = search needs
+
 offsets-requires : tie.Need-offsets-requires
 offsets-requires c κs = search needs
 
--- src/call.rt:56:5
 fill-rows-requires : tie.Need-fill-rows-requires
-fill-rows-requires c κs = search needs
+fill-rows-requires c κs =
+    let at-offsets = c .before .before in
+    let entry = at-offsets .before .before .before .before in (
+      laws.prepared _ _ _ _ _ _ (entry .pre .0) (entry .pre .1) (entry .pre .2) _ (at-offsets .offsets .ensures),
+      entry .pre .0 .is-p,
+      entry .pre .0 .is-n,
+      entry .pre .0 .is-m,
+      entry .pre .4,
+    )
 
--- src/call.rt:57:9
 start-requires : tie.Need-start-requires
 start-requires c κs = search needs
 
--- src/call.rt:60:52
 slice-aggregate-lower-bounds : tie.Need-slice-aggregate-lower-bounds
 slice-aggregate-lower-bounds c = search needs
 
--- src/call.rt:60:9
 lower-bounds-requires : tie.Need-lower-bounds-requires
-lower-bounds-requires c κs = search needs
+lower-bounds-requires c κs =
+    let at-start = c .before .before .before .before .before .before in
+    let at-fill-rows = at-start .before .before .before in
+    let at-offsets = at-fill-rows .before .before .before in
+    let entry = at-offsets .before .before .before .before in (
+      laws.bounds-of _ _ _ _ _ _ (entry .pre .0) (entry .pre .1) (entry .pre .2) _ (at-offsets .offsets .ensures) _ _ (at-start .start .ensures)
+          (sized-bounds (at-start)),
+      entry .pre .0 .is-m,
+      laws.start-bounds _ _ _ _ _ _ (entry .pre .0) (entry .pre .1) (entry .pre .2) _ (at-offsets .offsets .ensures) _ _
+          (at-start .start .ensures) (sized-bounds (at-start)),
+      entry .pre .3,
+      at-fill-rows .fill-rows .ensures,
+    )
 
--- src/call.rt:65:9
 slice-aggregate-add-marks : tie.Need-slice-aggregate-add-marks
 slice-aggregate-add-marks c = search needs
 
--- src/call.rt:66:9
 slice-aggregate-add-marks-2 : tie.Need-slice-aggregate-add-marks-2
 slice-aggregate-add-marks-2 c = search needs
 
--- src/call.rt:61:9
 add-marks-requires : tie.Need-add-marks-requires
-add-marks-requires c κs = search needs
+add-marks-requires c κs =
+    let at-lower-bounds = c .before .before .before .before .before .before .before .before in
+    let at-start = at-lower-bounds .before .before .before .before .before .before .before in
+    let at-fill-rows = at-start .before .before .before in
+    let at-offsets = at-fill-rows .before .before .before in
+    let entry = at-offsets .before .before .before .before in (
+      laws.standing-of _ _ _ _ _ _ (entry .pre .0) (entry .pre .1) (entry .pre .2) _ (at-offsets .offsets .ensures) _ _ (at-start .start .ensures)
+          (sized-bounds (at-start)) _ (entry .pre .3) _ _ _ (at-lower-bounds .lower-bounds .ensures)
+          (at-lower-bounds .lower-bounds .kept .1 .1 .1 .0 ∙ sized-bounds (at-start)) (sized-marks (at-start)),
+      entry .pre .0 .is-m,
+      laws.bounded-view _ _ _ _ _ _ (entry .pre .0) (entry .pre .1) (entry .pre .2) _ (at-offsets .offsets .ensures) _ _
+          (at-start .start .ensures) (sized-bounds (at-start)) _ (entry .pre .3) _ _ _ (at-lower-bounds .lower-bounds .ensures)
+          (at-lower-bounds .lower-bounds .kept .1 .1 .1 .0 ∙ sized-bounds (at-start)) (sized-marks (at-start)),
+      laws.base-small _ _ _ _ _ _ (entry .pre .0) (entry .pre .1) (entry .pre .2) _ (at-offsets .offsets .ensures) _ _ (at-start .start .ensures)
+          (sized-bounds (at-start)) _ (entry .pre .3) _ _ _ (at-lower-bounds .lower-bounds .ensures)
+          (at-lower-bounds .lower-bounds .kept .1 .1 .1 .0 ∙ sized-bounds (at-start)) (sized-marks (at-start)),
+      omega (arith, entry .pre .3, at-lower-bounds .lower-bounds .kept .1 .1 .1 .1 .0),
+      at-fill-rows .fill-rows .ensures,
+    )
 
--- src/call.rt:73:5
 put-header-requires : tie.Need-put-header-requires
-put-header-requires c κs = search needs
+put-header-requires c κs =
+    let at-add-marks = c .before .before .before .before in
+    let at-lower-bounds = at-add-marks .before .before .before .before .before .before .before .before .before in
+    let at-start = at-lower-bounds .before .before .before .before .before .before .before in
+    let at-fill-rows = at-start .before .before .before in
+    let at-offsets = at-fill-rows .before .before .before in
+    let entry = at-offsets .before .before .before .before in
+    let few = laws.steps-small _ _ _ _ _ _ (entry .pre .0) (entry .pre .1) (entry .pre .2) _ (at-offsets .offsets .ensures) _ _
+    (at-start .start .ensures) (sized-bounds (at-start)) _ (entry .pre .3) _ _ _ (at-lower-bounds .lower-bounds .ensures)
+    (at-lower-bounds .lower-bounds .kept .1 .1 .1 .0 ∙ sized-bounds (at-start)) (sized-marks (at-start)) _ _ _ (at-add-marks .add-marks .ensures) in
+    (omega (arith, entry .pre .3, at-lower-bounds .lower-bounds .kept .1 .1 .1 .1 .0, at-add-marks .add-marks .kept .1 .1 .1 .1 .1 .0), omega arith)
 
--- src/call.rt:75:28
 slice-aggregate-count-marks : tie.Need-slice-aggregate-count-marks
 slice-aggregate-count-marks c = search needs
 
--- src/call.rt:75:16
 count-marks-requires : tie.Need-count-marks-requires
 count-marks-requires c κs = search needs
 
--- src/call.rt:76:29
 slice-aggregate-verdict-of : tie.Need-slice-aggregate-verdict-of
 slice-aggregate-verdict-of c = search needs
 
--- src/call.rt:76:18
 verdict-of-requires : tie.Need-verdict-of-requires
 verdict-of-requires c κs = search needs
 
--- src/call.rt:77:26
 cast-t44 : tie.Need-cast-t44
 cast-t44 c = search needs
 
--- src/call.rt:77:21
 mul-t45 : tie.Need-mul-t45
 mul-t45 c = search needs
 
--- src/call.rt:77:17
 add-t46 : tie.Need-add-t46
 add-t46 c = search needs
 
--- src/call.rt:40:1
 same-length : tie.Need-same-length
-same-length c = search needs
+same-length c =
+    let at-put-header = c .before .before .before .before .before .before in
+    let at-lower-bounds = at-put-header .before .before .before .before .before .before .before .before .before .before .before .before .before .before in
+    let at-fill-rows = at-lower-bounds .before .before .before .before .before .before .before .before .before .before in at-fill-rows .fill-rows .kept .1 .1 .0
 
--- src/call.rt:40:1
 same-length-2 : tie.Need-same-length-2
-same-length-2 c = search needs
+same-length-2 c =
+    let at-put-header = c .before .before .before .before .before .before in
+    let at-add-marks = at-put-header .before .before .before .before .before in
+    let at-lower-bounds = at-add-marks .before .before .before .before .before .before .before .before .before in
+    at-put-header .put-header .kept .0 ∙ at-add-marks .add-marks .kept .1 .1 .1 .1 .1 .0 ∙ at-lower-bounds .lower-bounds .kept .1 .1 .1 .1 .0
 
--- src/call.rt:40:1
 returns : tie.Need-returns
-returns c = search needs
+returns c =
+    let at-count-marks = c .before .before in
+    let at-put-header = at-count-marks .before .before .before .before in
+    let at-add-marks = at-put-header .before .before .before .before .before in
+    let at-lower-bounds = at-add-marks .before .before .before .before .before .before .before .before .before in
+    let at-start = at-lower-bounds .before .before .before .before .before .before .before in
+    let at-fill-rows = at-start .before .before .before in
+    let at-offsets = at-fill-rows .before .before .before in
+    let entry = at-offsets .before .before .before .before in (
+      laws.solved-answer _ _ _ _ _ _ (entry .pre .0) (entry .pre .1) (entry .pre .2) _ (at-offsets .offsets .ensures) _ _
+          (at-start .start .ensures) (sized-bounds (at-start)) _ (entry .pre .3) _ _ _ (at-lower-bounds .lower-bounds .ensures)
+          (at-lower-bounds .lower-bounds .kept .1 .1 .1 .0 ∙ sized-bounds (at-start)) (sized-marks (at-start)) _ _ _ (at-add-marks .add-marks .ensures) _
+          _ _ (at-count-marks .count-marks .ensures) (c .verdict-of .ensures) refl,
+      laws.solved-output _ _ _ _ _ _ (entry .pre .0) (entry .pre .1) (entry .pre .2) _ (at-offsets .offsets .ensures) _ _
+          (at-start .start .ensures) (sized-bounds (at-start)) _ (entry .pre .3) _ _ _ (at-lower-bounds .lower-bounds .ensures)
+          (at-lower-bounds .lower-bounds .kept .1 .1 .1 .0 ∙ sized-bounds (at-start)) (sized-marks (at-start)) _ _ _ (at-add-marks .add-marks .ensures) _
+          (at-put-header .put-header .ensures),
+    )
 
 pub solve-with-spec : {M : Type 1} → statement M
 solve-with-spec =
