@@ -25,8 +25,9 @@ cast-lowest-floor c = search needs
 
 lowest-floor-requires : tie.Need-lowest-floor-requires
 lowest-floor-requires c κs =
-    let fill-floors = c .before .before .before .before .before .before .fill-floors in
-    let entry = c .before .before .before .before .before .before .before .before .before .before .before .before .before .before .before .before in (
+    let at-fill-floors = c .before .before .before .before .before .before in
+    let fill-floors = at-fill-floors .fill-floors in
+    let entry = at-fill-floors .before .before .before .before .before .before .before .before .before .before in (
       entry .pre .0,
       entry .pre .1,
       omega (arith, fill-floors .kept .1 .1 .1 .1 .0),
