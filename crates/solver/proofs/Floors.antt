@@ -1,13 +1,13 @@
 -- Floors: below which no step by a constraint marks an unmarked signal. A floor stays while the marks of the signals that it turns on stay.
-use Prim.Native.Nat.{ℕ, zero, suc, _+_, _*_, _-_, _%_, _≤_, _<_}
+use Prim.Native.Nat.{ℕ, zero, suc, _*_, _-_, _%_, _≤_, _<_}
 use mathlib.Core.Path.{_≡_, refl, sym, ap, _∙_}
-use mathlib.Core.Bool.{Bool, true, false, cond, not, _&&_, _||_}
+use mathlib.Core.Bool.{true, false, not, _&&_, _||_}
 use mathlib.Core.List.{List}
-use mathlib.Core.Logic.{_⊎_, inl, inr, ⊎-elim}
+use mathlib.Core.Logic.{_⊎_, ⊎-elim}
 use native.Mathlib.Omega.{arith}
 use native.Mathlib.Decide.{ℕ-discrete, decLe}
 use native.Mathlib.Nat.{mul-le-mul-right, pos-of-ne-zero}
-use lib.Dec.{ltb, eqb}
+use lib.Dec.{eqb}
 use lib.ListN.{length, getD, set, replicate}
 use lib.Seq.{getD-set-same, getD-set-other}
 use borrow.Author.Tests.{eqb-true, ne-eqb, le-ltb, not-true}
@@ -18,19 +18,7 @@ use Rattle.circuit.specs.Circuit.{Circuit, WellFormed, Constraint, Form, constr
 use Rattle.laws.specs.Sum.{sum, keep, all}
 use Rattle.laws.specs.Standing.{Standing, mark}
 use Rattle.laws.specs.Rules.{linear, reduced, occurs, othersMarked, productMet, weight, live, separate, liveTerm, separated, digitsMet}
-use Rattle.laws.proofs.Sum.{
-  and-left,
-  and-right,
-  and-both,
-  or-cases,
-  or-right,
-  by-test,
-  true-or-false,
-  false-by,
-  keep-true,
-  sum-at,
-  sum-out,
-}
+use Rattle.laws.proofs.Sum.{and-left, and-right, and-both, or-cases, true-or-false, false-by, keep-true, sum-at, sum-out}
 use Rattle.laws.proofs.Order.{mark-other, mark-keeps, mark-bound}
 use Rattle.laws.proofs.Forms.{others-at, others-from}
 use Rattle.laws.proofs.Reduced.{reduced-below, reduced-beyond, occurs-yes, nonzero-mod}

@@ -1,16 +1,15 @@
 -- Laws of the searches of the marks phase in one form, and of the ways out of the search for a constraint's floor.
-use Prim.Native.Nat.{ℕ, zero, suc, _+_, _*_, _-_, _≤_, _<_, min}
+use Prim.Native.Nat.{ℕ, zero, suc, _+_, _-_, _≤_, _<_, min}
 use mathlib.Core.Path.{_≡_, refl, sym, ap, _∙_}
-use mathlib.Core.Bool.{Bool, true, false, not, _&&_}
+use mathlib.Core.Bool.{Bool, true, false, not}
 use mathlib.Core.List.{List}
 use mathlib.Core.Logic.{_⊎_, inl, inr, ⊎-elim}
 use native.Mathlib.Omega.{arith}
 use native.Mathlib.Decide.{ℕ-discrete, decLe}
-use lib.Dec.{eqb}
 use lib.ListN.{length, getD, set}
 use lib.Seq.{getD-set-same, getD-set-other}
-use borrow.Author.Tests.{eqb-true, eq-eqb, ne-eqb, not-true}
-use Rattle.circuit.specs.Circuit.{Circuit, WellFormed, Constraint, Form, constraintAt}
+use borrow.Author.Tests.{ne-eqb}
+use Rattle.circuit.specs.Circuit.{Circuit, WellFormed, Constraint, constraintAt}
 use Rattle.circuit.specs.Reader.{formIn, afterForm, constraintIn}
 use Rattle.laws.specs.Standing.{Standing}
 use Rattle.laws.specs.Rules.{linear, reduced, occurs, live, productMet, separated, digitsMet}

@@ -1,16 +1,16 @@
 -- The turns of the marks phase: what the loop knows, and what a turn does with it.
-use Prim.Native.Nat.{ℕ, zero, suc, _+_, _*_, _-_, _≤_, _<_}
+use Prim.Native.Nat.{ℕ, _+_, _*_, _-_, _≤_, _<_}
 use mathlib.Core.Path.{_≡_, refl, sym, ap, _∙_}
-use mathlib.Core.Bool.{Bool, true, _&&_}
+use mathlib.Core.Bool.{Bool, true}
 use mathlib.Core.List.{List, [], _∷_, _++_}
-use mathlib.Core.Option.{Option, none, some}
+use mathlib.Core.Option.{some}
 use native.Mathlib.Omega.{arith}
 use lib.Dec.{eqb}
 use lib.ListN.{length, set, replicate, length-append}
 use borrow.Author.Tests.{eqb-true}
 use Rattle.circuit.specs.Circuit.{Circuit, WellFormed}
-use Rattle.laws.specs.Standing.{Standing, mark, start}
-use Rattle.laws.specs.Step.{Kind, Step, within, fields, inRange, after, replay}
+use Rattle.laws.specs.Standing.{Standing, start}
+use Rattle.laws.specs.Step.{Kind, Step, within, fields, after, replay}
 use Rattle.laws.specs.Solver.{step, kindNumber, firstMark, boundSteps, markSteps}
 use Rattle.laws.proofs.Sum.{and-left, and-right}
 use Rattle.laws.proofs.Turns.{within-says, target-within, fields-fit}

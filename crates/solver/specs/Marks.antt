@@ -17,7 +17,6 @@ use Rattle.rules.specs.Promise.{kindOf}
 use Rattle.derivation.specs.Encoded.{stepsBytes}
 use Rattle.derivation.specs.Inner.{circuitOf}
 use Rattle.solver.specs.Bytes.{stored}
-use Rattle.solver.specs.Bounds as bounds
 use Rattle.solver.specs.Search.{Prepared}
 use Rattle.solver.specs.declared.marks.Choice.{Choice}
 use Rattle.solver.specs.declared.marks.Choice.the-variants.{Nothing, Taken}

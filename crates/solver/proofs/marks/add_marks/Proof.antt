@@ -1,5 +1,5 @@
 -- `solver::marks::add_marks`: at each turn the steps so far, the floors, and the bytes written.
-use Prim.Native.Nat.{_+_, _-_, _≤_}
+use Prim.Native.Nat.{_-_, _≤_}
 use mathlib.Core.Path.{_≡_, refl, sym, _∙_}
 use native.Mathlib.Omega.{arith}
 use borrow.Author.Needs.{needs}

@@ -1,7 +1,7 @@
 -- `solver::marks::floor_of`: each way out is one law.
 use native.Mathlib.Omega.{arith}
 use borrow.Author.Needs.{needs}
-use borrow.Author.Tests.{not-true, not-false}
+use borrow.Author.Tests.{not-false}
 use Rattle.solver.proofs.RowLaws.{row-inside, row-sized}
 use Rattle.solver.proofs.MarkLaws as laws
 use Rattle.solver.proofs.marks.floor_of.Statement.{statement}

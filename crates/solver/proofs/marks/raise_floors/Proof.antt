@@ -1,5 +1,4 @@
 -- `solver::marks::raise_floors`: what its parts answer.
-use mathlib.Core.Path.{_∙_}
 use native.Mathlib.Omega.{arith}
 use borrow.Author.Needs.{needs}
 use Rattle.solver.proofs.MarkLaws as laws
