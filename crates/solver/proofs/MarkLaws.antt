@@ -28,7 +28,7 @@ use Rattle.solver.specs.Marks.{
   Equals,
   Among,
   FirstLive,
-  FirstReference,
+  Unreferred,
   FirstZero,
   StandingOf,
 }
@@ -235,10 +235,6 @@ module _ (S : Standing) (s : ℕ) (Z : Nonzero S s) where
 
 -- References
 
--- no signal 1 to r of the form is a reference
-pub record Unreferred (p n : ℕ) (R : ℕ → ℕ) (S : Standing) (r : ℕ) : Type 0 where
-  pub fails : (u : ℕ) → 1 ≤ u → u ≤ r → occurs R u ≡ true → separated p n R S u ≡ false
-
 pub unreferred-start : (p n : ℕ) (R : ℕ → ℕ) (S : Standing) → Unreferred p n R S 0
 unreferred-start p n R S = record { fails = λ u l m e. absurd (omega arith) }
 
@@ -249,17 +245,6 @@ unreferred-on p n R S r U h = record { fails = λ u l m e. fails u l m e (ℕ-di
     fails : (u : ℕ) → 1 ≤ u → u ≤ r + 1 → occurs R u ≡ true → Dec (u ≡ r + 1) → separated p n R S u ≡ false
     fails u l m e (yes q) = rw q (h (rw q at e))
     fails u l m e (no d) = U .fails u l (omega arith) e
-
-module _ (p n : ℕ) (R : ℕ → ℕ) (S : Standing) (r : ℕ) (U : Unreferred p n R S r) where
-  pub reference-found : r < n → occurs R (r + 1) ≡ true → separated p n R S (r + 1) ≡ true → FirstReference p n R S (r + 1)
-  reference-found h o e =
-      record {
-        found = inr (omega arith, omega arith, o, e);
-        lowest = λ u l m w. U .fails u l (⊎-elim (λ (z : r + 1 ≡ 0). omega arith) (λ (g : u < r + 1). omega arith) w);
-      }
-
-  pub reference-none : n ≤ r → FirstReference p n R S 0
-  reference-none h = record { found = inl refl; lowest = λ u l m w. U .fails u l (omega arith) }
 
 pub absent : (form : List ℕ) (s : ℕ) → getD form s 0 ≡ 0 → occurs (coefIn form) s ≡ false
 unfolding occurs coefIn
@@ -333,39 +318,35 @@ module _ (c table : List ℕ) (P : Prepared c table) (k : ℕ) (first : 1 ≤ k)
             → separated (C .p) (C .n) (reduced (C .p) (constraintAt C k)) S r ≡ x
         separated-at r x e = sym (rw (is-form, is-p, is-n) at e)
 
-        module _ (r : ℕ) (F : FirstReference p n (coefIn form) S r) where
-          -- no lower reference separates
-          unseparated : (u : ℕ) → 1 ≤ u → u ≤ n → (r ≡ 0) ⊎ (u < r) → occurs (reduced (C .p) (constraintAt C k)) u ≡ true
-              → separated (C .p) (C .n) (reduced (C .p) (constraintAt C k)) S u ≡ false
-          unseparated u l m w e = separated-at u false (sym (F .lowest u l m w (ap (λ (R : ℕ → ℕ). occurs R u) is-form ∙ e)))
+        pub floor-unreferred : Unreferred p n (coefIn form) S n → IsFloor C S k bounds′.none
+        floor-unreferred U =
+            floors.digits-unreferred C W S k (linear-at ∙ linear)
+            (λ r l m e.
+            separated-at r false (sym (U .fails r l (omega (arith, is-n)) (ap (λ (R : ℕ → ℕ). occurs R r) is-form ∙ e))))
 
-          pub floor-unreferred : r ≡ 0 → IsFloor C S k bounds′.none
-          floor-unreferred z =
-              floors.digits-unreferred C W S k (linear-at ∙ linear) (λ u l m e. unseparated u l (omega (arith, is-n)) (inl z) e)
+        -- a digits step for t with reference r
+        module _ (t r : ℕ) (x : Bool) (is-separated : x ≡ separated p (min n 256) (coefIn form) S r) where
+          code-at : separated (C .p) (C .n) (reduced (C .p) (constraintAt C k)) S r ≡ x
+          code-at = separated-at r x (tested p n (coefIn form) S r x (omega (arith, is-n, W .n-most)) is-separated)
 
-          -- digits steps for t by a lower reference and by r
-          pub reference-unmet : (t u : ℕ) → 1 ≤ u → u ≤ C .n → (r ≡ 0) ⊎ (u < r) → digitsMet (C .p) (C .n) (constraintAt C k) S t u ≡ false
-          reference-unmet t u l m w =
-              false-by _
-              (λ d.
-              let D = floors.digits-says (C .p) (C .n) (constraintAt C k) S t u d in
-              true-or-false _ (D .is-separated) (unseparated u l (omega (arith, is-n)) w (D .has-reference)))
+          pub reference-unmet : x ≡ false → digitsMet (C .p) (C .n) (constraintAt C k) S t r ≡ false
+          reference-unmet e =
+              false-by _ (λ d. true-or-false _ (floors.digits-says (C .p) (C .n) (constraintAt C k) S t r d .is-separated) (code-at ∙ e))
 
-          pub reference-met : (t : ℕ) → (getD form t 0 ≡ 0 → ⊥) → (r ≡ 0 → ⊥)
-              → (1 ≤ r) × (r ≤ n) × (digitsMet (C .p) (C .n) (constraintAt C k) S t r ≡ true)
-          reference-met t a d = go (F .found)
-            where
-              go : (r ≡ 0) ⊎ ((1 ≤ r) × (r ≤ n) × (occurs (coefIn form) r ≡ true) × (separated p n (coefIn form) S r ≡ true))
-                  → (1 ≤ r) × (r ≤ n) × (digitsMet (C .p) (C .n) (constraintAt C k) S t r ≡ true)
-              go (inl z) = absurd (d z)
-              go (inr w) = (
-                w .0,
-                w .1,
-                floors.digits-holds (C .p) (C .n) (constraintAt C k) S t r (linear-at ∙ linear)
-                    (ap (λ (R : ℕ → ℕ). occurs R t) (sym is-form) ∙ present form t a)
-                    (ap (λ (R : ℕ → ℕ). occurs R r) (sym is-form) ∙ w .2)
-                    (separated-at r true (sym (w .3))),
-              )
+          pub reference-met : (getD form t 0 ≡ 0 → ⊥) → (getD form r 0 ≡ 0 → ⊥) → x ≡ true
+              → digitsMet (C .p) (C .n) (constraintAt C k) S t r ≡ true
+          reference-met a e h =
+              floors.digits-holds (C .p) (C .n) (constraintAt C k) S t r (linear-at ∙ linear)
+              (ap (λ (R : ℕ → ℕ). occurs R t) (sym is-form) ∙ present form t a)
+              (ap (λ (R : ℕ → ℕ). occurs R r) (sym is-form) ∙ present form r e)
+              (code-at ∙ h)
+
+      pub reference-absent : (t r : ℕ) → getD form r 0 ≡ 0 → digitsMet (C .p) (C .n) (constraintAt C k) S t r ≡ false
+      reference-absent t r e =
+          false-by _
+          (λ d.
+          true-or-false _ (floors.digits-says (C .p) (C .n) (constraintAt C k) S t r d .has-reference)
+          (ap (λ (R : ℕ → ℕ). occurs R r) (sym is-form) ∙ absent form r e))
 
       pub target-absent : (t : ℕ) → getD form t 0 ≡ 0 → (r : ℕ) → digitsMet (C .p) (C .n) (constraintAt C k) S t r ≡ false
       target-absent t e r =

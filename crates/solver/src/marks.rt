@@ -31,7 +31,7 @@ ghost use Rattle.solver.specs.Marks.{
   Equals,
   Among,
   FirstLive,
-  FirstReference,
+  Unreferred,
   FirstZero,
   found,
   choiceOf,
@@ -146,21 +146,21 @@ fn has_equals(form: &[u32], marks: &[bool], n: u32) -> bool
     false
 }
 
-// The lowest signal of the form that may be the reference of a digits step, 0 where there is none.
-fn first_reference<'a>(form: &[u32], bounds: &'a [u32], marks: &'a [bool], n: u32, p: u32) -> u32
+// Whether some signal of the form may be the reference of a digits step.
+fn has_reference<'a>(form: &[u32], bounds: &'a [u32], marks: &'a [bool], n: u32, p: u32) -> bool
     requires { ⌜ (n < length (now form)) × (n ≤ 256) ⌝ }
-    ensures { λ r. ⌜ FirstReference p n (coefIn (now (form .entry))) (viewOf p (now (bounds .entry)) (now (marks .entry))) r ⌝ }
+    ensures { λ r. ⌜ (r ≡ false → Unreferred p n (coefIn (now (form .entry))) (viewOf p (now (bounds .entry)) (now (marks .entry))) n) ⌝ }
 {
     let mut r: u32 = 0;
     while r < n {
         r = r + 1;
         if form[r as usize] != 0 {
             if separated(form, bounds, marks, n, p, r) {
-                return r;
+                return true;
             }
         }
     }
-    0
+    false
 }
 
 // A number at most the lowest unmarked signal that a step by constraint k marks: where k is linear, its lowest unmarked signal.
@@ -221,7 +221,7 @@ fn floor_of<'a>(
     if has_equals(form, marks, n) {
         return NONE;
     }
-    if first_reference(form, bounds, marks, n, p) == 0 {
+    if !has_reference(form, bounds, marks, n, p) {
         return NONE;
     }
     low
@@ -395,27 +395,33 @@ fn digits_for<'a>(
         → firstDigits (circuitOf (now (circuit .entry))) (viewOf p (now (bounds .entry)) (now (marks .entry))) t 0 m later
         ≡ found (r .constraint) (step Digits t (r .constraint) (r .reference)) later) ⌝ }
 {
+    let mut constraint: u32 = 0;
+    let mut reference: u32 = 0;
     let mut k: u32 = 0;
-    while k < m {
+    'search: while k < m {
         k = k + 1;
         if floors[k as usize] <= t as u64 {
             if is_linear(part_of(circuit, table, k)) {
                 let form = row_of(rows, n, k);
                 if form[t as usize] != 0 {
-                    let reference = first_reference(form, bounds, marks, n, p);
-                    if reference != 0 {
-                        return Place {
-                            constraint: k,
-                            reference,
-                        };
+                    let mut r: u32 = 0;
+                    while r < n {
+                        r = r + 1;
+                        if form[r as usize] != 0 {
+                            if separated(form, bounds, marks, n, p, r) {
+                                constraint = k;
+                                reference = r;
+                                break 'search;
+                            }
+                        }
                     }
                 }
             }
         }
     }
     Place {
-        constraint: 0,
-        reference: 0,
+        constraint,
+        reference,
     }
 }
 

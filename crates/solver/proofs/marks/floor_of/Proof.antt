@@ -1,7 +1,7 @@
 -- `solver::marks::floor_of`: each way out is one law.
 use native.Mathlib.Omega.{arith}
 use borrow.Author.Needs.{needs}
-use borrow.Author.Tests.{not-false}
+use borrow.Author.Tests.{not-true, not-false}
 use Rattle.solver.proofs.RowLaws.{row-inside, row-sized}
 use Rattle.solver.proofs.MarkLaws as laws
 use Rattle.solver.proofs.marks.floor_of.Statement.{statement}
@@ -10,7 +10,7 @@ use Rattle.solver.proofs.marks.floor_of.Reads as reads
 use Rattle.solver.proofs.marks.floor_of.Lts as lts
 use Rattle.derivation.proofs.offsets.part_of.Reads as part-of-reads
 use Rattle.rules.proofs.constraint.is_linear.Reads as is-linear-reads
-use Rattle.solver.proofs.marks.first_reference.Reads as first-reference-reads
+use Rattle.solver.proofs.marks.has_reference.Reads as has-reference-reads
 use Rattle.solver.proofs.marks.has_equals.Reads as has-equals-reads
 use Rattle.solver.proofs.marks.is_crowded.Reads as is-crowded-reads
 use Rattle.solver.proofs.rows.row_of.Reads as row-of-reads
@@ -68,8 +68,8 @@ returns-4 c =
     (at-is-linear .is-linear .ensures) _ (not-false _ (at-if2 .if2 .left)) _ (entry .pre .4) _ (entry .pre .0 .is-n) _ (at-row-of .row-of .ensures)
     (laws.view-equals _ _ _ _ _ (c .before .has-equals .ensures (c .if4 .taken)))
 
-first-reference-requires : tie.Need-first-reference-requires
-first-reference-requires c κs =
+has-reference-requires : tie.Need-has-reference-requires
+has-reference-requires c κs =
     let entry = c .before .before .before .before .before .before .before .before .before .before .before .before .before .before in
     let s = laws.sizes (entry .pre .0) in
     let l = row-sized _ _ (entry .pre .4) _ _ (entry .pre .0 .is-n) (entry .pre .2) _ (c .before .before .before .before .row-of .ensures) in
@@ -84,7 +84,7 @@ returns-5 c =
     let entry = at-part-of .before .before .before .before .before .before .before in
     laws.floor-unreferred _ _ (entry .pre .0 .prepared) _ (entry .pre .1) (entry .pre .2) _ (at-part-of .part-of .ensures) _
     (at-is-linear .is-linear .ensures) _ (not-false _ (at-if2 .if2 .left)) _ (entry .pre .4) _ (entry .pre .0 .is-n) _ (at-row-of .row-of .ensures) _
-    (entry .pre .0 .is-p) _ (c .before .first-reference .ensures) (c .if5 .taken)
+    (entry .pre .0 .is-p) (c .before .has-reference .ensures (not-true _ (c .if5 .taken)))
 
 returns-6 : tie.Need-returns-6
 returns-6 c = search needs
@@ -102,6 +102,6 @@ floor-of-spec =
     returns-3
     has-equals-requires
     returns-4
-    first-reference-requires
+    has-reference-requires
     returns-5
     returns-6)
