@@ -5,6 +5,7 @@ pub mod Untouched
 pub mod Progress
 pub mod BoundsPhase
 pub mod Written
+pub mod ListLaws
 pub mod SearchLaws
 pub mod RowLaws
 pub mod CandidateLaws

@@ -8,12 +8,12 @@ use native.Mathlib.Omega.{arith}
 use native.Mathlib.Decide.{ℕ-discrete, decLe}
 use lib.ListN.{length, getD, set}
 use lib.Seq.{getD-set-same, getD-set-other}
-use borrow.Author.Tests.{ne-eqb}
+use borrow.Author.Tests.{ne-eqb, not-true}
 use Rattle.circuit.specs.Circuit.{Circuit, WellFormed, Constraint, constraintAt}
 use Rattle.circuit.specs.Reader.{formIn, afterForm, constraintIn}
 use Rattle.laws.specs.Standing.{Standing}
 use Rattle.laws.specs.Rules.{linear, reduced, occurs, live, productMet, separated, digitsMet}
-use Rattle.laws.proofs.Sum.{true-or-false, false-by}
+use Rattle.laws.proofs.Sum.{and-right, true-or-false, false-by}
 use Rattle.rules.specs.View.{coefIn, boundIn, markIn, viewOf}
 use Rattle.rules.proofs.ViewLaws.{bound-within}
 use Rattle.derivation.specs.Offsets.{partOf}
@@ -32,50 +32,60 @@ use Rattle.solver.specs.Marks.{
   FirstZero,
   StandingOf,
 }
-use Rattle.solver.specs.Rows.{row, Rows}
+use Rattle.solver.specs.Rows.{row, reach, SignalsOf, Rows}
 use Rattle.solver.specs.Search.{Prepared, SomeUnmarked}
 use Rattle.solver.proofs.SearchLaws.{constraint-part}
 use Rattle.solver.proofs.CandidateLaws.{well-formed}
+use Rattle.solver.proofs.ListLaws.{Next, walked, passing}
 use Rattle.solver.proofs.RowLaws.{row-form}
 use Rattle.solver.proofs.Floors as floors
 
 -- An unmarked signal of a form
 
-module _ (form : List ℕ) (b : ℕ → ℕ) (marks : List Bool) where
-  pub live-absent : (s : ℕ) → 1 ≤ s → getD form s 0 ≡ 0 → false ≡ live (coefIn form) (withMarks b marks) s
-  unfolding live occurs coefIn
-  live-absent zero l e = absurd (omega arith)
-  live-absent (suc s) l e = rw e refl
+live-absent : (R : ℕ → ℕ) (S : Standing) (s : ℕ) → R s ≡ 0 → live R S s ≡ false
+unfolding live occurs
+live-absent R S zero e = refl
+live-absent R S (suc s) e = rw e refl
 
-  pub live-read : (s : ℕ) → 1 ≤ s → (getD form s 0 ≡ 0 → ⊥) → not (getD marks s false) ≡ live (coefIn form) (withMarks b marks) s
-  unfolding live occurs coefIn markIn
-  live-read zero l d = absurd (omega arith)
-  live-read (suc s) l d = rw (ne-eqb (getD form (suc s) 0) 0 d) refl
+live-marked : (R : ℕ → ℕ) (S : Standing) (s : ℕ) → S .marked s ≡ true → live R S s ≡ false
+unfolding live
+live-marked R S zero e = refl
+live-marked R S (suc s) e = false-by _ (λ f. true-or-false _ e (not-true _ (and-right (occurs R (suc s)) _ f)))
 
--- the test fails at 1 to s
-pub record Passed (test : ℕ → Bool) (s : ℕ) : Type 0 where
-  pub fails : (u : ℕ) → 1 ≤ u → u ≤ s → test u ≡ false
+pub live-unmarked : (R : ℕ → ℕ) (S : Standing) (n s t r : ℕ) → Next R n s t r → S .marked t ≡ false → live R S t ≡ true
+unfolding live occurs
+live-unmarked R S n s zero r N e = absurd (omega (arith, N .above))
+live-unmarked R S n s (suc t) r N e = rw (ne-eqb (R (suc t)) 0 (N .present), e) refl
 
-pub passed-start : (test : ℕ → Bool) → Passed test 0
-passed-start test = record { fails = λ u l m. absurd (omega arith) }
+-- none of 1 to s is one
+pub record Passed (R : ℕ → ℕ) (S : Standing) (s : ℕ) : Type 0 where
+  pub fails : (u : ℕ) → 1 ≤ u → u ≤ s → live R S u ≡ false
 
-pub passed-on : (test : ℕ → Bool) (s : ℕ) → Passed test s → test (s + 1) ≡ false → Passed test (s + 1)
-passed-on test s P e = record { fails = λ u l m. fails u l m (ℕ-discrete u (s + 1)) }
-  where
-    fails : (u : ℕ) → 1 ≤ u → u ≤ s + 1 → Dec (u ≡ s + 1) → test u ≡ false
-    fails u l m (yes q) = ap test q ∙ e
-    fails u l m (no d) = P .fails u l (omega arith)
+pub passed-start : (R : ℕ → ℕ) (S : Standing) (list : ℕ → ℕ) → Passed R S (reach list 0)
+unfolding reach
+passed-start R S list = record { fails = λ u l m. absurd (omega arith) }
 
-module _ (R : ℕ → ℕ) (S : Standing) (n s : ℕ) (P : Passed (live R S) s) where
-  pub first-found : s < n → FirstLive R S n (s + 1)
-  first-found h = record { low = λ u l m e. (omega arith, later u l e (decLe u s)) }
+module _ (R : ℕ → ℕ) (S : Standing) (n s t r : ℕ) (N : Next R n s t r) (P : Passed R S s) where
+  pub passed-on : S .marked t ≡ true → Passed R S r
+  passed-on e =
+      record { fails = passing N (λ (u : ℕ). live R S u ≡ false) (P .fails) (λ u l z. live-absent R S u z) (live-marked R S t e) }
+
+  pub first-found : FirstLive R S n t
+  first-found = record { low = λ u l m e. (omega (arith, N .above), low u l e (decLe u s) (decLe t u)) }
     where
-      later : (u : ℕ) → 1 ≤ u → live R S u ≡ true → Dec (u ≤ s) → s + 1 ≤ u
-      later u l e (yes h) = true-or-false _ e (P .fails u l h)
-      later u l e (no d) = omega arith
+      low : (u : ℕ) → 1 ≤ u → live R S u ≡ true → Dec (u ≤ s) → Dec (t ≤ u) → t ≤ u
+      low u l e (yes h) d = true-or-false _ e (P .fails u l h)
+      low u l e (no x) (yes h) = h
+      low u l e (no x) (no y) = true-or-false _ e (live-absent R S u (N .gap u (omega arith) (omega arith)))
 
-  pub first-none : n ≤ s → FirstLive R S n 0
-  first-none h = record { low = λ u l m e. true-or-false _ e (P .fails u l (omega arith)) }
+pub first-none : (R : ℕ → ℕ) (S : Standing) (n : ℕ) (list : List ℕ) → SignalsOf R n list → (i : ℕ) → length list ≤ i → i ≤ length list
+    → Passed R S (reach (coefIn list) i) → FirstLive R S n 0
+first-none R S n list L i h g P =
+    record {
+      low = λ u l m e.
+          true-or-false _ e
+          (walked R n list L (λ (v : ℕ). live R S v ≡ false) i h g (P .fails) (λ v x z. live-absent R S v z) u l m);
+    }
 
 -- Two unmarked signals with bound p - 1
 
@@ -83,39 +93,41 @@ module _ (R : ℕ → ℕ) (S : Standing) (n s : ℕ) (P : Passed (live R S) s) 
 pub record Held (p : ℕ) (R : ℕ → ℕ) (S : Standing) (s found : ℕ) : Type 0 where
   pub held : (found ≡ 0) ⊎ ((1 ≤ found) × (found ≤ s) × (live R S found ≡ true) × (S .bound found ≡ p - 1))
 
-pub held-start : (p : ℕ) (R : ℕ → ℕ) (S : Standing) → Held p R S 0 0
-held-start p R S = record { held = inl refl }
+pub held-start : (p : ℕ) (R : ℕ → ℕ) (S : Standing) (s : ℕ) → Held p R S s 0
+held-start p R S s = record { held = inl refl }
 
-module _ (p : ℕ) (R : ℕ → ℕ) (S : Standing) (s found : ℕ) (H : Held p R S s found) where
-  pub held-on : Held p R S (s + 1) found
+module _ (p : ℕ) (R : ℕ → ℕ) (S : Standing) (n s t r : ℕ) (N : Next R n s t r) (found : ℕ) (H : Held p R S s found) where
+  pub held-on : Held p R S r found
   held-on =
       record {
         held =
             ⊎-elim (λ z. inl z)
-            (λ (w : (1 ≤ found) × (found ≤ s) × (live R S found ≡ true) × (S .bound found ≡ p - 1)). inr (w .0, omega (arith, w .1), w .2, w .3))
+            (λ (w : (1 ≤ found) × (found ≤ s) × (live R S found ≡ true) × (S .bound found ≡ p - 1)).
+            inr (w .0, omega (arith, w .1, N .above, N .is), w .2, w .3))
             (H .held);
       }
 
-  pub held-new : live R S (s + 1) ≡ true → S .bound (s + 1) ≡ p - 1 → Held p R S (s + 1) (s + 1)
-  held-new e h = record { held = inr (omega arith, omega arith, e, h) }
+  module _ (e : S .marked t ≡ false) (h : S .bound t ≡ p - 1) where
+    pub held-new : Held p R S r t
+    held-new = record { held = inr (omega (arith, N .above), omega (arith, N .is), live-unmarked R S n s t r N e, h) }
 
-  pub held-two : (n : ℕ) → s < n → (found ≡ 0 → ⊥) → live R S (s + 1) ≡ true → S .bound (s + 1) ≡ p - 1 → Crowded p n R S
-  held-two n more d e h = go (H .held)
-    where
-      go : (found ≡ 0) ⊎ ((1 ≤ found) × (found ≤ s) × (live R S found ≡ true) × (S .bound found ≡ p - 1)) → Crowded p n R S
-      go (inl z) = absurd (d z)
-      go (inr w) =
-          record {
-            one = found;
-            other = s + 1;
-            one-least = w .0;
-            one-below = omega (arith, w .1);
-            other-most = omega arith;
-            one-live = w .2;
-            other-live = e;
-            one-bound = w .3;
-            other-bound = h;
-          }
+    pub held-two : (found ≡ 0 → ⊥) → Crowded p n R S
+    held-two d = go (H .held)
+      where
+        go : (found ≡ 0) ⊎ ((1 ≤ found) × (found ≤ s) × (live R S found ≡ true) × (S .bound found ≡ p - 1)) → Crowded p n R S
+        go (inl z) = absurd (d z)
+        go (inr w) =
+            record {
+              one = found;
+              other = t;
+              one-least = w .0;
+              one-below = omega (arith, w .1, N .above);
+              other-most = N .within;
+              one-live = w .2;
+              other-live = live-unmarked R S n s t r N e;
+              one-bound = w .3;
+              other-bound = h;
+            }
 
 -- Two unmarked signals with equal coefficients
 
@@ -130,35 +142,36 @@ pub record Holder (R : ℕ → ℕ) (S : Standing) (s x : ℕ) : Type 0 where
 pub record Gathered (R : ℕ → ℕ) (S : Standing) (s : ℕ) (values : List ℕ) (count : ℕ) : Type 0 where
   pub each : (i : ℕ) → i < count → Holder R S s (getD values i 0)
 
-pub gathered-start : (R : ℕ → ℕ) (S : Standing) (values : List ℕ) → Gathered R S 0 values 0
-gathered-start R S values = record { each = λ i h. absurd (omega arith) }
+pub gathered-start : (R : ℕ → ℕ) (S : Standing) (s : ℕ) (values : List ℕ) → Gathered R S s values 0
+gathered-start R S s values = record { each = λ i h. absurd (omega arith) }
 
-module _ (R : ℕ → ℕ) (S : Standing) (s : ℕ) (values : List ℕ) (count : ℕ) (G : Gathered R S s values count) where
-  later : (x : ℕ) → Holder R S s x → Holder R S (s + 1) x
-  later x H = record { holder = H .holder; most = omega (arith, H .most); is-live = H .is-live; is = H .is }
+module _ (R : ℕ → ℕ) (S : Standing) (n s t r : ℕ) (N : Next R n s t r) (values : List ℕ) (count : ℕ) (G : Gathered R S s values count) where
+  later : (x : ℕ) → Holder R S s x → Holder R S r x
+  later x H = record { holder = H .holder; most = omega (arith, H .most, N .above, N .is); is-live = H .is-live; is = H .is }
 
-  pub gathered-on : Gathered R S (s + 1) values count
+  pub gathered-on : Gathered R S r values count
   gathered-on = record { each = λ i h. later _ (G .each i h) }
 
-  module _ (e : live R S (s + 1) ≡ true) (x : ℕ) (is : R (s + 1) ≡ x) where
-    pub gathered-new : count < length values → Gathered R S (s + 1) (set values count x) (count + 1)
+  module _ (e : S .marked t ≡ false) (x : ℕ) (is : R t ≡ x) where
+    pub gathered-new : count < length values → Gathered R S r (set values count x) (count + 1)
     gathered-new room = record { each = λ i h. each i h (ℕ-discrete i count) }
       where
-        each : (i : ℕ) → i < count + 1 → Dec (i ≡ count) → Holder R S (s + 1) (getD (set values count x) i 0)
+        each : (i : ℕ) → i < count + 1 → Dec (i ≡ count) → Holder R S r (getD (set values count x) i 0)
         each i h (yes q) =
-            rw (q, getD-set-same values count x 0 room) (record { holder = s + 1; most = omega arith; is-live = e; is = is })
+            rw (q, getD-set-same values count x 0 room)
+            (record { holder = t; most = omega (arith, N .is); is-live = live-unmarked R S n s t r N e; is = is })
         each i h (no d) = rw (getD-set-other values count i x 0 d) (later _ (G .each i (omega arith)))
 
-    pub gathered-equal : (n : ℕ) → s < n → Among values count x → Equals n R S
-    gathered-equal n more A =
+    pub gathered-equal : Among values count x → Equals n R S
+    gathered-equal A =
         let H = G .each (A .place) (A .early) in
         record {
           one = H .holder;
-          other = s + 1;
-          one-below = omega (arith, H .most);
-          other-most = omega arith;
+          other = t;
+          one-below = omega (arith, H .most, N .above);
+          other-most = N .within;
           one-live = H .is-live;
-          other-live = e;
+          other-live = live-unmarked R S n s t r N e;
           same = H .is ∙ A .is ∙ sym is;
         }
 
@@ -181,11 +194,6 @@ bound-nonzero p bounds marks s h e = bound-within p bounds s h ∙ e
 pub mark-read : (marks : List Bool) (s : ℕ) {b : Bool} → getD marks s false ≡ b → markIn marks s ≡ b
 unfolding markIn
 mark-read marks s e = e
-
-pub view-live : (p : ℕ) (bounds : List ℕ) (marks : List Bool) (R : ℕ → ℕ) (s : ℕ) (r : Bool)
-    → ((b : ℕ → ℕ) → r ≡ live R (withMarks b marks) s) → r ≡ live R (viewOf p bounds marks) s
-unfolding viewOf
-view-live p bounds marks R s r h = h (boundIn p bounds)
 
 pub view-equals : (p : ℕ) (bounds : List ℕ) (marks : List Bool) (R : ℕ → ℕ) (n : ℕ) → ((b : ℕ → ℕ) → Equals n R (withMarks b marks))
     → Equals n R (viewOf p bounds marks)
@@ -235,16 +243,29 @@ module _ (S : Standing) (s : ℕ) (Z : Nonzero S s) where
 
 -- References
 
-pub unreferred-start : (p n : ℕ) (R : ℕ → ℕ) (S : Standing) → Unreferred p n R S 0
-unreferred-start p n R S = record { fails = λ u l m e. absurd (omega arith) }
+pub unreferred-start : (p n : ℕ) (R : ℕ → ℕ) (S : Standing) (list : ℕ → ℕ) → Unreferred p n R S (reach list 0)
+unfolding reach
+unreferred-start p n R S list = record { fails = λ u l m e. absurd (omega arith) }
 
-pub unreferred-on : (p n : ℕ) (R : ℕ → ℕ) (S : Standing) (r : ℕ) → Unreferred p n R S r
-    → (occurs R (r + 1) ≡ true → separated p n R S (r + 1) ≡ false) → Unreferred p n R S (r + 1)
-unreferred-on p n R S r U h = record { fails = λ u l m e. fails u l m e (ℕ-discrete u (r + 1)) }
-  where
-    fails : (u : ℕ) → 1 ≤ u → u ≤ r + 1 → occurs R u ≡ true → Dec (u ≡ r + 1) → separated p n R S u ≡ false
-    fails u l m e (yes q) = rw q (h (rw q at e))
-    fails u l m e (no d) = U .fails u l (omega arith) e
+unreferred-absent : (p n : ℕ) (R : ℕ → ℕ) (S : Standing) (u : ℕ) → R u ≡ 0 → occurs R u ≡ true → separated p n R S u ≡ false
+unfolding occurs
+unreferred-absent p n R S u z e = true-or-false (occurs R u) e (rw z refl)
+
+pub unreferred-on : (p n : ℕ) (R : ℕ → ℕ) (S : Standing) (s t r : ℕ) → Next R n s t r → Unreferred p n R S s → separated p n R S t ≡ false
+    → Unreferred p n R S r
+unreferred-on p n R S s t r N U h =
+    record {
+      fails = passing N (λ (u : ℕ). occurs R u ≡ true → separated p n R S u ≡ false) (U .fails) (λ u l z. unreferred-absent p n R S u z) (λ e. h);
+    }
+
+pub unreferred-end : (p n : ℕ) (R : ℕ → ℕ) (S : Standing) (list : List ℕ) → SignalsOf R n list → (i : ℕ) → length list ≤ i → i ≤ length list
+    → Unreferred p n R S (reach (coefIn list) i) → Unreferred p n R S n
+unreferred-end p n R S list L i h g U =
+    record {
+      fails =
+          walked R n list L (λ (u : ℕ). occurs R u ≡ true → separated p n R S u ≡ false) i h g (U .fails)
+          (λ u l z. unreferred-absent p n R S u z);
+    }
 
 pub absent : (form : List ℕ) (s : ℕ) → getD form s 0 ≡ 0 → occurs (coefIn form) s ≡ false
 unfolding occurs coefIn

@@ -24,33 +24,82 @@ use Rattle.rules.proofs.Walk.{termsFrom, names-turn, names-end, form-start}
 use Rattle.derivation.specs.Inner.{circuitOf}
 use Rattle.derivation.specs.Offsets.{partOf}
 use Rattle.solver.specs.Search.{Prepared, involves, Apart, Forgotten}
-use Rattle.solver.specs.Rows.{entry, row, IsRow, Rows, NamesAdded, Copied}
+use Rattle.solver.specs.Rows.{
+  entry,
+  row,
+  count,
+  signals,
+  after,
+  Listed,
+  SignalsOf,
+  IsRow,
+  RowAt,
+  Rows,
+  NamesAdded,
+  Copied,
+  Written,
+}
+use Rattle.solver.proofs.ListLaws.{listed-start, listed-absent, listed-present, listed-same}
 use Rattle.solver.proofs.SearchLaws.{constraint-part}
 
 -- A row
 
-row-length : (rows : List ℕ) (n k : ℕ) → (k + 1) * (n + 1) ≤ length rows → length (row rows n k) ≡ n + 1
+row-length : (rows : List ℕ) (n k : ℕ) → (k + 1) * (2 * (n + 1)) ≤ length rows → length (row rows n k) ≡ n + 1
 unfolding row
 row-length rows n k h = simp (length-take, length-drop) (omega arith)
 
 row-entry : (rows : List ℕ) (n k s : ℕ) → s ≤ n → coefIn (row rows n k) s ≡ entry rows n k s
 unfolding row coefIn entry
-row-entry rows n k s h = getD-take (n + 1) (drop (k * (n + 1)) rows) s 0 (omega arith) ∙ getD-drop (k * (n + 1)) rows s 0
+row-entry rows n k s h = getD-take (n + 1) (drop (k * (2 * (n + 1))) rows) s 0 (omega arith) ∙ getD-drop (k * (2 * (n + 1))) rows s 0
 
 -- cut out of the table
-pub row-cut : (rows : List ℕ) (n k : ℕ) → take (k * (n + 1) + (n + 1) - k * (n + 1)) (drop (k * (n + 1)) rows) ≡ row rows n k
+pub row-cut : (rows : List ℕ) (n k : ℕ) → take (k * (2 * (n + 1)) + (n + 1) - k * (2 * (n + 1))) (drop (k * (2 * (n + 1))) rows) ≡ row rows n k
 unfolding row
 row-cut rows n k =
-    let width : k * (n + 1) + (n + 1) - k * (n + 1) ≡ n + 1 = omega arith in
-    ap (λ (j : ℕ). take j (drop (k * (n + 1)) rows)) width
+    let size : k * (2 * (n + 1)) + (n + 1) - k * (2 * (n + 1)) ≡ n + 1 = omega arith in
+    ap (λ (j : ℕ). take j (drop (k * (2 * (n + 1))) rows)) size
+
+pub signals-cut : (rows : List ℕ) (n k at size : ℕ) → at ≡ k * (2 * (n + 1)) + (n + 1) → size ≡ getD rows at 0
+    → take (at + 1 + size - (at + 1)) (drop (at + 1) rows) ≡ signals rows n k
+unfolding signals count
+signals-cut rows n k at size is-at is-size =
+    let same : at + 1 + size - (at + 1) ≡ size = omega arith in
+    ap (λ (j : ℕ). take j (drop (at + 1) rows)) (same ∙ is-size) ∙ rw is-at refl
+
+pub count-small : (rows : List ℕ) (n k : ℕ) → count rows n k ≤ n → getD rows (k * (2 * (n + 1)) + (n + 1)) 0 ≤ n
+unfolding count
+count-small rows n k h = h
+
+signals-length : (rows : List ℕ) (n k : ℕ) → (k + 1) * (2 * (n + 1)) ≤ length rows → count rows n k ≤ n → length (signals rows n k) ≡ count rows n k
+unfolding signals
+signals-length rows n k h few = simp (length-take, length-drop) (omega arith)
+
+signals-entry : (rows : List ℕ) (n k i : ℕ) → i < count rows n k → coefIn (signals rows n k) i ≡ after rows (k * (2 * (n + 1)) + (n + 1)) i
+unfolding signals coefIn after
+signals-entry rows n k i h =
+    getD-take (count rows n k) (drop (k * (2 * (n + 1)) + (n + 1) + 1) rows) i 0 h ∙ getD-drop (k * (2 * (n + 1)) + (n + 1) + 1) rows i 0
 
 module _ (C : Circuit) (rows : List ℕ) (R : Rows C rows) (n k : ℕ) (is-n : n ≡ C .n) (last : k ≤ C .m) where
   -- row k lies inside
-  pub row-inside : (k + 1) * (n + 1) ≤ length rows
-  row-inside = rw is-n (omega (arith, R .inside, mul-le-mul-right (C .n + 1) last))
+  pub row-inside : (k + 1) * (2 * (n + 1)) ≤ length rows
+  row-inside = rw is-n (omega (arith, R .inside, mul-le-mul-right (2 * (C .n + 1)) last))
 
   pub row-sized : (form : List ℕ) → form ≡ row rows n k → length form ≡ n + 1
   row-sized form is = ap length is ∙ row-length rows n k row-inside
+
+  module _ (first : 1 ≤ k) where
+    listed : Listed (entry rows n k) n (after rows (k * (2 * (n + 1)) + (n + 1))) (count rows n k)
+    listed = rw is-n (R .each k first last .list)
+
+    pub row-few : count rows n k ≤ n
+    row-few = listed .few
+
+    -- the list has the signals of the row
+    pub row-signals : (form : List ℕ) → form ≡ row rows n k → (list : List ℕ) → list ≡ signals rows n k → SignalsOf (coefIn form) n list
+    row-signals form is-form list is-list =
+        rw (is-form, is-list, signals-length rows n k row-inside row-few)
+        (listed-same (entry rows n k) (coefIn (row rows n k)) n (after rows (k * (2 * (n + 1)) + (n + 1))) (coefIn (signals rows n k))
+        (count rows n k) listed (row-entry rows n k) (signals-entry rows n k))
 
   -- the row of a linear constraint is its reduced form
   pub row-form : WellFormed C → 1 ≤ k → linear (constraintAt C k) ≡ true → (form : List ℕ) → form ≡ row rows n k
@@ -62,7 +111,7 @@ module _ (C : Circuit) (rows : List ℕ) (R : Rows C rows) (n k : ℕ) (is-n : n
           ap (λ (f : List ℕ). coefIn f s) is
           ∙ row-entry rows n k s h
           ∙ ap (λ (j : ℕ). entry rows j k s) is-n
-          ∙ R .each k first last .reduces e s (omega arith)
+          ∙ R .each k first last .form .reduces e s (omega arith)
       at zero (no d) = absurd (omega arith)
       at (suc s) (no d) =
           coef-past form (suc s) (omega (arith, row-sized form is))
@@ -155,23 +204,77 @@ copied-on form before start count later P h =
     copied s l (no d) =
         getD-set-other later (start + count) (start + s) _ 0 (λ (q : start + s ≡ start + count). d (omega arith)) ∙ P .copied s (omega arith)
 
+-- The list of its signals
+
+-- the list of the signals up to s, with nothing at the place yet
+pub record Listing (form before : List ℕ) (at s count : ℕ) (later : List ℕ) : Type 0 where
+  pub list : Listed (coefIn form) s (after later at) count
+  pub kept : (i : ℕ) → i < at → getD later i 0 ≡ getD before i 0
+
+pub listing-start : (form rows : List ℕ) (at : ℕ) → Listing form rows at 0 0 rows
+listing-start form rows at = record { list = listed-start _ _; kept = λ i h. refl }
+
+module _ (form before : List ℕ) (at s count : ℕ) (later : List ℕ) (L : Listing form before at s count later) where
+  pub listing-absent : getD form (s + 1) 0 ≡ 0 → Listing form before at (s + 1) count later
+  unfolding coefIn
+  listing-absent e = record { list = listed-absent _ _ _ _ (L .list) e; kept = L .kept }
+
+  -- a write after the place
+  module _ (j x : ℕ) (high : at ≤ j) where
+    others : (i : ℕ) → i < at → getD (set later j x) i 0 ≡ getD before i 0
+    others i l = getD-set-other later j i x 0 (λ (q : i ≡ j). omega arith) ∙ L .kept i l
+
+    same-list : (j ≡ at) ⊎ (at + 1 + count ≤ j) → (i : ℕ) → i < count → after (set later j x) at i ≡ after later at i
+    unfolding after
+    same-list far i l =
+        getD-set-other later j (at + 1 + i) x 0
+        (λ (q : at + 1 + i ≡ j). ⊎-elim (λ (z : j ≡ at). omega arith) (λ (z : at + 1 + count ≤ j). omega arith) far)
+
+  pub listing-present : (getD form (s + 1) 0 ≡ 0 → ⊥) → at + (count + 1) < length later
+      → Listing form before at (s + 1) (count + 1) (set later (at + (count + 1)) (s + 1))
+  unfolding coefIn after
+  listing-present d room =
+      record {
+        list =
+            listed-present _ _ _ _
+            (listed-same _ _ _ _ _ _ (L .list) (λ u m. refl) (same-list (at + (count + 1)) (s + 1) (omega arith) (inr (omega arith)))) d here;
+        kept = others (at + (count + 1)) (s + 1) (omega arith);
+      }
+    where
+      place : at + 1 + count ≡ at + (count + 1)
+      place = omega arith
+
+      here : getD (set later (at + (count + 1)) (s + 1)) (at + 1 + count) 0 ≡ s + 1
+      here = rw place (getD-set-same later (at + (count + 1)) (s + 1) 0 room)
+
+  pub listing-end : (n : ℕ) → n ≤ s → s ≤ n → at < length later → Written form before at n (set later at count)
+  listing-end n h g room =
+      let end : n ≡ s = omega arith in
+      rw end
+      (record {
+        list =
+            rw (getD-set-same later at count 0 room)
+            (listed-same _ _ _ _ _ _ (L .list) (λ u m. refl) (same-list at count (omega arith) (inl refl)));
+        kept = others at count (omega arith);
+      })
+
 -- The table filled
 
 -- the rows of constraints 1 to k are there
 pub record Filling (C : Circuit) (k : ℕ) (rows : List ℕ) : Type 0 where
-  pub each : (j : ℕ) → 1 ≤ j → j ≤ k → IsRow (C .p) (C .n) (constraintAt C j) (entry rows (C .n) j)
+  pub each : (j : ℕ) → 1 ≤ j → j ≤ k → RowAt C rows j
 
 pub filling-start : (C : Circuit) (rows : List ℕ) → Filling C 0 rows
 filling-start C rows = record { each = λ j l h. absurd (omega arith) }
 
-pub filling-end : (C : Circuit) (n m k : ℕ) (rows : List ℕ) → n ≡ C .n → m ≡ C .m → Filling C k rows → m ≤ k → (m + 1) * (n + 1) ≤ length rows
+pub filling-end : (C : Circuit) (n m k : ℕ) (rows : List ℕ) → n ≡ C .n → m ≡ C .m → Filling C k rows → m ≤ k → (m + 1) * (2 * (n + 1)) ≤ length rows
     → Rows C rows
 filling-end C n m k rows is-n is-m F h inside = record { inside = rw (is-n, is-m) at inside; each = λ j l g. F .each j l (omega arith) }
 
 -- the next row lies inside
-pub next-inside : (n m k size : ℕ) → k < m → (m + 1) * (n + 1) ≤ size → (k + 1) * (n + 1) + (n + 1) ≤ size
+pub next-inside : (n m k size : ℕ) → k < m → (m + 1) * (2 * (n + 1)) ≤ size → (k + 1) * (2 * (n + 1)) + (2 * (n + 1)) ≤ size
 next-inside n m k size h inside =
-    let below : (k + 2) * (n + 1) ≤ (m + 1) * (n + 1) = mul-le-mul-right (n + 1) (omega arith) in
+    let below : (k + 2) * (2 * (n + 1)) ≤ (m + 1) * (2 * (n + 1)) = mul-le-mul-right (2 * (n + 1)) (omega arith) in
     omega arith
 
 -- entries that agree make the same row
@@ -182,6 +285,22 @@ row-from p n most K f g few R e =
       unnamed = λ l s h z. R .unnamed l s (omega arith) (sym (e s h) ∙ z);
     }
 
+-- a row where nothing is written stays
+row-kept : (C : Circuit) (before later : List ℕ) (j size : ℕ) → (j + 1) * (2 * (C .n + 1)) ≤ size
+    → ((i : ℕ) → i < size → getD later i 0 ≡ getD before i 0) → RowAt C before j → RowAt C later j
+unfolding entry count after
+row-kept C before later j size inside kept R =
+    record {
+      form = row-from (C .p) (C .n) (C .n) (constraintAt C j) (entry before (C .n) j) _ (omega arith) (R .form) entries;
+      list =
+          rw (kept (j * (2 * (C .n + 1)) + (C .n + 1)) (omega arith))
+          (listed-same (entry before (C .n) j) _ _ (after before (j * (2 * (C .n + 1)) + (C .n + 1))) _ _ (R .list) entries
+          (λ i l. kept (j * (2 * (C .n + 1)) + (C .n + 1) + 1 + i) (omega (arith, R .list .few))));
+    }
+  where
+    entries : (s : ℕ) → s ≤ C .n → entry later (C .n) j s ≡ entry before (C .n) j s
+    entries s m = kept (j * (2 * (C .n + 1)) + s) (omega arith)
+
 -- the row of constraint k + 1 is copied
 module _ (c table : List ℕ) (P : Prepared c table) (p n k : ℕ) (is-p : p ≡ circuitOf c .p) (is-n : n ≡ circuitOf c .n) (few : n ≤ 256)
     (more : k < circuitOf c .m) (before : List ℕ) (F : Filling (circuitOf c) k before) where
@@ -189,25 +308,39 @@ module _ (c table : List ℕ) (P : Prepared c table) (p n k : ℕ) (is-p : p ≡
   C = circuitOf c
 
   pub filling-next : (part : List ℕ) → part ≡ partOf c table (k + 1) → (form : List ℕ) → IsRow p 256 (constraintIn part) (coefIn form)
-      → (start : ℕ) → start ≡ (k + 1) * (n + 1) → (later : List ℕ) → Copied form before start (n + 1) later → Filling C (k + 1) later
-  unfolding entry
-  filling-next part is-part form R start is-start later G = record { each = λ j l h. each j l h (ℕ-discrete j (k + 1)) }
+      → (start : ℕ) → start ≡ (k + 1) * (2 * (n + 1)) → (half : List ℕ) → Copied form before start (n + 1) half → (later : List ℕ)
+      → Written form half (start + (n + 1)) n later → Filling C (k + 1) later
+  unfolding entry count
+  filling-next part is-part form R start is-start half G later L = record { each = λ j l h. each j l h (ℕ-discrete j (k + 1)) }
     where
-      begins : start ≡ (k + 1) * (C .n + 1)
+      begins : start ≡ (k + 1) * (2 * (C .n + 1))
       begins = rw is-n at is-start
+
+      place : start + (n + 1) ≡ (k + 1) * (2 * (C .n + 1)) + (C .n + 1)
+      place = omega (arith, begins, is-n)
 
       here : IsRow (C .p) 256 (constraintAt C (k + 1)) (coefIn form)
       here = rw (is-p, constraint-part c table P (k + 1) (omega arith) (omega arith) part is-part) at R
 
-      each : (j : ℕ) → 1 ≤ j → j ≤ k + 1 → Dec (j ≡ k + 1) → IsRow (C .p) (C .n) (constraintAt C j) (entry later (C .n) j)
+      entries : (s : ℕ) → s ≤ C .n → entry later (C .n) (k + 1) s ≡ coefIn form s
+      entries s m =
+          ap (λ (i : ℕ). getD later (i + s) 0) (sym begins)
+          ∙ L .kept (start + s) (omega arith)
+          ∙ G .copied s (omega arith)
+
+      list : Listed (coefIn form) (C .n) (after later ((k + 1) * (2 * (C .n + 1)) + (C .n + 1))) (count later (C .n) (k + 1))
+      list = rw (place, is-n) at (L .list)
+
+      each : (j : ℕ) → 1 ≤ j → j ≤ k + 1 → Dec (j ≡ k + 1) → RowAt C later j
       each j l h (yes q) =
           rw q
-          (row-from (C .p) (C .n) 256 (constraintAt C (k + 1)) (coefIn form) _ (omega arith) here
-          (λ s m. ap (λ (i : ℕ). getD later (i + s) 0) (sym begins) ∙ G .copied s (omega arith)))
+          (record {
+            form = row-from (C .p) (C .n) 256 (constraintAt C (k + 1)) (coefIn form) _ (omega arith) here entries;
+            list = listed-same (coefIn form) _ (C .n) _ _ _ list entries (λ i m. refl);
+          })
       each j l h (no d) =
-          let below : (j + 1) * (C .n + 1) ≤ (k + 1) * (C .n + 1) = mul-le-mul-right (C .n + 1) (omega arith) in
-          row-from (C .p) (C .n) (C .n) (constraintAt C j) (entry before (C .n) j) _ (omega arith) (F .each j l (omega arith))
-          (λ s m. G .kept (j * (C .n + 1) + s) (omega (arith, begins)))
+          row-kept C before later j start (rw begins (mul-le-mul-right (2 * (C .n + 1)) (omega arith)))
+          (λ i m. L .kept i (omega arith) ∙ G .kept i m) (F .each j l (omega arith))
 
 -- What is forgotten
 
@@ -227,8 +360,8 @@ forgetting-end rows n m signal k before later F h low C R is-n is-m = record { t
     apart : (j : ℕ) → 1 ≤ j → j ≤ C .m → entry rows (C .n) j signal ≡ 0 → Apart (C .p) (constraintAt C j) signal
     apart j l g z =
         record {
-          absent = λ e. sym (R .each j l g .reduces e signal (omega arith)) ∙ z;
-          unnamed = λ e. R .each j l g .unnamed e signal (omega arith) z;
+          absent = λ e. sym (R .each j l g .form .reduces e signal (omega arith)) ∙ z;
+          unnamed = λ e. R .each j l g .form .unnamed e signal (omega arith) z;
         }
 
     each : (j : ℕ) → 1 ≤ j → j ≤ C .m → (getD later j 0 ≡ 0) ⊎ ((getD later j 0 ≡ getD before j 0) × Apart (C .p) (constraintAt C j) signal)
@@ -248,7 +381,7 @@ module _ (rows : List ℕ) (n signal k : ℕ) (before later : List ℕ) (F : For
       done j l m (yes q) = inl (rw q (getD-set-same later (k + 1) 0 0 h))
       done j l m (no d) = rw (getD-set-other later (k + 1) j 0 0 d) (F .done j l (omega arith))
 
-  pub forgetting-on : (at : ℕ) → at ≡ k * (n + 1) + signal → getD rows (at + (n + 1)) 0 ≡ 0 → Forgetting rows n signal (k + 1) before later
+  pub forgetting-on : (at : ℕ) → at ≡ k * (2 * (n + 1)) + signal → getD rows (at + (2 * (n + 1))) 0 ≡ 0 → Forgetting rows n signal (k + 1) before later
   unfolding entry
   forgetting-on at is-at e =
       record { top = F .top; done = λ j l m. done j l m (ℕ-discrete j (k + 1)); same = λ j g. F .same j (omega arith) }
@@ -256,6 +389,6 @@ module _ (rows : List ℕ) (n signal k : ℕ) (before later : List ℕ) (F : For
       done : (j : ℕ) → 1 ≤ j → j ≤ k + 1 → Dec (j ≡ k + 1)
           → (getD later j 0 ≡ 0) ⊎ ((getD later j 0 ≡ getD before j 0) × (entry rows n j signal ≡ 0))
       done j l m (yes q) =
-          let there : at + (n + 1) ≡ (k + 1) * (n + 1) + signal = omega arith in
+          let there : at + (2 * (n + 1)) ≡ (k + 1) * (2 * (n + 1)) + signal = omega arith in
           inr (rw q (F .same (k + 1) (omega arith), ap (λ (i : ℕ). getD rows i 0) (sym there) ∙ e))
       done j l m (no d) = F .done j l (omega arith)

@@ -23,6 +23,8 @@ use Rattle.derivation.specs.Offsets.{partOf}
 use Rattle.derivation.proofs.OffsetLaws.{part-is}
 use Rattle.derivation.specs.Inner.{circuitOf}
 use Rattle.solver.specs.Search.{Prepared, SomeUnmarked, Only, free}
+use Rattle.solver.specs.Rows.{reach, SignalsOf}
+use Rattle.solver.proofs.ListLaws.{Next, reached, walked, passing}
 
 -- An unmarked signal
 
@@ -97,57 +99,76 @@ pub record Sole (test : ℕ → Bool) (s found : ℕ) : Type 0 where
   pub each : (u : ℕ) → 1 ≤ u → u ≤ s → test u ≡ true → u ≡ found
   pub holds : (found ≡ 0) ⊎ ((1 ≤ found) × (found ≤ s) × (test found ≡ true))
 
-pub sole-start : (test : ℕ → Bool) → Sole test 0 0
-sole-start test = record { each = λ u l m e. absurd (omega arith); holds = inl refl }
+pub sole-start : (test : ℕ → Bool) (list : ℕ → ℕ) → Sole test (reach list 0) 0
+unfolding reach
+sole-start test list = record { each = λ u l m e. absurd (omega arith); holds = inl refl }
 
-pub sole-end : (test : ℕ → Bool) (n s found : ℕ) → Sole test s found → s ≤ n → n ≤ s → Only test n found
-sole-end test n s found S h g =
-    record {
-      holds = ⊎-elim (λ z. inl z) (λ (w : (1 ≤ found) × (found ≤ s) × (test found ≡ true)). inr (w .0, omega arith, w .2)) (S .holds);
-      is-only = λ u l m e alone. sym (S .each u l (omega arith) e);
-    }
+-- the test of a form and bounds
+module _ (p : ℕ) (form bounds : List ℕ) where
+  free-absent : (s : ℕ) → coefIn form s ≡ 0 → free p form bounds s ≡ false
+  unfolding free occurs
+  free-absent s e = rw e refl
 
--- the next signal
-module _ (test : ℕ → Bool) (n s found : ℕ) (S : Sole test s found) (more : s < n) where
-  pub sole-on : test (s + 1) ≡ false → Sole test (s + 1) found
-  sole-on e =
-      record {
-        each = λ u l m f. each u l m f (ℕ-discrete u (s + 1));
-        holds = ⊎-elim (λ z. inl z) (λ (w : (1 ≤ found) × (found ≤ s) × (test found ≡ true)). inr (w .0, omega arith, w .2)) (S .holds);
-      }
-    where
-      each : (u : ℕ) → 1 ≤ u → u ≤ s + 1 → test u ≡ true → Dec (u ≡ s + 1) → u ≡ found
-      each u l m f (yes q) = true-or-false _ f (ap test q ∙ e)
-      each u l m f (no d) = S .each u l (omega arith) f
-
-  pub sole-found : test (s + 1) ≡ true → found ≡ 0 → Sole test (s + 1) (s + 1)
-  sole-found e z = record { each = λ u l m f. each u l m f (ℕ-discrete u (s + 1)); holds = inr (omega arith, omega arith, e) }
-    where
-      each : (u : ℕ) → 1 ≤ u → u ≤ s + 1 → test u ≡ true → Dec (u ≡ s + 1) → u ≡ s + 1
-      each u l m f (yes q) = q
-      each u l m f (no d) = absurd (omega (arith, S .each u l (omega arith) f))
-
-  pub sole-several : test (s + 1) ≡ true → (found ≡ 0 → ⊥) → Only test n 0
-  sole-several e d = record { holds = inl refl; is-only = λ u l m f alone. absurd (several u alone (S .holds)) }
-    where
-      several : (u : ℕ) → ((v : ℕ) → 1 ≤ v → v ≤ n → test v ≡ true → v ≡ u)
-          → (found ≡ 0) ⊎ ((1 ≤ found) × (found ≤ s) × (test found ≡ true)) → ⊥
-      several u alone (inl z) = d z
-      several u alone (inr w) = omega (arith, alone found (w .0) (omega arith) (w .2), alone (s + 1) (omega arith) (omega arith) e)
-
--- the test of a form and bounds at a signal
-module _ (p : ℕ) (form bounds : List ℕ) (s : ℕ) where
-  pub free-absent : getD form s 0 ≡ 0 → free p form bounds s ≡ false
-  unfolding free occurs coefIn
-  free-absent e = rw e refl
-
-  pub free-lower : s < length bounds → (getD bounds s 0 ≡ p - 1 → ⊥) → free p form bounds s ≡ false
+  free-lower : (s : ℕ) → s < length bounds → (getD bounds s 0 ≡ p - 1 → ⊥) → free p form bounds s ≡ false
   unfolding free
-  free-lower l d = false-by _ (λ e. d (bound-within p bounds s l ∙ eqb-true _ _ (and-right (occurs (coefIn form) s) _ e)))
+  free-lower s l d = false-by _ (λ e. d (bound-within p bounds s l ∙ eqb-true _ _ (and-right (occurs (coefIn form) s) _ e)))
 
-  pub free-holds : s < length bounds → (getD form s 0 ≡ 0 → ⊥) → getD bounds s 0 ≡ p - 1 → free p form bounds s ≡ true
-  unfolding free occurs coefIn
-  free-holds l d e = rw (ne-eqb (getD form s 0) 0 d, sym (bound-within p bounds s l) ∙ e, eq-eqb (p - 1) (p - 1) refl) refl
+  free-holds : (s : ℕ) → s < length bounds → (coefIn form s ≡ 0 → ⊥) → getD bounds s 0 ≡ p - 1 → free p form bounds s ≡ true
+  unfolding free occurs
+  free-holds s l d e = rw (ne-eqb (coefIn form s) 0 d, sym (bound-within p bounds s l) ∙ e, eq-eqb (p - 1) (p - 1) refl) refl
+
+  pub sole-end : (n : ℕ) (list : List ℕ) → SignalsOf (coefIn form) n list → (i : ℕ) → length list ≤ i → i ≤ length list → (found : ℕ)
+      → Sole (free p form bounds) (reach (coefIn list) i) found → Only (free p form bounds) n found
+  sole-end n list L i h g found S =
+      record {
+        holds =
+            ⊎-elim (λ z. inl z)
+            (λ (w : (1 ≤ found) × (found ≤ reach (coefIn list) i) × (free p form bounds found ≡ true)).
+            inr (w .0, omega (arith, w .1, reached (coefIn form) n list L i h g), w .2))
+            (S .holds);
+        is-only = λ u l m e alone.
+            sym
+            (walked (coefIn form) n list L (λ (v : ℕ). free p form bounds v ≡ true → v ≡ found) i h g (S .each)
+            (λ v x z f. true-or-false _ f (free-absent v z)) u l m e);
+      }
+
+  -- the signal t is passed
+  module _ (n s t r found : ℕ) (N : Next (coefIn form) n s t r) (S : Sole (free p form bounds) s found) (read : t < length bounds) where
+    pub sole-on : (getD bounds t 0 ≡ p - 1 → ⊥) → Sole (free p form bounds) r found
+    sole-on d =
+        record {
+          each = passing N (λ (u : ℕ). free p form bounds u ≡ true → u ≡ found) (S .each) (λ u l z f. true-or-false _ f (free-absent u z))
+              (λ f. true-or-false _ f (free-lower t read d));
+          holds = ⊎-elim (λ z. inl z) (λ (w : (1 ≤ found) × (found ≤ s) × (free p form bounds found ≡ true)).
+              inr (w .0, omega (arith, w .1, N .above, N .is), w .2)) (S .holds);
+        }
+
+    module _ (e : getD bounds t 0 ≡ p - 1) where
+      here : free p form bounds t ≡ true
+      here = free-holds t read (N .present) e
+
+      pub sole-found : found ≡ 0 → Sole (free p form bounds) r t
+      sole-found z =
+          record {
+            each = passing N (λ (u : ℕ). free p form bounds u ≡ true → u ≡ t) (λ u l m f. absurd (omega (arith, S .each u l m f)))
+                (λ u l a f. true-or-false _ f (free-absent u a)) (λ f. refl);
+            holds = inr (omega (arith, N .above), omega (arith, N .is), here);
+          }
+
+      pub sole-several : (found ≡ 0 → ⊥) → Only (free p form bounds) n 0
+      sole-several d = record { holds = inl refl; is-only = λ u l m f alone. absurd (several u alone (S .holds)) }
+        where
+          several : (u : ℕ) → ((v : ℕ) → 1 ≤ v → v ≤ n → free p form bounds v ≡ true → v ≡ u)
+              → (found ≡ 0) ⊎ ((1 ≤ found) × (found ≤ s) × (free p form bounds found ≡ true)) → ⊥
+          several u alone (inl z) = d z
+          several u alone (inr w) =
+              omega (
+                arith,
+                w .1,
+                N .above,
+                alone found (w .0) (omega (arith, w .1, N .above, N .within)) (w .2),
+                alone t (omega (arith, N .above)) (N .within) here,
+              )
 
 -- The least entry
 

@@ -83,7 +83,7 @@ module _ (c : List ℕ) (p n i o m : ℕ) (Z : Sized c p n m) (is-i : i ≡ circ
       )
 
   -- the large table is large enough
-  pub rows-fit : (m + 1) * (n + 1) ≤ 131841
+  pub rows-fit : (m + 1) * (2 * (n + 1)) ≤ 263682
   rows-fit =
       let fewest : n + 1 ≤ 257 = omega (arith, Z .is-n, W .n-most) in
       let most : m + 1 ≤ 513 = omega (arith, Z .is-m, W .m-most) in

@@ -4,6 +4,7 @@ use crate::memo::forget;
 use crate::memo::least;
 use crate::output::put_step;
 use crate::rows::row_of;
+use crate::rows::signals_of;
 use crate::search::only_free;
 use crate::search::unmarked_in;
 use derivation::offsets::part_of;
@@ -60,12 +61,11 @@ fn candidate(
         }
         return key_of(bound, t, 1);
     }
-    let form = row_of(rows, n, k);
-    let t = only_free(form, bounds, n, p);
+    let t = only_free(signals_of(rows, n, k), bounds, p);
     if t == 0 {
         return NONE;
     }
-    let bound = sum_bound(form, bounds, n, p, t);
+    let bound = sum_bound(row_of(rows, n, k), bounds, n, p, t);
     if p as u64 - 1 <= bound {
         return NONE;
     }

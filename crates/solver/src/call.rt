@@ -48,7 +48,7 @@ fn solve_with(
     m: u32,
 ) -> SolverAnswer
     requires { ⌜ Sized (now circuit) p n m × (i ≡ circuitOf (now circuit) .i) × (o ≡ circuitOf (now circuit) .o)
-        × (7 + 14 * n ≤ length (now output)) × ((m + 1) * (n + 1) ≤ length (now rows)) ⌝ }
+        × (7 + 14 * n ≤ length (now output)) × ((m + 1) * (2 * (n + 1)) ≤ length (now rows)) ⌝ }
     ensures { λ r. ⌜ paperOf r ≡ solverCall (now (circuit .entry)) (length (now (output .entry))) ⌝ }
     ensures { λ r. ⌜ now (output .exit) ≡ solverOutput (now (circuit .entry)) (now (output .entry)) ⌝ }
 {
@@ -99,11 +99,11 @@ fn solve_on(
             place: 0,
         };
     }
-    if (m as usize + 1) * (n as usize + 1) <= 2048 {
-        let mut few = [0u32; 2048];
+    if (m as usize + 1) * (2 * (n as usize + 1)) <= 4096 {
+        let mut few = [0u32; 4096];
         return solve_with(circuit, &mut few, output, p, n, i, o, m);
     }
-    let mut rows = [0u32; 131841];
+    let mut rows = [0u32; 263682];
     solve_with(circuit, &mut rows, output, p, n, i, o, m)
 }
 

@@ -3,6 +3,7 @@
 use crate::memo::forget;
 use crate::output::put_step;
 use crate::rows::row_of;
+use crate::rows::signals_of;
 use crate::search::unmarked_in;
 use circuit::reader::after_form;
 use derivation::offsets::part_of;
@@ -16,7 +17,6 @@ ghost use mathlib.Core.Option.{Option, some};
 ghost use Prim.Native.Nat.{ℕ, _+_, _*_, _≤_, _<_};
 ghost use lib.ListN.{length};
 ghost use Rattle.laws.specs.Standing.{start};
-ghost use Rattle.laws.specs.Rules.{live};
 ghost use Rattle.laws.specs.Step.{Step, Product, Digits, replay};
 ghost use Rattle.laws.specs.Solver.{step, kindNumber, firstProduct, firstDigits, firstMark, boundSteps};
 ghost use Rattle.rules.specs.View.{coefIn, markIn, viewOf};
@@ -38,7 +38,7 @@ ghost use Rattle.solver.specs.Marks.{
   StandingOf,
   Marked,
 };
-ghost use Rattle.solver.specs.Rows.{Rows};
+ghost use Rattle.solver.specs.Rows.{SignalsOf, Below, Rows};
 ghost use Rattle.solver.specs.Search.{Prepared};
 
 // A floor above all signals: the constraint marks nothing.
@@ -61,43 +61,35 @@ struct Place {
     reference: u32,
 }
 
-// Whether s is an unmarked signal of the form.
-fn is_live(form: &[u32], marks: &[bool], s: u32) -> bool
-    requires { ⌜ (1 ≤ s) × (s < length (now form)) × (s < length (now marks)) ⌝ }
-    ensures { λ r. ⌜ ((b : ℕ → ℕ) → r ≡ live (coefIn (now (form .entry))) (withMarks b (now (marks .entry))) s) ⌝ }
+// The lowest unmarked one of the signals of a form, 0 where there is none.
+fn first_live(signals: &[u32], marks: &[bool]) -> u32
+    requires { ⌜ Below (now signals) (length (now marks)) ⌝ }
+    ensures { λ r. ⌜ ((form : ℕ → ℕ) (n : ℕ) → SignalsOf form n (now (signals .entry)) → (b : ℕ → ℕ)
+        → FirstLive form (withMarks b (now (marks .entry))) n r) ⌝ }
 {
-    let at = s as usize;
-    if form[at] == 0 {
-        return false;
-    }
-    !marks[at]
-}
-
-// The lowest unmarked signal of the form, 0 where it has none.
-fn first_live(form: &[u32], marks: &[bool], n: u32) -> u32
-    requires { ⌜ (n < length (now form)) × (n < length (now marks)) ⌝ }
-    ensures { λ r. ⌜ ((b : ℕ → ℕ) → FirstLive (coefIn (now (form .entry))) (withMarks b (now (marks .entry))) n r) ⌝ }
-{
-    let mut s: u32 = 0;
-    while s < n {
-        s = s + 1;
-        if is_live(form, marks, s) {
+    let mut i: usize = 0;
+    while i < signals.len() {
+        let s = signals[i];
+        i = i + 1;
+        if !marks[s as usize] {
             return s;
         }
     }
     0
 }
 
-// Whether two unmarked signals of the form have bound p - 1.
-fn is_crowded<'a>(form: &[u32], bounds: &'a [u32], marks: &'a [bool], n: u32, p: u32) -> bool
-    requires { ⌜ (n < length (now form)) × (n < length (now bounds)) × (n < length (now marks)) × (0 < p) ⌝ }
-    ensures { λ r. ⌜ (r ≡ true → Crowded p n (coefIn (now (form .entry))) (viewOf p (now (bounds .entry)) (now (marks .entry)))) ⌝ }
+// Whether two unmarked ones of the signals of a form have bound p - 1.
+fn is_crowded<'a>(signals: &[u32], bounds: &'a [u32], marks: &'a [bool], p: u32) -> bool
+    requires { ⌜ Below (now signals) (length (now bounds)) × Below (now signals) (length (now marks)) × (0 < p) ⌝ }
+    ensures { λ r. ⌜ (r ≡ true → (form : ℕ → ℕ) (n : ℕ) → SignalsOf form n (now (signals .entry))
+        → Crowded p n form (viewOf p (now (bounds .entry)) (now (marks .entry)))) ⌝ }
 {
     let mut found: u32 = 0;
-    let mut s: u32 = 0;
-    while s < n {
-        s = s + 1;
-        if is_live(form, marks, s) {
+    let mut i: usize = 0;
+    while i < signals.len() {
+        let s = signals[i];
+        i = i + 1;
+        if !marks[s as usize] {
             if bounds[s as usize] == p - 1 {
                 if found != 0 {
                     return true;
@@ -124,18 +116,20 @@ fn is_among(values: &[u32; 257], count: usize, x: u32) -> bool
     false
 }
 
-// Whether two unmarked signals of the form have equal coefficients. Their weights are equal then, whatever the reference.
-fn has_equals(form: &[u32], marks: &[bool], n: u32) -> bool
-    requires { ⌜ (n < length (now form)) × (n < length (now marks)) × (n ≤ 256) ⌝ }
-    ensures { λ r. ⌜ (r ≡ true → (b : ℕ → ℕ) → Equals n (coefIn (now (form .entry))) (withMarks b (now (marks .entry)))) ⌝ }
+// Whether two unmarked ones of the signals have equal coefficients. Their weights are equal then, whatever the reference.
+fn has_equals(form: &[u32], signals: &[u32], marks: &[bool]) -> bool
+    requires { ⌜ Below (now signals) (length (now form)) × Below (now signals) (length (now marks)) × (length (now signals) ≤ 256) ⌝ }
+    ensures { λ r. ⌜ (r ≡ true → (n : ℕ) → SignalsOf (coefIn (now (form .entry))) n (now (signals .entry)) → (b : ℕ → ℕ)
+        → Equals n (coefIn (now (form .entry))) (withMarks b (now (marks .entry)))) ⌝ }
 {
     let mut seen = [0u32; 257];
     let mut count: usize = 0;
-    let mut s: u32 = 0;
-    while s < n {
-        s = s + 1;
-        if is_live(form, marks, s) {
-            let coef = form[s as usize];
+    let mut i: usize = 0;
+    while i < signals.len() {
+        let at = signals[i] as usize;
+        i = i + 1;
+        if !marks[at] {
+            let coef = form[at];
             if is_among(&seen, count, coef) {
                 return true;
             }
@@ -146,18 +140,24 @@ fn has_equals(form: &[u32], marks: &[bool], n: u32) -> bool
     false
 }
 
-// Whether some signal of the form may be the reference of a digits step.
-fn has_reference<'a>(form: &[u32], bounds: &'a [u32], marks: &'a [bool], n: u32, p: u32) -> bool
-    requires { ⌜ (n < length (now form)) × (n ≤ 256) ⌝ }
+// Whether one of the signals may be the reference of a digits step.
+fn has_reference<'a>(
+    form: &[u32],
+    signals: &[u32],
+    bounds: &'a [u32],
+    marks: &'a [bool],
+    n: u32,
+    p: u32,
+) -> bool
+    requires { ⌜ SignalsOf (coefIn (now form)) n (now signals) × (n ≤ 256) ⌝ }
     ensures { λ r. ⌜ (r ≡ false → Unreferred p n (coefIn (now (form .entry))) (viewOf p (now (bounds .entry)) (now (marks .entry))) n) ⌝ }
 {
-    let mut r: u32 = 0;
-    while r < n {
-        r = r + 1;
-        if form[r as usize] != 0 {
-            if separated(form, bounds, marks, n, p, r) {
-                return true;
-            }
+    let mut i: usize = 0;
+    while i < signals.len() {
+        let r = signals[i];
+        i = i + 1;
+        if separated(form, bounds, marks, n, p, r) {
+            return true;
         }
     }
     false
@@ -181,8 +181,7 @@ fn low_of(circuit: &[u8], table: &[u32; 513], rows: &[u32], marks: &[bool], n: u
         }
         return t as u64;
     }
-    let form = row_of(rows, n, k);
-    let t = first_live(form, marks, n);
+    let t = first_live(signals_of(rows, n, k), marks);
     if t == 0 {
         return NONE;
     }
@@ -214,14 +213,15 @@ fn floor_of<'a>(
     if !is_linear(part) {
         return low;
     }
+    let signals = signals_of(rows, n, k);
+    if is_crowded(signals, bounds, marks, p) {
+        return NONE;
+    }
     let form = row_of(rows, n, k);
-    if is_crowded(form, bounds, marks, n, p) {
+    if has_equals(form, signals, marks) {
         return NONE;
     }
-    if has_equals(form, marks, n) {
-        return NONE;
-    }
-    if !has_reference(form, bounds, marks, n, p) {
+    if !has_reference(form, signals, bounds, marks, n, p) {
         return NONE;
     }
     low

@@ -26,11 +26,11 @@ pub(crate) fn least(entries: &[u64], m: u32) -> u32
 
 // Forgets what is kept of the constraints in whose rows the signal stands.
 pub(crate) fn forget(rows: &[u32], entries: &mut [u64], n: u32, m: u32, signal: u32)
-    requires { ⌜ ((m + 1) * (n + 1) ≤ length (now rows)) × (m < length (now entries)) × (signal ≤ n) ⌝ }
+    requires { ⌜ ((m + 1) * (2 * (n + 1)) ≤ length (now rows)) × (m < length (now entries)) × (signal ≤ n) ⌝ }
     ensures { λ r. ⌜ ((C : Circuit) → Rows C (now (rows .entry)) → n ≡ C .n → m ≡ C .m
         → Forgotten C signal (now (entries .entry)) (now (entries .exit))) ⌝ }
 {
-    let width = n as usize + 1;
+    let width = 2 * (n as usize + 1);
     let mut at = signal as usize;
     let mut k: u32 = 0;
     while k < m {

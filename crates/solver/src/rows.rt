@@ -1,4 +1,4 @@
-// A table with a row of n + 1 numbers for each constraint: its reduced form if it is linear, else what it names.
+// A table with a row for each constraint: its reduced form if it is linear, else what it names, and a list of the signals that stand in it.
 
 use circuit::bytes::byte_at;
 use circuit::bytes::u16_at;
@@ -14,16 +14,25 @@ ghost use Rattle.circuit.specs.Reader.{formIn, constraintIn};
 ghost use Rattle.rules.specs.View.{coefIn};
 ghost use Rattle.derivation.specs.Inner.{circuitOf};
 ghost use Rattle.solver.specs.Search.{Prepared, involves};
-ghost use Rattle.solver.specs.Rows.{row, IsRow, Rows, NamesAdded, Copied};
+ghost use Rattle.solver.specs.Rows.{row, count, signals, IsRow, Rows, NamesAdded, Copied, Written};
 
-// The row of constraint k.
+// The entries of row k.
 pub(crate) fn row_of(rows: &[u32], n: u32, k: u32) -> &[u32]
-    requires { ⌜ (k + 1) * (n + 1) ≤ length (now rows) ⌝ }
+    requires { ⌜ (k + 1) * (2 * (n + 1)) ≤ length (now rows) ⌝ }
     ensures { λ r. ⌜ now r ≡ row (now (rows .entry)) n k ⌝ }
 {
-    let width = n as usize + 1;
-    let start = k as usize * width;
-    &rows[start..start + width]
+    let start = k as usize * (2 * (n as usize + 1));
+    &rows[start..start + (n as usize + 1)]
+}
+
+// The signals of row k.
+pub(crate) fn signals_of(rows: &[u32], n: u32, k: u32) -> &[u32]
+    requires { ⌜ ((k + 1) * (2 * (n + 1)) ≤ length (now rows)) × (count (now rows) n k ≤ n) ⌝ }
+    ensures { λ r. ⌜ now r ≡ signals (now (rows .entry)) n k ⌝ }
+{
+    let at = k as usize * (2 * (n as usize + 1)) + (n as usize + 1);
+    let count = rows[at] as usize;
+    &rows[at + 1..at + 1 + count]
 }
 
 // Puts 1 at each signal that the form at the start of the part names.
@@ -80,6 +89,23 @@ fn put_row(rows: &mut [u32], start: usize, form: &[u32; 257], n: u32)
     }
 }
 
+// Writes at a place how many signals the form has among 1 to n, and after it the signals.
+fn put_signals(rows: &mut [u32], at: usize, form: &[u32; 257], n: u32)
+    requires { ⌜ (at + (n + 1) ≤ length (now rows)) × (n ≤ 256) ⌝ }
+    ensures { λ r. ⌜ Written (now (form .entry)) (now (rows .entry)) at n (now (rows .exit)) ⌝ }
+{
+    let mut count: usize = 0;
+    let mut s: u32 = 0;
+    while s < n {
+        s = s + 1;
+        if form[s as usize] != 0 {
+            count = count + 1;
+            rows[at + count] = s;
+        }
+    }
+    rows[at] = count as u32;
+}
+
 // Fills the table.
 pub(crate) fn fill_rows(
     circuit: &[u8],
@@ -90,16 +116,17 @@ pub(crate) fn fill_rows(
     m: u32,
 )
     requires { ⌜ Prepared (now circuit) (now table) × (p ≡ circuitOf (now circuit) .p) × (n ≡ circuitOf (now circuit) .n)
-        × (m ≡ circuitOf (now circuit) .m) × ((m + 1) * (n + 1) ≤ length (now rows)) ⌝ }
+        × (m ≡ circuitOf (now circuit) .m) × ((m + 1) * (2 * (n + 1)) ≤ length (now rows)) ⌝ }
     ensures { λ r. ⌜ Rows (circuitOf (now (circuit .entry))) (now (rows .exit)) ⌝ }
 {
-    let width = n as usize + 1;
+    let entries = n as usize + 1;
     let mut start: usize = 0;
     let mut k: u32 = 0;
     while k < m {
         k = k + 1;
-        start = start + width;
+        start = start + 2 * entries;
         let form = form_of(part_of(circuit, table, k), p);
         put_row(rows, start, &form, n);
+        put_signals(rows, start + entries, &form, n);
     }
 }

@@ -26,7 +26,10 @@ add-if2-2 : tie.Need-add-if2-2
 add-if2-2 c = search needs
 
 mul-if2 : tie.Need-mul-if2
-mul-if2 c =
+mul-if2 c = search needs
+
+mul-if2-2 : tie.Need-mul-if2-2
+mul-if2-2 c =
     let entry = c .before .before .before in
     omega (arith, laws.rows-fit _ _ _ _ _ _ (entry .pre .0) (entry .pre .1) (entry .pre .2))
 
@@ -72,6 +75,7 @@ solve-on-spec =
     add-if2
     add-if2-2
     mul-if2
+    mul-if2-2
     slice-aggregate-solve-with
     solve-with-requires
     same-length

@@ -1,46 +1,70 @@
 -- `solver::marks::first_live`: none of the signals passed is unmarked.
 use Prim.Native.Nat.{ℕ, _-_, _≤_}
-use mathlib.Core.Path.{sym, _∙_}
 use native.Mathlib.Omega.{arith}
-use borrow.Author.Needs.{needs}
-use Rattle.laws.specs.Rules.{live}
+use lib.ListN.{length}
 use Rattle.rules.specs.View.{coefIn}
+use Rattle.solver.specs.Rows.{reach, SignalsOf}
+use borrow.Author.Tests.{not-false}
 use Rattle.solver.specs.Marks.{withMarks}
+use Rattle.solver.proofs.ListLaws.{next}
 use Rattle.solver.proofs.MarkLaws as laws
+use borrow.Author.Needs.{needs}
 use Rattle.solver.proofs.marks.first_live.Statement.{statement}
 use Rattle.solver.proofs.marks.first_live.Tie as tie
 use Rattle.solver.proofs.marks.first_live.Reads as reads
 use Rattle.solver.proofs.marks.first_live.Lts as lts
-use Rattle.solver.proofs.marks.is_live.Reads as is-live-reads
 
 abbrev Inv-loop : tie.InvT-loop
-Inv-loop form marks n s₀ s = (s ≤ n) × ((b : ℕ → ℕ) → laws.Passed (live (coefIn form) (withMarks b marks)) s)
+Inv-loop signals marks i₀ i =
+    (i ≤ length signals)
+    × ((form : ℕ → ℕ) (n : ℕ) → SignalsOf form n signals → (b : ℕ → ℕ) → laws.Passed form (withMarks b marks) (reach (coefIn signals) i))
 
 abbrev μ-loop : tie.MeasureT-loop
-μ-loop form marks n s₀ s = n - s
+μ-loop signals marks i₀ i = length signals - i
 
 loop-holds : tie.Need-loop-holds Inv-loop μ-loop
-loop-holds c = (omega arith, λ b. laws.passed-start _)
+loop-holds c =
+    (omega arith, λ form n L b. laws.passed-start _ _ _)
 
-add-s : tie.Need-add-s Inv-loop μ-loop
-add-s c = search needs
+mul-s : tie.Need-mul-s Inv-loop μ-loop
+mul-s c = search needs
 
-is-live-requires : tie.Need-is-live-requires Inv-loop μ-loop
-is-live-requires c κs = (omega arith, omega arith, omega arith)
+shared-slice-read-s : tie.Need-shared-slice-read-s Inv-loop μ-loop
+shared-slice-read-s c = search needs
+
+add-i : tie.Need-add-i Inv-loop μ-loop
+add-i c = search needs
+
+cast-if1 : tie.Need-cast-if1 Inv-loop μ-loop
+cast-if1 c =
+    record { fits = omega (arith, c .before .before .before .pre .each _ (c .before .loop-test .taken)) }
+
+shared-slice-read-if1 : tie.Need-shared-slice-read-if1 Inv-loop μ-loop
+shared-slice-read-if1 c =
+    let entry = c .before .before .before .before in
+    entry .pre .each _ (c .before .before .loop-test .taken)
 
 returns : tie.Need-returns Inv-loop μ-loop
-returns c = λ b. laws.first-found _ _ _ _ (c .before .before .before .loop .inv .1 b) (c .before .before .loop-test .taken)
+returns c =
+    let at-loop = c .before .before .before .before in
+    λ form n L b. laws.first-found _ _ _ _ _ _ (next _ _ _ L _ (c .before .before .before .loop-test .taken)) (at-loop .loop .inv .1 form n L b)
 
 loop-less : tie.Need-loop-less Inv-loop μ-loop
 loop-less c = search needs
 
 loop-again : tie.Need-loop-again Inv-loop μ-loop
 loop-again c =
-    let at-loop = c .before .before .before in
-    (omega arith, λ b. laws.passed-on _ _ (at-loop .loop .inv .1 b) (sym (c .before .is-live .ensures b) ∙ c .if1 .left))
+    let at-loop-test = c .before .before .before in
+    let at-loop = at-loop-test .before in (
+      omega (arith, at-loop-test .loop-test .taken),
+      λ form n L b. laws.passed-on _ _ _ _ _ _ (next _ _ _ L _ (at-loop-test .loop-test .taken)) (at-loop .loop .inv .1 form n L b)
+          (laws.mark-read _ _ (not-false _ (c .if1 .left))),
+    )
 
 returns-2 : tie.Need-returns-2 Inv-loop μ-loop
-returns-2 c = λ b. laws.first-none _ _ _ _ (c .before .loop .inv .1 b) (c .loop-test .left)
+returns-2 c =
+    let at-loop = c .before in
+    λ form n L b. laws.first-none _ _ _ _ L _ (c .loop-test .left) (at-loop .loop .inv .0) (at-loop .loop .inv .1 form n L b)
 
 pub first-live-spec : {M : Type 1} → statement M
 first-live-spec =
@@ -49,8 +73,11 @@ first-live-spec =
     Inv-loop
     μ-loop
     loop-holds
-    add-s
-    is-live-requires
+    mul-s
+    shared-slice-read-s
+    add-i
+    cast-if1
+    shared-slice-read-if1
     returns
     loop-less
     loop-again

@@ -1,8 +1,10 @@
 -- `solver::marks::floor_of`: each way out is one law.
+use mathlib.Core.Path.{refl}
 use native.Mathlib.Omega.{arith}
 use borrow.Author.Needs.{needs}
 use borrow.Author.Tests.{not-true, not-false}
-use Rattle.solver.proofs.RowLaws.{row-inside, row-sized}
+use Rattle.solver.proofs.RowLaws.{row-inside, row-sized, row-few, row-signals}
+use Rattle.solver.proofs.ListLaws.{below}
 use Rattle.solver.proofs.MarkLaws as laws
 use Rattle.solver.proofs.marks.floor_of.Statement.{statement}
 use Rattle.solver.proofs.marks.floor_of.Tie as tie
@@ -14,6 +16,7 @@ use Rattle.solver.proofs.marks.has_reference.Reads as has-reference-rea
 use Rattle.solver.proofs.marks.has_equals.Reads as has-equals-reads
 use Rattle.solver.proofs.marks.is_crowded.Reads as is-crowded-reads
 use Rattle.solver.proofs.rows.row_of.Reads as row-of-reads
+use Rattle.solver.proofs.rows.signals_of.Reads as signals-of-reads
 
 returns : tie.Need-returns
 returns c = search needs
@@ -27,58 +30,71 @@ is-linear-requires c κs = search needs
 returns-2 : tie.Need-returns-2
 returns-2 c = search needs
 
-row-of-requires : tie.Need-row-of-requires
-row-of-requires c κs =
-    let pre = c .before .before .before .before .before .before .before .before .before .pre in
-    row-inside _ _ (pre .4) _ _ (pre .0 .is-n) (pre .2)
+signals-of-requires : tie.Need-signals-of-requires
+signals-of-requires c κs =
+    let entry = c .before .before .before .before .before .before .before .before .before in (
+      row-inside _ _ (entry .pre .4) _ _ (entry .pre .0 .is-n) (entry .pre .2),
+      row-few _ _ (entry .pre .4) _ _ (entry .pre .0 .is-n) (entry .pre .2) (entry .pre .1),
+    )
 
 is-crowded-requires : tie.Need-is-crowded-requires
 is-crowded-requires c κs =
     let entry = c .before .before .before .before .before .before .before .before .before .before in
     let s = laws.sizes (entry .pre .0) in
-    let l = row-sized _ _ (entry .pre .4) _ _ (entry .pre .0 .is-n) (entry .pre .2) _ (c .row-of .ensures) in
-    (omega arith, omega (arith, entry .pre .0 .bounds-sized), omega (arith, entry .pre .0 .marks-sized), omega arith)
+    let L = row-signals _ _ (entry .pre .4) _ _ (entry .pre .0 .is-n) (entry .pre .2) (entry .pre .1) _ refl _ (c .signals-of .ensures) in
+    (below _ _ _ L _ (omega (arith, entry .pre .0 .bounds-sized)), below _ _ _ L _ (omega (arith, entry .pre .0 .marks-sized)), omega arith)
 
 returns-3 : tie.Need-returns-3
 returns-3 c =
-    let at-row-of = c .before .before in
-    let at-if2 = at-row-of .before in
-    let at-is-linear = at-if2 .before in
+    let at-is-linear = c .before .before .before .before in
     let at-part-of = at-is-linear .before in
     let entry = at-part-of .before .before .before .before .before .before .before in
+    let L = row-signals _ _ (entry .pre .4) _ _ (entry .pre .0 .is-n) (entry .pre .2) (entry .pre .1) _ refl _ (c .before .before .signals-of .ensures) in
     laws.floor-crowded _ _ (entry .pre .0 .prepared) _ (entry .pre .1) (entry .pre .2) _ (at-part-of .part-of .ensures) _
-    (at-is-linear .is-linear .ensures) _ (not-false _ (at-if2 .if2 .left)) _ (entry .pre .4) _ (entry .pre .0 .is-n) _ (at-row-of .row-of .ensures) _
-    (entry .pre .0 .is-p) (c .before .is-crowded .ensures (c .if3 .taken))
+    (at-is-linear .is-linear .ensures) _ (not-false _ (c .before .before .before .if2 .left)) _ (entry .pre .4) _ (entry .pre .0 .is-n) _ refl _
+    (entry .pre .0 .is-p) (c .before .is-crowded .ensures (c .if3 .taken) _ _ L)
+
+row-of-requires : tie.Need-row-of-requires
+row-of-requires c κs =
+    let entry = c .before .before .before .before .before .before .before .before .before .before .before .before in
+    row-inside _ _ (entry .pre .4) _ _ (entry .pre .0 .is-n) (entry .pre .2)
 
 has-equals-requires : tie.Need-has-equals-requires
 has-equals-requires c κs =
-    let entry = c .before .before .before .before .before .before .before .before .before .before .before .before in
+    let entry = c .before .before .before .before .before .before .before .before .before .before .before .before .before in
     let s = laws.sizes (entry .pre .0) in
-    let l = row-sized _ _ (entry .pre .4) _ _ (entry .pre .0 .is-n) (entry .pre .2) _ (c .before .before .row-of .ensures) in
-    (omega arith, omega (arith, entry .pre .0 .marks-sized), omega arith)
+    let size = row-sized _ _ (entry .pre .4) _ _ (entry .pre .0 .is-n) (entry .pre .2) _ (c .row-of .ensures) in
+    let L = row-signals _ _ (entry .pre .4) _ _ (entry .pre .0 .is-n) (entry .pre .2) (entry .pre .1) _ (c .row-of .ensures) _
+    (c .before .before .before .signals-of .ensures) in
+    (below _ _ _ L _ (omega arith), below _ _ _ L _ (omega (arith, entry .pre .0 .marks-sized)), omega (arith, L .few))
 
 returns-4 : tie.Need-returns-4
 returns-4 c =
-    let at-row-of = c .before .before .before .before in
-    let at-if2 = at-row-of .before in
+    let at-row-of = c .before .before in
+    let at-signals-of = at-row-of .before .before .before in
+    let at-if2 = at-signals-of .before in
     let at-is-linear = at-if2 .before in
     let at-part-of = at-is-linear .before in
     let entry = at-part-of .before .before .before .before .before .before .before in
+    let L = row-signals _ _ (entry .pre .4) _ _ (entry .pre .0 .is-n) (entry .pre .2) (entry .pre .1) _ (at-row-of .row-of .ensures) _
+    (at-signals-of .signals-of .ensures) in
     laws.floor-equal _ _ (entry .pre .0 .prepared) _ (entry .pre .1) (entry .pre .2) _ (at-part-of .part-of .ensures) _
     (at-is-linear .is-linear .ensures) _ (not-false _ (at-if2 .if2 .left)) _ (entry .pre .4) _ (entry .pre .0 .is-n) _ (at-row-of .row-of .ensures)
-    (laws.view-equals _ _ _ _ _ (c .before .has-equals .ensures (c .if4 .taken)))
+    (laws.view-equals _ _ _ _ _ (c .before .has-equals .ensures (c .if4 .taken) _ L))
 
 has-reference-requires : tie.Need-has-reference-requires
 has-reference-requires c κs =
-    let entry = c .before .before .before .before .before .before .before .before .before .before .before .before .before .before in
+    let at-signals-of = c .before .before .before .before .before in
+    let entry = at-signals-of .before .before .before .before .before .before .before .before .before .before in
     let s = laws.sizes (entry .pre .0) in
-    let l = row-sized _ _ (entry .pre .4) _ _ (entry .pre .0 .is-n) (entry .pre .2) _ (c .before .before .before .before .row-of .ensures) in
-    (omega arith, omega arith)
+    let L = row-signals _ _ (entry .pre .4) _ _ (entry .pre .0 .is-n) (entry .pre .2) (entry .pre .1) _ (c .before .before .row-of .ensures) _
+    (at-signals-of .signals-of .ensures) in
+    (L, omega arith)
 
 returns-5 : tie.Need-returns-5
 returns-5 c =
-    let at-row-of = c .before .before .before .before .before .before in
-    let at-if2 = at-row-of .before in
+    let at-row-of = c .before .before .before .before in
+    let at-if2 = at-row-of .before .before .before .before in
     let at-is-linear = at-if2 .before in
     let at-part-of = at-is-linear .before in
     let entry = at-part-of .before .before .before .before .before .before .before in
@@ -97,9 +113,10 @@ floor-of-spec =
     part-of-requires
     is-linear-requires
     returns-2
-    row-of-requires
+    signals-of-requires
     is-crowded-requires
     returns-3
+    row-of-requires
     has-equals-requires
     returns-4
     has-reference-requires

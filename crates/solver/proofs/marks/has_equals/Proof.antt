@@ -1,57 +1,76 @@
 -- `solver::marks::has_equals`: the coefficients of the unmarked signals passed are gathered.
-use Prim.Native.Nat.{ℕ, _-_, _≤_}
-use mathlib.Core.Path.{_≡_, refl, sym, _∙_}
+use mathlib.Core.Path.{_≡_, refl, _∙_}
 use mathlib.Core.Bool.{false}
+use Prim.Native.Nat.{ℕ, _-_, _≤_}
 use native.Mathlib.Omega.{arith}
-use borrow.Author.Needs.{needs}
 use lib.ListN.{length, length-set}
-use Rattle.laws.proofs.Sum.{true-or-false}
 use Rattle.rules.specs.View.{coefIn}
+use Rattle.solver.specs.Rows.{reach, SignalsOf}
+use borrow.Author.Tests.{not-true}
+use Rattle.laws.proofs.Sum.{true-or-false}
 use Rattle.solver.specs.Marks.{withMarks}
+use Rattle.solver.proofs.ListLaws.{next}
 use Rattle.solver.proofs.MarkLaws as laws
+use borrow.Author.Needs.{needs}
 use Rattle.solver.proofs.marks.has_equals.Statement.{statement}
 use Rattle.solver.proofs.marks.has_equals.Tie as tie
 use Rattle.solver.proofs.marks.has_equals.Reads as reads
 use Rattle.solver.proofs.marks.has_equals.Lts as lts
 use Rattle.solver.proofs.marks.is_among.Reads as is-among-reads
-use Rattle.solver.proofs.marks.is_live.Reads as is-live-reads
 
 abbrev Inv-loop : tie.InvT-loop
-Inv-loop form marks n seen₀ count₀ s₀ seen count s =
-    (s ≤ n) × (count ≤ s) × (length seen ≡ 257) × ((b : ℕ → ℕ) → laws.Gathered (coefIn form) (withMarks b marks) s seen count)
+Inv-loop form signals marks seen₀ count₀ i₀ seen count i =
+    (i ≤ length signals) × (count ≤ i) × (length seen ≡ 257)
+    × ((n : ℕ) → SignalsOf (coefIn form) n signals → (b : ℕ → ℕ)
+    → laws.Gathered (coefIn form) (withMarks b marks) (reach (coefIn signals) i) seen count)
 
 abbrev μ-loop : tie.MeasureT-loop
-μ-loop form marks n seen₀ count₀ s₀ seen count s = n - s
+μ-loop form signals marks seen₀ count₀ i₀ seen count i = length signals - i
 
 loop-holds : tie.Need-loop-holds Inv-loop μ-loop
-loop-holds c = (omega arith, omega arith, search needs, λ b. laws.gathered-start _ _ _)
+loop-holds c =
+    (omega arith, omega arith, search needs, λ n L b. laws.gathered-start _ _ _ _)
 
-add-s : tie.Need-add-s Inv-loop μ-loop
-add-s c = search needs
+mul-at : tie.Need-mul-at Inv-loop μ-loop
+mul-at c = search needs
 
-is-live-requires : tie.Need-is-live-requires Inv-loop μ-loop
-is-live-requires c κs = (omega arith, omega arith, omega arith)
+shared-slice-read-at : tie.Need-shared-slice-read-at Inv-loop μ-loop
+shared-slice-read-at c = search needs
 
-cast-coef : tie.Need-cast-coef Inv-loop μ-loop
-cast-coef c = search needs
+cast-at : tie.Need-cast-at Inv-loop μ-loop
+cast-at c =
+    let entry = c .before .before .before .before .before .before in
+    record { fits = omega (arith, entry .pre .0 .each _ (c .before .loop-test .taken)) }
+
+add-i : tie.Need-add-i Inv-loop μ-loop
+add-i c = search needs
+
+shared-slice-read-if1 : tie.Need-shared-slice-read-if1 Inv-loop μ-loop
+shared-slice-read-if1 c =
+    let entry = c .before .before .before .before .before .before .before in
+    entry .pre .1 .each _ (c .before .before .loop-test .taken)
 
 mul-coef : tie.Need-mul-coef Inv-loop μ-loop
-mul-coef c = search needs
+mul-coef c =
+    let entry = c .before .before .before .before .before .before .before .before in
+    omega (arith, entry .pre .0 .each _ (c .before .before .before .loop-test .taken))
 
 shared-slice-read-coef : tie.Need-shared-slice-read-coef Inv-loop μ-loop
-shared-slice-read-coef c = search needs
+shared-slice-read-coef c =
+    let at-loop-test = c .before .before .before .before in
+    let entry = at-loop-test .before .before .before .before .before in
+    entry .pre .0 .each _ (at-loop-test .loop-test .taken)
 
 is-among-requires : tie.Need-is-among-requires Inv-loop μ-loop
 is-among-requires c κs = search needs
 
 returns : tie.Need-returns Inv-loop μ-loop
 returns c =
-    let at-is-live = c .before .before .before .before .before in
-    let at-loop-test = at-is-live .before in
+    let at-if1 = c .before .before .before .before in
+    let at-loop-test = at-if1 .before .before .before in
     let at-loop = at-loop-test .before in
-    λ e b. laws.gathered-equal _ _ _ _ _ (at-loop .loop .inv .3 b)
-    (sym (at-is-live .is-live .ensures b) ∙ c .before .before .before .before .if1 .taken) _ (laws.coef-read _ _) _
-    (at-loop-test .loop-test .taken) (c .before .is-among .ensures (c .if2 .taken))
+    λ e n L b. laws.gathered-equal _ _ _ _ _ _ (next _ _ _ L _ (at-loop-test .loop-test .taken)) _ _ (at-loop .loop .inv .3 n L b)
+    (laws.mark-read _ _ (not-true _ (at-if1 .if1 .taken))) _ (laws.coef-read _ _) (c .before .is-among .ensures (c .if2 .taken))
 
 mul-seen : tie.Need-mul-seen Inv-loop μ-loop
 mul-seen c = search needs
@@ -67,14 +86,16 @@ loop-less c = search needs
 
 loop-again : tie.Need-loop-again Inv-loop μ-loop
 loop-again c =
-    let at-is-live = c .before .before .before .before .before in
-    let at-loop = at-is-live .before .before in
-    let l = at-loop .loop in (
-      omega arith,
-      omega arith,
-      length-set (l .seen) (l .count) _ ∙ l .inv .2,
-      λ b. laws.gathered-new _ _ _ _ _ (l .inv .3 b) (sym (at-is-live .is-live .ensures b) ∙ c .before .before .before .before .if1 .taken) _
-          (laws.coef-read _ _) (omega (arith, l .inv .2)),
+    let at-if1 = c .before .before .before .before in
+    let at-loop-test = at-if1 .before .before .before in
+    let at-loop = at-loop-test .before in
+    let entry = at-loop .before .before .before .before in (
+      omega (arith, at-loop-test .loop-test .taken),
+      omega (arith, at-loop .loop .inv .1),
+      length-set (at-loop .loop .seen) (at-loop .loop .count) _ ∙ at-loop .loop .inv .2,
+      λ n L b. laws.gathered-new _ _ _ _ _ _ (next _ _ _ L _ (at-loop-test .loop-test .taken)) _ _ (at-loop .loop .inv .3 n L b)
+          (laws.mark-read _ _ (not-true _ (at-if1 .if1 .taken))) _ (laws.coef-read _ _)
+          (omega (arith, at-loop .loop .inv .1, at-loop .loop .inv .2, at-loop-test .loop-test .taken, entry .pre .2)),
     )
 
 loop-less-2 : tie.Need-loop-less-2 Inv-loop μ-loop
@@ -82,11 +103,17 @@ loop-less-2 c = search needs
 
 loop-again-2 : tie.Need-loop-again-2 Inv-loop μ-loop
 loop-again-2 c =
-    let l = c .before .before .before .loop in
-    (omega arith, omega arith, l .inv .2, λ b. laws.gathered-on _ _ _ _ _ (l .inv .3 b))
+    let at-loop-test = c .before .before .before in
+    let at-loop = at-loop-test .before in (
+      omega (arith, at-loop-test .loop-test .taken),
+      omega (arith, at-loop .loop .inv .1),
+      at-loop .loop .inv .2,
+      λ n L b. laws.gathered-on _ _ _ _ _ _ (next _ _ _ L _ (at-loop-test .loop-test .taken)) _ _ (at-loop .loop .inv .3 n L b),
+    )
 
 returns-2 : tie.Need-returns-2 Inv-loop μ-loop
-returns-2 c = λ e. true-or-false false e refl
+returns-2 c =
+    λ e. true-or-false false e refl
 
 pub has-equals-spec : {M : Type 1} → statement M
 has-equals-spec =
@@ -95,9 +122,11 @@ has-equals-spec =
     Inv-loop
     μ-loop
     loop-holds
-    add-s
-    is-live-requires
-    cast-coef
+    mul-at
+    shared-slice-read-at
+    cast-at
+    add-i
+    shared-slice-read-if1
     mul-coef
     shared-slice-read-coef
     is-among-requires

@@ -1,13 +1,16 @@
 -- `solver::marks::has_reference`: none of the signals passed is a reference.
-use Prim.Native.Nat.{_-_, _≤_}
-use mathlib.Core.Path.{_≡_, refl, sym, _∙_}
+use mathlib.Core.Path.{refl, sym, _∙_}
 use mathlib.Core.Bool.{true}
+use Prim.Native.Nat.{ℕ, _-_, _≤_}
 use native.Mathlib.Omega.{arith}
-use borrow.Author.Needs.{needs}
-use Rattle.laws.proofs.Sum.{true-or-false}
+use lib.ListN.{length}
 use Rattle.rules.specs.View.{coefIn, viewOf}
+use Rattle.solver.specs.Rows.{reach}
+use Rattle.laws.proofs.Sum.{true-or-false}
 use Rattle.solver.specs.Marks.{Unreferred}
+use Rattle.solver.proofs.ListLaws.{next}
 use Rattle.solver.proofs.MarkLaws as laws
+use borrow.Author.Needs.{needs}
 use Rattle.solver.proofs.marks.has_reference.Statement.{statement}
 use Rattle.solver.proofs.marks.has_reference.Tie as tie
 use Rattle.solver.proofs.marks.has_reference.Reads as reads
@@ -15,56 +18,50 @@ use Rattle.solver.proofs.marks.has_reference.Lts as lts
 use Rattle.rules.proofs.digits.separated.Reads as separated-reads
 
 abbrev Inv-loop : tie.InvT-loop
-Inv-loop form bounds marks n p r₀ r = (r ≤ n) × Unreferred p n (coefIn form) (viewOf p bounds marks) r
+Inv-loop form signals bounds marks n p i₀ i =
+    (i ≤ length signals) × Unreferred p n (coefIn form) (viewOf p bounds marks) (reach (coefIn signals) i)
 
 abbrev μ-loop : tie.MeasureT-loop
-μ-loop form bounds marks n p r₀ r = n - r
+μ-loop form signals bounds marks n p i₀ i = length signals - i
 
 loop-holds : tie.Need-loop-holds Inv-loop μ-loop
-loop-holds c = (omega arith, laws.unreferred-start _ _ _ _)
+loop-holds c =
+    (omega arith, laws.unreferred-start _ _ _ _ _)
 
-add-r : tie.Need-add-r Inv-loop μ-loop
-add-r c = search needs
+mul-r : tie.Need-mul-r Inv-loop μ-loop
+mul-r c = search needs
 
-cast-if1 : tie.Need-cast-if1 Inv-loop μ-loop
-cast-if1 c = search needs
+shared-slice-read-r : tie.Need-shared-slice-read-r Inv-loop μ-loop
+shared-slice-read-r c = search needs
 
-mul-if1 : tie.Need-mul-if1 Inv-loop μ-loop
-mul-if1 c = search needs
-
-shared-slice-read-if1 : tie.Need-shared-slice-read-if1 Inv-loop μ-loop
-shared-slice-read-if1 c = search needs
+add-i : tie.Need-add-i Inv-loop μ-loop
+add-i c = search needs
 
 separated-requires : tie.Need-separated-requires Inv-loop μ-loop
 separated-requires c κs = search needs
 
 returns : tie.Need-returns Inv-loop μ-loop
-returns c = λ e. true-or-false true refl e
+returns c =
+    λ e. true-or-false true refl e
 
 loop-less : tie.Need-loop-less Inv-loop μ-loop
 loop-less c = search needs
 
 loop-again : tie.Need-loop-again Inv-loop μ-loop
 loop-again c =
-    let at-loop = c .before .before .before .before .before in
-    let entry = at-loop .before .before .before .before in (
-      omega arith,
-      laws.unreferred-on _ _ _ _ _ (at-loop .loop .inv .1)
-          (λ e. sym (laws.tested _ _ _ _ _ _ (entry .pre .1) (c .before .separated .ensures)) ∙ c .if2 .left),
+    let at-loop-test = c .before .before .before in
+    let at-loop = at-loop-test .before in
+    let entry = at-loop .before .before .before .before .before in (
+      omega (arith, at-loop-test .loop-test .taken),
+      laws.unreferred-on _ _ _ _ _ _ _ (next _ _ _ (entry .pre .0) _ (at-loop-test .loop-test .taken)) (at-loop .loop .inv .1)
+          (sym (laws.tested _ _ _ _ _ _ (entry .pre .1) (c .before .separated .ensures)) ∙ c .if1 .left),
     )
 
-loop-less-2 : tie.Need-loop-less-2 Inv-loop μ-loop
-loop-less-2 c = search needs
-
-loop-again-2 : tie.Need-loop-again-2 Inv-loop μ-loop
-loop-again-2 c =
-    let at-loop = c .before .before .before in
-    (omega arith, laws.unreferred-on _ _ _ _ _ (at-loop .loop .inv .1) (λ e. true-or-false _ e (laws.absent _ _ (c .if1 .left))))
-
 returns-2 : tie.Need-returns-2 Inv-loop μ-loop
-returns-2 c = λ e.
-    let z : c .before .loop .r ≡ c .before .before .before .before .before .args .n = omega arith in
-    rw z at (c .before .loop .inv .1)
+returns-2 c =
+    let at-loop = c .before in
+    let entry = at-loop .before .before .before .before .before in
+    λ e. laws.unreferred-end _ _ _ _ _ (entry .pre .0) _ (c .loop-test .left) (at-loop .loop .inv .0) (at-loop .loop .inv .1)
 
 pub has-reference-spec : {M : Type 1} → statement M
 has-reference-spec =
@@ -73,14 +70,11 @@ has-reference-spec =
     Inv-loop
     μ-loop
     loop-holds
-    add-r
-    cast-if1
-    mul-if1
-    shared-slice-read-if1
+    mul-r
+    shared-slice-read-r
+    add-i
     separated-requires
     returns
     loop-less
     loop-again
-    loop-less-2
-    loop-again-2
     returns-2)

@@ -1,9 +1,11 @@
 -- `solver::marks::low_of`: each way out is one law.
+use mathlib.Core.Path.{refl}
 use native.Mathlib.Omega.{arith}
 use borrow.Author.Needs.{needs}
 use borrow.Author.Tests.{not-true, not-false}
 use Rattle.solver.proofs.CandidateLaws.{well-formed}
-use Rattle.solver.proofs.RowLaws.{row-inside, row-sized}
+use Rattle.solver.proofs.RowLaws.{row-inside, row-few, row-signals}
+use Rattle.solver.proofs.ListLaws.{below}
 use Rattle.solver.proofs.MarkLaws as laws
 use Rattle.solver.proofs.marks.low_of.Statement.{statement}
 use Rattle.solver.proofs.marks.low_of.Tie as tie
@@ -14,7 +16,7 @@ use Rattle.derivation.proofs.offsets.part_of.Reads as part-of-reads
 use Rattle.rules.proofs.constraint.is_linear.Reads as is-linear-reads
 use Rattle.rules.proofs.constraint.product_met.Reads as product-met-reads
 use Rattle.solver.proofs.marks.first_live.Reads as first-live-reads
-use Rattle.solver.proofs.rows.row_of.Reads as row-of-reads
+use Rattle.solver.proofs.rows.signals_of.Reads as signals-of-reads
 use Rattle.solver.proofs.search.unmarked_in.Reads as unmarked-in-reads
 
 part-of-requires : tie.Need-part-of-requires
@@ -78,42 +80,42 @@ returns-3 c =
     (at-is-linear .is-linear .ensures) _ (not-true _ (at-if1 .if1 .taken)) _ _ (at-after-form .after-form .ensures)
     (at-after-form2 .after-form2 .ensures) _ (at-unmarked-in .unmarked-in .ensures)
 
-row-of-requires : tie.Need-row-of-requires
-row-of-requires c κs =
-    let pre = c .before .before .before .before .before .before .before .pre in
-    row-inside _ _ (pre .1) _ _ (pre .2) (pre .5)
+signals-of-requires : tie.Need-signals-of-requires
+signals-of-requires c κs =
+    let entry = c .before .before .before .before .before .before .before in (
+      row-inside _ _ (entry .pre .1) _ _ (entry .pre .2) (entry .pre .5),
+      row-few _ _ (entry .pre .1) _ _ (entry .pre .2) (entry .pre .5) (entry .pre .4),
+    )
 
 first-live-requires : tie.Need-first-live-requires
 first-live-requires c κs =
-    let pre = c .before .before .before .before .before .before .before .before .pre in
-    let W = well-formed _ _ (pre .0) in
-    let l = row-sized _ _ (pre .1) _ _ (pre .2) (pre .5) _ (c .row-of .ensures) in
-    (omega arith, omega (arith, W .n-most, pre .2, pre .3))
+    let entry = c .before .before .before .before .before .before .before .before in
+    let W = well-formed _ _ (entry .pre .0) in
+    let L = row-signals _ _ (entry .pre .1) _ _ (entry .pre .2) (entry .pre .5) (entry .pre .4) _ refl _ (c .signals-of .ensures) in
+    below _ _ _ L _ (omega (arith, W .n-most, entry .pre .2, entry .pre .3))
 
 returns-4 : tie.Need-returns-4
 returns-4 c =
-    let at-row-of = c .before .before in
-    let at-if1 = at-row-of .before in
-    let at-is-linear = at-if1 .before in
+    let at-is-linear = c .before .before .before .before in
     let at-part-of = at-is-linear .before in
     let entry = at-part-of .before .before .before .before .before in
+    let L = row-signals _ _ (entry .pre .1) _ _ (entry .pre .2) (entry .pre .5) (entry .pre .4) _ refl _ (c .before .before .signals-of .ensures) in
     λ b. laws.floor-none _ _ (entry .pre .0) _ (entry .pre .4) (entry .pre .5) _ (at-part-of .part-of .ensures) _
-    (at-is-linear .is-linear .ensures) _ (not-false _ (at-if1 .if1 .left)) _ (entry .pre .1) _ (entry .pre .2) _ (at-row-of .row-of .ensures) _
-    (c .before .first-live .ensures b) (c .if4 .taken)
+    (at-is-linear .is-linear .ensures) _ (not-false _ (c .before .before .before .if1 .left)) _ (entry .pre .1) _ (entry .pre .2) _ refl _
+    (c .before .first-live .ensures _ _ L b) (c .if4 .taken)
 
 cast-result-2 : tie.Need-cast-result-2
 cast-result-2 c = search needs
 
 returns-5 : tie.Need-returns-5
 returns-5 c =
-    let at-row-of = c .before .before in
-    let at-if1 = at-row-of .before in
-    let at-is-linear = at-if1 .before in
+    let at-is-linear = c .before .before .before .before in
     let at-part-of = at-is-linear .before in
     let entry = at-part-of .before .before .before .before .before in
+    let L = row-signals _ _ (entry .pre .1) _ _ (entry .pre .2) (entry .pre .5) (entry .pre .4) _ refl _ (c .before .before .signals-of .ensures) in
     λ b. laws.floor-digits _ _ (entry .pre .0) _ (entry .pre .4) (entry .pre .5) _ (at-part-of .part-of .ensures) _
-    (at-is-linear .is-linear .ensures) _ (not-false _ (at-if1 .if1 .left)) _ (entry .pre .1) _ (entry .pre .2) _ (at-row-of .row-of .ensures) _
-    (c .before .first-live .ensures b)
+    (at-is-linear .is-linear .ensures) _ (not-false _ (c .before .before .before .if1 .left)) _ (entry .pre .1) _ (entry .pre .2) _ refl _
+    (c .before .first-live .ensures _ _ L b)
 
 pub low-of-spec : {M : Type 1} → statement M
 low-of-spec =
@@ -129,7 +131,7 @@ low-of-spec =
     returns-2
     cast-result
     returns-3
-    row-of-requires
+    signals-of-requires
     first-live-requires
     returns-4
     cast-result-2

@@ -12,13 +12,16 @@ use Rattle.solver.proofs.memo.forget.Lts as lts
 
 abbrev Inv-loop : tie.InvT-loop
 Inv-loop rows entries₀ n m signal width at₀ k₀ entries at k =
-    (k ≤ m) × (at ≡ k * (n + 1) + signal) × (length entries ≡ length entries₀) × laws.Forgetting rows n signal k entries₀ entries
+    (k ≤ m) × (at ≡ k * (2 * (n + 1)) + signal) × (length entries ≡ length entries₀) × laws.Forgetting rows n signal k entries₀ entries
 
 abbrev μ-loop : tie.MeasureT-loop
 μ-loop rows entries₀ n m signal width at₀ k₀ entries at k = m - k
 
 add-width : tie.Need-add-width Inv-loop μ-loop
 add-width c = search needs
+
+mul-width : tie.Need-mul-width Inv-loop μ-loop
+mul-width c = search needs
 
 loop-holds : tie.Need-loop-holds Inv-loop μ-loop
 loop-holds c = (omega arith, omega arith, refl, laws.forgetting-start _ _ _ _)
@@ -82,6 +85,7 @@ forget-spec =
     Inv-loop
     μ-loop
     add-width
+    mul-width
     loop-holds
     add-k
     add-at
