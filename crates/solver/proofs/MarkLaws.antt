@@ -187,11 +187,6 @@ pub view-live : (p : ℕ) (bounds : List ℕ) (marks : List Bool) (R : ℕ → �
 unfolding viewOf
 view-live p bounds marks R s r h = h (boundIn p bounds)
 
-pub view-equals : (p : ℕ) (bounds : List ℕ) (marks : List Bool) (R : ℕ → ℕ) (n : ℕ) → ((b : ℕ → ℕ) → Equals n R (withMarks b marks))
-    → Equals n R (viewOf p bounds marks)
-unfolding viewOf
-view-equals p bounds marks R n h = h (boundIn p bounds)
-
 pub view-floors : (C : Circuit) (p : ℕ) (bounds : List ℕ) (marks : List Bool) (before later : List ℕ)
     → ((b : ℕ → ℕ) → Floors C (withMarks b marks) before → Floors C (withMarks b marks) later)
     → Floors C (viewOf p bounds marks) before → Floors C (viewOf p bounds marks) later
@@ -321,12 +316,11 @@ module _ (c table : List ℕ) (P : Prepared c table) (k : ℕ) (first : 1 ≤ k)
         pub floor-digits : IsFloor C S k t
         floor-digits = floors.digits-floor C W S k (linear-at ∙ linear) t first-at
 
-      pub floor-equal : Equals n (coefIn form) S → IsFloor C S k bounds′.none
-      floor-equal X = floors.digits-equal C W S k (linear-at ∙ linear) (rw (is-form, is-n) at X)
-
       module _ (p : ℕ) (is-p : p ≡ C .p) where
-        pub floor-crowded : Crowded p n (coefIn form) S → IsFloor C S k bounds′.none
-        floor-crowded X = floors.digits-crowded C W S k (linear-at ∙ linear) (rw (is-form, is-p, is-n) at X)
+        pub floor-hopeless : Equals n (coefIn form) S ⊎ Crowded p n (coefIn form) S → IsFloor C S k bounds′.none
+        floor-hopeless =
+            ⊎-elim (λ X. floors.digits-equal C W S k (linear-at ∙ linear) (rw (is-form, is-n) at X))
+            (λ X. floors.digits-crowded C W S k (linear-at ∙ linear) (rw (is-form, is-p, is-n) at X))
 
         -- whether r separates
         separated-at : (r : ℕ) (x : Bool) → x ≡ separated p n (coefIn form) S r

@@ -12,6 +12,7 @@ use rules::digits::separated;
 use rules::standing::Kind;
 ghost use mathlib.Core.Path.{_≡_};
 ghost use mathlib.Core.Bool.{true, false};
+ghost use mathlib.Core.Logic.{_⊎_};
 ghost use mathlib.Core.Option.{Option, some};
 ghost use Prim.Native.Nat.{ℕ, _+_, _*_, _≤_, _<_};
 ghost use lib.ListN.{length};
@@ -88,27 +89,6 @@ fn first_live(form: &[u32], marks: &[bool], n: u32) -> u32
     0
 }
 
-// Whether two unmarked signals of the form have bound p - 1.
-fn is_crowded<'a>(form: &[u32], bounds: &'a [u32], marks: &'a [bool], n: u32, p: u32) -> bool
-    requires { ⌜ (n < length (now form)) × (n < length (now bounds)) × (n < length (now marks)) × (0 < p) ⌝ }
-    ensures { λ r. ⌜ (r ≡ true → Crowded p n (coefIn (now (form .entry))) (viewOf p (now (bounds .entry)) (now (marks .entry)))) ⌝ }
-{
-    let mut found: u32 = 0;
-    let mut s: u32 = 0;
-    while s < n {
-        s = s + 1;
-        if is_live(form, marks, s) {
-            if bounds[s as usize] == p - 1 {
-                if found != 0 {
-                    return true;
-                }
-                found = s;
-            }
-        }
-    }
-    false
-}
-
 // Whether x is among the first values.
 fn is_among(values: &[u32; 257], count: usize, x: u32) -> bool
     requires { ⌜ count ≤ 257 ⌝ }
@@ -124,13 +104,16 @@ fn is_among(values: &[u32; 257], count: usize, x: u32) -> bool
     false
 }
 
-// Whether two unmarked signals of the form have equal coefficients. Their weights are equal then, whatever the reference.
-fn has_equals(form: &[u32], marks: &[bool], n: u32) -> bool
-    requires { ⌜ (n < length (now form)) × (n < length (now marks)) × (n ≤ 256) ⌝ }
-    ensures { λ r. ⌜ (r ≡ true → (b : ℕ → ℕ) → Equals n (coefIn (now (form .entry))) (withMarks b (now (marks .entry)))) ⌝ }
+// Whether two unmarked signals of the form have equal coefficients, or bound p - 1 both. No reference separates such signals: their weights
+// are equal, or their sum is too large.
+fn is_hopeless<'a>(form: &[u32], bounds: &'a [u32], marks: &'a [bool], n: u32, p: u32) -> bool
+    requires { ⌜ (n < length (now form)) × (n < length (now bounds)) × (n < length (now marks)) × (n ≤ 256) × (0 < p) ⌝ }
+    ensures { λ r. ⌜ (r ≡ true → Equals n (coefIn (now (form .entry))) (viewOf p (now (bounds .entry)) (now (marks .entry)))
+        ⊎ Crowded p n (coefIn (now (form .entry))) (viewOf p (now (bounds .entry)) (now (marks .entry)))) ⌝ }
 {
     let mut seen = [0u32; 257];
     let mut count: usize = 0;
+    let mut free: u32 = 0;
     let mut s: u32 = 0;
     while s < n {
         s = s + 1;
@@ -141,6 +124,12 @@ fn has_equals(form: &[u32], marks: &[bool], n: u32) -> bool
             }
             seen[count] = coef;
             count = count + 1;
+            if bounds[s as usize] == p - 1 {
+                if free != 0 {
+                    return true;
+                }
+                free = s;
+            }
         }
     }
     false
@@ -215,10 +204,7 @@ fn floor_of<'a>(
         return low;
     }
     let form = row_of(rows, n, k);
-    if is_crowded(form, bounds, marks, n, p) {
-        return NONE;
-    }
-    if has_equals(form, marks, n) {
+    if is_hopeless(form, bounds, marks, n, p) {
         return NONE;
     }
     if first_reference(form, bounds, marks, n, p) == 0 {

@@ -11,8 +11,7 @@ use Rattle.solver.proofs.marks.floor_of.Lts as lts
 use Rattle.derivation.proofs.offsets.part_of.Reads as part-of-reads
 use Rattle.rules.proofs.constraint.is_linear.Reads as is-linear-reads
 use Rattle.solver.proofs.marks.first_reference.Reads as first-reference-reads
-use Rattle.solver.proofs.marks.has_equals.Reads as has-equals-reads
-use Rattle.solver.proofs.marks.is_crowded.Reads as is-crowded-reads
+use Rattle.solver.proofs.marks.is_hopeless.Reads as is-hopeless-reads
 use Rattle.solver.proofs.rows.row_of.Reads as row-of-reads
 
 returns : tie.Need-returns
@@ -32,12 +31,12 @@ row-of-requires c κs =
     let pre = c .before .before .before .before .before .before .before .before .before .pre in
     row-inside _ _ (pre .4) _ _ (pre .0 .is-n) (pre .2)
 
-is-crowded-requires : tie.Need-is-crowded-requires
-is-crowded-requires c κs =
+is-hopeless-requires : tie.Need-is-hopeless-requires
+is-hopeless-requires c κs =
     let entry = c .before .before .before .before .before .before .before .before .before .before in
     let s = laws.sizes (entry .pre .0) in
     let l = row-sized _ _ (entry .pre .4) _ _ (entry .pre .0 .is-n) (entry .pre .2) _ (c .row-of .ensures) in
-    (omega arith, omega (arith, entry .pre .0 .bounds-sized), omega (arith, entry .pre .0 .marks-sized), omega arith)
+    (omega arith, omega (arith, entry .pre .0 .bounds-sized), omega (arith, entry .pre .0 .marks-sized), omega arith, omega arith)
 
 returns-3 : tie.Need-returns-3
 returns-3 c =
@@ -46,16 +45,16 @@ returns-3 c =
     let at-is-linear = at-if2 .before in
     let at-part-of = at-is-linear .before in
     let entry = at-part-of .before .before .before .before .before .before .before in
-    laws.floor-crowded _ _ (entry .pre .0 .prepared) _ (entry .pre .1) (entry .pre .2) _ (at-part-of .part-of .ensures) _
+    laws.floor-hopeless _ _ (entry .pre .0 .prepared) _ (entry .pre .1) (entry .pre .2) _ (at-part-of .part-of .ensures) _
     (at-is-linear .is-linear .ensures) _ (not-false _ (at-if2 .if2 .left)) _ (entry .pre .4) _ (entry .pre .0 .is-n) _ (at-row-of .row-of .ensures) _
-    (entry .pre .0 .is-p) (c .before .is-crowded .ensures (c .if3 .taken))
+    (entry .pre .0 .is-p) (c .before .is-hopeless .ensures (c .if3 .taken))
 
-has-equals-requires : tie.Need-has-equals-requires
-has-equals-requires c κs =
+first-reference-requires : tie.Need-first-reference-requires
+first-reference-requires c κs =
     let entry = c .before .before .before .before .before .before .before .before .before .before .before .before in
     let s = laws.sizes (entry .pre .0) in
     let l = row-sized _ _ (entry .pre .4) _ _ (entry .pre .0 .is-n) (entry .pre .2) _ (c .before .before .row-of .ensures) in
-    (omega arith, omega (arith, entry .pre .0 .marks-sized), omega arith)
+    (omega arith, omega arith)
 
 returns-4 : tie.Need-returns-4
 returns-4 c =
@@ -64,30 +63,12 @@ returns-4 c =
     let at-is-linear = at-if2 .before in
     let at-part-of = at-is-linear .before in
     let entry = at-part-of .before .before .before .before .before .before .before in
-    laws.floor-equal _ _ (entry .pre .0 .prepared) _ (entry .pre .1) (entry .pre .2) _ (at-part-of .part-of .ensures) _
-    (at-is-linear .is-linear .ensures) _ (not-false _ (at-if2 .if2 .left)) _ (entry .pre .4) _ (entry .pre .0 .is-n) _ (at-row-of .row-of .ensures)
-    (laws.view-equals _ _ _ _ _ (c .before .has-equals .ensures (c .if4 .taken)))
-
-first-reference-requires : tie.Need-first-reference-requires
-first-reference-requires c κs =
-    let entry = c .before .before .before .before .before .before .before .before .before .before .before .before .before .before in
-    let s = laws.sizes (entry .pre .0) in
-    let l = row-sized _ _ (entry .pre .4) _ _ (entry .pre .0 .is-n) (entry .pre .2) _ (c .before .before .before .before .row-of .ensures) in
-    (omega arith, omega arith)
-
-returns-5 : tie.Need-returns-5
-returns-5 c =
-    let at-row-of = c .before .before .before .before .before .before in
-    let at-if2 = at-row-of .before in
-    let at-is-linear = at-if2 .before in
-    let at-part-of = at-is-linear .before in
-    let entry = at-part-of .before .before .before .before .before .before .before in
     laws.floor-unreferred _ _ (entry .pre .0 .prepared) _ (entry .pre .1) (entry .pre .2) _ (at-part-of .part-of .ensures) _
     (at-is-linear .is-linear .ensures) _ (not-false _ (at-if2 .if2 .left)) _ (entry .pre .4) _ (entry .pre .0 .is-n) _ (at-row-of .row-of .ensures) _
-    (entry .pre .0 .is-p) _ (c .before .first-reference .ensures) (c .if5 .taken)
+    (entry .pre .0 .is-p) _ (c .before .first-reference .ensures) (c .if4 .taken)
 
-returns-6 : tie.Need-returns-6
-returns-6 c = search needs
+returns-5 : tie.Need-returns-5
+returns-5 c = search needs
 
 pub floor-of-spec : {M : Type 1} → statement M
 floor-of-spec =
@@ -98,10 +79,8 @@ floor-of-spec =
     is-linear-requires
     returns-2
     row-of-requires
-    is-crowded-requires
+    is-hopeless-requires
     returns-3
-    has-equals-requires
-    returns-4
     first-reference-requires
-    returns-5
-    returns-6)
+    returns-4
+    returns-5)
