@@ -1,6 +1,5 @@
 -- `solver::search::only_free`: after s turns the only one of the signals 1 to s.
-use Prim.Native.Nat.{_+_, _-_, _≤_}
-use mathlib.Core.Path.{_≡_}
+use Prim.Native.Nat.{_-_, _≤_}
 use native.Mathlib.Omega.{arith}
 use borrow.Author.Needs.{needs}
 use Rattle.solver.specs.Search.{free}
