@@ -52,8 +52,8 @@ pub(crate) fn only_free(form: &[u32], bounds: &[u32], n: u32, p: u32) -> u32
     while s < n {
         s = s + 1;
         let at = s as usize;
-        if form[at] != 0 {
-            if bounds[at] == p - 1 {
+        if bounds[at] == p - 1 {
+            if form[at] != 0 {
                 if found != 0 {
                     return 0;
                 }

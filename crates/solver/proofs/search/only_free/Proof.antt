@@ -1,6 +1,5 @@
 -- `solver::search::only_free`: after s turns the only one of the signals 1 to s.
-use Prim.Native.Nat.{_+_, _-_, _≤_}
-use mathlib.Core.Path.{_≡_}
+use Prim.Native.Nat.{_-_, _≤_}
 use native.Mathlib.Omega.{arith}
 use borrow.Author.Needs.{needs}
 use Rattle.solver.specs.Search.{free}
@@ -31,14 +30,14 @@ mul-if1 c = search needs
 shared-slice-read-if1 : tie.Need-shared-slice-read-if1 Inv-loop μ-loop
 shared-slice-read-if1 c = search needs
 
+sub-if1 : tie.Need-sub-if1 Inv-loop μ-loop
+sub-if1 c = search needs
+
 mul-if2 : tie.Need-mul-if2 Inv-loop μ-loop
 mul-if2 c = search needs
 
 shared-slice-read-if2 : tie.Need-shared-slice-read-if2 Inv-loop μ-loop
 shared-slice-read-if2 c = search needs
-
-sub-if2 : tie.Need-sub-if2 Inv-loop μ-loop
-sub-if2 c = search needs
 
 returns : tie.Need-returns Inv-loop μ-loop
 returns c =
@@ -47,7 +46,7 @@ returns c =
     let at-loop = at-loop-test .before in
     let l = at-loop .loop in
     laws.sole-several _ _ _ _ (l .inv .1) (at-loop-test .loop-test .taken)
-    (laws.free-holds _ _ _ _ (omega arith) (at-if1 .if1 .taken) (c .before .if2 .taken)) (c .if3 .taken)
+    (laws.free-holds _ _ _ _ (omega arith) (c .before .if2 .taken) (at-if1 .if1 .taken)) (c .if3 .taken)
 
 loop-less : tie.Need-loop-less Inv-loop μ-loop
 loop-less c = search needs
@@ -59,7 +58,7 @@ loop-again c =
     let at-loop = at-loop-test .before in (
       omega arith,
       laws.sole-found _ _ _ _ (at-loop .loop .inv .1) (at-loop-test .loop-test .taken)
-          (laws.free-holds _ _ _ _ (omega arith) (at-if1 .if1 .taken) (c .before .if2 .taken)) (c .if3 .left),
+          (laws.free-holds _ _ _ _ (omega arith) (c .before .if2 .taken) (at-if1 .if1 .taken)) (c .if3 .left),
     )
 
 loop-less-2 : tie.Need-loop-less-2 Inv-loop μ-loop
@@ -71,7 +70,7 @@ loop-again-2 c =
     let at-loop = at-loop-test .before in (
       omega arith,
       laws.sole-on _ _ _ _ (at-loop .loop .inv .1) (at-loop-test .loop-test .taken)
-          (laws.free-lower _ _ _ _ (omega arith) (c .if2 .left)),
+          (laws.free-absent _ _ _ _ (c .if2 .left)),
     )
 
 loop-less-3 : tie.Need-loop-less-3 Inv-loop μ-loop
@@ -81,7 +80,7 @@ loop-again-3 : tie.Need-loop-again-3 Inv-loop μ-loop
 loop-again-3 c =
     let at-loop-test = c .before .before in
     let at-loop = at-loop-test .before in
-    (omega arith, laws.sole-on _ _ _ _ (at-loop .loop .inv .1) (at-loop-test .loop-test .taken) (laws.free-absent _ _ _ _ (c .if1 .left)))
+    (omega arith, laws.sole-on _ _ _ _ (at-loop .loop .inv .1) (at-loop-test .loop-test .taken) (laws.free-lower _ _ _ _ (omega arith) (c .if1 .left)))
 
 returns-2 : tie.Need-returns-2 Inv-loop μ-loop
 returns-2 c = laws.sole-end _ _ _ _ (c .before .loop .inv .1) (omega arith) (omega arith)
@@ -97,9 +96,9 @@ only-free-spec =
     cast-at
     mul-if1
     shared-slice-read-if1
+    sub-if1
     mul-if2
     shared-slice-read-if2
-    sub-if2
     returns
     loop-less
     loop-again
