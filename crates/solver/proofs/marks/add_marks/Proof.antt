@@ -14,7 +14,7 @@ use Rattle.solver.proofs.marks.add_marks.Reads as reads
 use Rattle.solver.proofs.marks.add_marks.Lts as lts
 use Rattle.solver.proofs.marks.next_mark.Reads as next-mark-reads
 use Rattle.solver.proofs.marks.number_of.Reads as number-of-reads
-use Rattle.solver.proofs.marks.raise_floors.Reads as raise-floors-reads
+use Rattle.solver.proofs.floor.raise_floors.Reads as raise-floors-reads
 use Rattle.solver.proofs.memo.forget.Reads as forget-reads
 use Rattle.solver.proofs.output.put_step.Reads as put-step-reads
 

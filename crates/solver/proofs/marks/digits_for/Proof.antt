@@ -6,6 +6,7 @@ use borrow.Author.Needs.{needs}
 use Rattle.rules.specs.View.{viewOf}
 use Rattle.derivation.specs.Inner.{circuitOf}
 use Rattle.solver.proofs.RowLaws.{row-inside, row-sized}
+use Rattle.solver.proofs.FormLaws.{view-marked}
 use Rattle.solver.proofs.MarkLaws as laws
 use Rattle.solver.proofs.MarkSearch as left
 use Rattle.solver.proofs.marks.digits_for.Statement.{statement}
@@ -14,7 +15,7 @@ use Rattle.solver.proofs.marks.digits_for.Reads as reads
 use Rattle.solver.proofs.marks.digits_for.Lts as lts
 use Rattle.derivation.proofs.offsets.part_of.Reads as part-of-reads
 use Rattle.rules.proofs.constraint.is_linear.Reads as is-linear-reads
-use Rattle.solver.proofs.marks.first_reference.Reads as first-reference-reads
+use Rattle.solver.proofs.references.first_reference.Reads as first-reference-reads
 use Rattle.solver.proofs.rows.row_of.Reads as row-of-reads
 
 abbrev Inv-loop : tie.InvT-loop
@@ -151,7 +152,7 @@ loop-again-4 c =
     let pre = at-loop .before .before .before .before .before .before .pre in (
       omega arith,
       left.digits-on _ _ _ _ _ (at-loop .loop .inv .1) (at-loop-test .loop-test .taken)
-          (λ u l h. laws.below-digits _ _ _ (pre .6) _ _ (omega arith) (omega (arith, pre .1)) (pre .3) (laws.view-marked _ _ _ _ (pre .5))
+          (λ u l h. laws.below-digits _ _ _ (pre .6) _ _ (omega arith) (omega (arith, pre .1)) (pre .3) (view-marked _ _ _ _ (pre .5))
           (c .if1 .left) u l h),
     )
 

@@ -1,17 +1,17 @@
--- `solver::marks::floor_of`: each way out is one law.
+-- `solver::floor::floor_of`: each way out is one law.
 use native.Mathlib.Omega.{arith}
 use borrow.Author.Needs.{needs}
 use borrow.Author.Tests.{not-false}
 use Rattle.solver.proofs.RowLaws.{row-inside, row-sized}
 use Rattle.solver.proofs.MarkLaws as laws
-use Rattle.solver.proofs.marks.floor_of.Statement.{statement}
-use Rattle.solver.proofs.marks.floor_of.Tie as tie
-use Rattle.solver.proofs.marks.floor_of.Reads as reads
-use Rattle.solver.proofs.marks.floor_of.Lts as lts
+use Rattle.solver.proofs.floor.floor_of.Statement.{statement}
+use Rattle.solver.proofs.floor.floor_of.Tie as tie
+use Rattle.solver.proofs.floor.floor_of.Reads as reads
+use Rattle.solver.proofs.floor.floor_of.Lts as lts
 use Rattle.derivation.proofs.offsets.part_of.Reads as part-of-reads
 use Rattle.rules.proofs.constraint.is_linear.Reads as is-linear-reads
-use Rattle.solver.proofs.marks.first_reference.Reads as first-reference-reads
-use Rattle.solver.proofs.marks.is_hopeless.Reads as is-hopeless-reads
+use Rattle.solver.proofs.references.first_reference.Reads as first-reference-reads
+use Rattle.solver.proofs.references.is_hopeless.Reads as is-hopeless-reads
 use Rattle.solver.proofs.rows.row_of.Reads as row-of-reads
 
 returns : tie.Need-returns

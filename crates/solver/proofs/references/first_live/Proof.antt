@@ -1,4 +1,4 @@
--- `solver::marks::first_live`: none of the signals passed is unmarked.
+-- `solver::references::first_live`: none of the signals passed is unmarked.
 use Prim.Native.Nat.{ℕ, _-_, _≤_}
 use mathlib.Core.Path.{sym, _∙_}
 use native.Mathlib.Omega.{arith}
@@ -6,12 +6,12 @@ use borrow.Author.Needs.{needs}
 use Rattle.laws.specs.Rules.{live}
 use Rattle.rules.specs.View.{coefIn}
 use Rattle.solver.specs.Marks.{withMarks}
-use Rattle.solver.proofs.MarkLaws as laws
-use Rattle.solver.proofs.marks.first_live.Statement.{statement}
-use Rattle.solver.proofs.marks.first_live.Tie as tie
-use Rattle.solver.proofs.marks.first_live.Reads as reads
-use Rattle.solver.proofs.marks.first_live.Lts as lts
-use Rattle.solver.proofs.marks.is_live.Reads as is-live-reads
+use Rattle.solver.proofs.FormLaws as laws
+use Rattle.solver.proofs.references.first_live.Statement.{statement}
+use Rattle.solver.proofs.references.first_live.Tie as tie
+use Rattle.solver.proofs.references.first_live.Reads as reads
+use Rattle.solver.proofs.references.first_live.Lts as lts
+use Rattle.solver.proofs.references.is_live.Reads as is-live-reads
 
 abbrev Inv-loop : tie.InvT-loop
 Inv-loop form marks n s₀ s = (s ≤ n) × ((b : ℕ → ℕ) → laws.Passed (live (coefIn form) (withMarks b marks)) s)

@@ -1,15 +1,15 @@
--- `solver::marks::first_reference`: none of the signals passed is a reference.
+-- `solver::references::first_reference`: none of the signals passed is a reference.
 use Prim.Native.Nat.{_-_, _≤_}
 use mathlib.Core.Path.{sym, _∙_}
 use native.Mathlib.Omega.{arith}
 use borrow.Author.Needs.{needs}
 use Rattle.laws.proofs.Sum.{true-or-false}
 use Rattle.rules.specs.View.{coefIn, viewOf}
-use Rattle.solver.proofs.MarkLaws as laws
-use Rattle.solver.proofs.marks.first_reference.Statement.{statement}
-use Rattle.solver.proofs.marks.first_reference.Tie as tie
-use Rattle.solver.proofs.marks.first_reference.Reads as reads
-use Rattle.solver.proofs.marks.first_reference.Lts as lts
+use Rattle.solver.proofs.FormLaws as laws
+use Rattle.solver.proofs.references.first_reference.Statement.{statement}
+use Rattle.solver.proofs.references.first_reference.Tie as tie
+use Rattle.solver.proofs.references.first_reference.Reads as reads
+use Rattle.solver.proofs.references.first_reference.Lts as lts
 use Rattle.rules.proofs.digits.separated.Reads as separated-reads
 
 abbrev Inv-loop : tie.InvT-loop

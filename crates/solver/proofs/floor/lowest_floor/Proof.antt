@@ -1,4 +1,4 @@
--- `solver::marks::lowest_floor`: what was found is at most the floors passed.
+-- `solver::floor::lowest_floor`: what was found is at most the floors passed.
 use Prim.Native.Nat.{_+_, _-_, _≤_}
 use mathlib.Core.Path.{_≡_, refl, _∙_}
 use native.Mathlib.Omega.{arith}
@@ -9,11 +9,11 @@ use Rattle.derivation.specs.Inner.{circuitOf}
 use Rattle.solver.specs.Marks.{Floors, AtMost}
 use Rattle.solver.proofs.Floors.{floors-set}
 use Rattle.solver.proofs.MarkLaws as laws
-use Rattle.solver.proofs.marks.lowest_floor.Statement.{statement}
-use Rattle.solver.proofs.marks.lowest_floor.Tie as tie
-use Rattle.solver.proofs.marks.lowest_floor.Reads as reads
-use Rattle.solver.proofs.marks.lowest_floor.Lts as lts
-use Rattle.solver.proofs.marks.floor_of.Reads as floor-of-reads
+use Rattle.solver.proofs.floor.lowest_floor.Statement.{statement}
+use Rattle.solver.proofs.floor.lowest_floor.Tie as tie
+use Rattle.solver.proofs.floor.lowest_floor.Reads as reads
+use Rattle.solver.proofs.floor.lowest_floor.Lts as lts
+use Rattle.solver.proofs.floor.floor_of.Reads as floor-of-reads
 
 abbrev Inv-loop : tie.InvT-loop
 Inv-loop circuit table rows bounds marks floors₀ loose₀ p n m start lowest₀ k₀ floors loose lowest k =

@@ -1,10 +1,10 @@
--- `solver::marks::is_live`: by the coefficient and the mark.
+-- `solver::references::is_live`: by the coefficient and the mark.
 use borrow.Author.Needs.{needs}
-use Rattle.solver.proofs.MarkLaws as laws
-use Rattle.solver.proofs.marks.is_live.Statement.{statement}
-use Rattle.solver.proofs.marks.is_live.Tie as tie
-use Rattle.solver.proofs.marks.is_live.Reads as reads
-use Rattle.solver.proofs.marks.is_live.Lts as lts
+use Rattle.solver.proofs.FormLaws as laws
+use Rattle.solver.proofs.references.is_live.Statement.{statement}
+use Rattle.solver.proofs.references.is_live.Tie as tie
+use Rattle.solver.proofs.references.is_live.Reads as reads
+use Rattle.solver.proofs.references.is_live.Lts as lts
 
 mul-if1 : tie.Need-mul-if1
 mul-if1 c = search needs

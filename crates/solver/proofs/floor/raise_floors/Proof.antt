@@ -1,14 +1,14 @@
--- `solver::marks::raise_floors`: what its parts answer.
+-- `solver::floor::raise_floors`: what its parts answer.
 use native.Mathlib.Omega.{arith}
 use borrow.Author.Needs.{needs}
 use Rattle.solver.proofs.MarkLaws as laws
-use Rattle.solver.proofs.marks.raise_floors.Statement.{statement}
-use Rattle.solver.proofs.marks.raise_floors.Tie as tie
-use Rattle.solver.proofs.marks.raise_floors.Reads as reads
-use Rattle.solver.proofs.marks.raise_floors.Lts as lts
-use Rattle.solver.proofs.marks.fill_floors.Reads as fill-floors-reads
-use Rattle.solver.proofs.marks.first_zero.Reads as first-zero-reads
-use Rattle.solver.proofs.marks.lowest_floor.Reads as lowest-floor-reads
+use Rattle.solver.proofs.floor.raise_floors.Statement.{statement}
+use Rattle.solver.proofs.floor.raise_floors.Tie as tie
+use Rattle.solver.proofs.floor.raise_floors.Reads as reads
+use Rattle.solver.proofs.floor.raise_floors.Lts as lts
+use Rattle.solver.proofs.floor.fill_floors.Reads as fill-floors-reads
+use Rattle.solver.proofs.floor.first_zero.Reads as first-zero-reads
+use Rattle.solver.proofs.floor.lowest_floor.Reads as lowest-floor-reads
 
 first-zero-requires : tie.Need-first-zero-requires
 first-zero-requires c κs =

@@ -1,4 +1,4 @@
--- `solver::marks::is_hopeless`: the coefficients of the unmarked signals passed, and one with bound p - 1.
+-- `solver::references::is_hopeless`: the coefficients of the unmarked signals passed, and one with bound p - 1.
 use Prim.Native.Nat.{_-_, _≤_}
 use mathlib.Core.Path.{_≡_, refl, sym, _∙_}
 use mathlib.Core.Bool.{false}
@@ -8,13 +8,13 @@ use borrow.Author.Needs.{needs}
 use lib.ListN.{length, length-set}
 use Rattle.laws.proofs.Sum.{true-or-false}
 use Rattle.rules.specs.View.{coefIn, viewOf}
-use Rattle.solver.proofs.MarkLaws as laws
-use Rattle.solver.proofs.marks.is_hopeless.Statement.{statement}
-use Rattle.solver.proofs.marks.is_hopeless.Tie as tie
-use Rattle.solver.proofs.marks.is_hopeless.Reads as reads
-use Rattle.solver.proofs.marks.is_hopeless.Lts as lts
-use Rattle.solver.proofs.marks.is_among.Reads as is-among-reads
-use Rattle.solver.proofs.marks.is_live.Reads as is-live-reads
+use Rattle.solver.proofs.FormLaws as laws
+use Rattle.solver.proofs.references.is_hopeless.Statement.{statement}
+use Rattle.solver.proofs.references.is_hopeless.Tie as tie
+use Rattle.solver.proofs.references.is_hopeless.Reads as reads
+use Rattle.solver.proofs.references.is_hopeless.Lts as lts
+use Rattle.solver.proofs.references.is_among.Reads as is-among-reads
+use Rattle.solver.proofs.references.is_live.Reads as is-live-reads
 
 abbrev Inv-loop : tie.InvT-loop
 Inv-loop form bounds marks n p seen₀ count₀ free₀ s₀ seen count free s =
