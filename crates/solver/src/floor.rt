@@ -10,14 +10,11 @@ use derivation::offsets::part_of;
 use rules::constraint::is_linear;
 use rules::constraint::product_met;
 ghost use mathlib.Core.Path.{_≡_};
-ghost use mathlib.Core.Bool.{true, false};
-ghost use Prim.Native.Nat.{ℕ, _+_, _≤_, _<_};
+ghost use Prim.Native.Nat.{ℕ, _≤_, _<_};
 ghost use lib.ListN.{length};
-ghost use Rattle.laws.specs.Standing.{start};
-ghost use Rattle.laws.specs.Solver.{step};
 ghost use Rattle.rules.specs.View.{viewOf};
 ghost use Rattle.derivation.specs.Inner.{circuitOf};
-ghost use Rattle.solver.specs.Marks.{withMarks, IsFloor, Floors, AtMost, FirstZero, found, StandingOf};
+ghost use Rattle.solver.specs.Marks.{withMarks, IsFloor, Floors, AtMost, FirstZero, StandingOf};
 ghost use Rattle.solver.specs.Rows.{Rows};
 ghost use Rattle.solver.specs.Search.{Prepared};
 
@@ -111,45 +108,6 @@ fn fill_floors(
     }
 }
 
-// The lowest of `start` and the floors. A loose floor is raised only where it is below what was found before.
-fn lowest_floor<'a>(
-    circuit: &[u8],
-    table: &[u32; 513],
-    rows: &[u32],
-    bounds: &'a [u32],
-    marks: &'a [bool],
-    floors: &mut [u64],
-    loose: &mut [bool],
-    p: u32,
-    n: u32,
-    m: u32,
-    start: u64,
-) -> u64
-    requires { ⌜ StandingOf (now circuit) (now table) (now bounds) (now marks) p n × (m ≡ circuitOf (now circuit) .m)
-        × (m < length (now floors)) × (m < length (now loose))
-        × Floors (circuitOf (now circuit)) (viewOf p (now bounds) (now marks)) (now floors)
-        × Rows (circuitOf (now circuit)) (now rows) ⌝ }
-    ensures { λ r. ⌜ Floors (circuitOf (now (circuit .entry))) (viewOf p (now (bounds .entry)) (now (marks .entry))) (now (floors .exit))
-        × AtMost (now (floors .exit)) m r ⌝ }
-{
-    let mut lowest = start;
-    let mut k: u32 = 0;
-    while k < m {
-        k = k + 1;
-        let at = k as usize;
-        let low = floors[at];
-        if low < lowest {
-            let floor = floor_of(circuit, table, rows, bounds, marks, p, n, k, low, loose[at]);
-            floors[at] = floor;
-            loose[at] = false;
-            if floor < lowest {
-                lowest = floor;
-            }
-        }
-    }
-    lowest
-}
-
 // The lowest unmarked signal with bound 0, n + 1 where there is none.
 fn first_zero<'a>(bounds: &'a [u32], marks: &'a [bool], n: u32) -> u32
     requires { ⌜ (n < length (now bounds)) × (n < length (now marks)) × (n ≤ 256) ⌝ }
@@ -168,7 +126,7 @@ fn first_zero<'a>(bounds: &'a [u32], marks: &'a [bool], n: u32) -> u32
     n + 1
 }
 
-// Finds as many floors as it takes to know the lowest target of a step, or a number at most each floor, and answers it.
+// The lowest of the floors and the lowest target of a zero step. A loose floor is raised only where it is below what was found before.
 pub(crate) fn raise_floors<'a>(
     circuit: &[u8],
     table: &[u32; 513],
@@ -188,19 +146,21 @@ pub(crate) fn raise_floors<'a>(
     ensures { λ r. ⌜ Floors (circuitOf (now (circuit .entry))) (viewOf p (now (bounds .entry)) (now (marks .entry))) (now (floors .exit))
         × AtMost (now (floors .exit)) m r ⌝ }
 {
-    let zero = first_zero(bounds, marks, n);
     fill_floors(circuit, table, rows, marks, floors, loose, n, m);
-    lowest_floor(
-        circuit,
-        table,
-        rows,
-        bounds,
-        marks,
-        floors,
-        loose,
-        p,
-        n,
-        m,
-        zero as u64,
-    )
+    let mut lowest = first_zero(bounds, marks, n) as u64;
+    let mut k: u32 = 0;
+    while k < m {
+        k = k + 1;
+        let at = k as usize;
+        let low = floors[at];
+        if low < lowest {
+            let floor = floor_of(circuit, table, rows, bounds, marks, p, n, k, low, loose[at]);
+            floors[at] = floor;
+            loose[at] = false;
+            if floor < lowest {
+                lowest = floor;
+            }
+        }
+    }
+    lowest
 }

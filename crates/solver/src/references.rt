@@ -2,12 +2,11 @@
 
 use rules::digits::separated;
 ghost use mathlib.Core.Path.{_≡_};
-ghost use mathlib.Core.Bool.{true, false};
+ghost use mathlib.Core.Bool.{true};
 ghost use mathlib.Core.Logic.{_⊎_};
-ghost use Prim.Native.Nat.{ℕ, _+_, _≤_, _<_};
+ghost use Prim.Native.Nat.{ℕ, _≤_, _<_};
 ghost use lib.ListN.{length};
 ghost use Rattle.laws.specs.Rules.{live};
-ghost use Rattle.laws.specs.Solver.{step};
 ghost use Rattle.rules.specs.View.{coefIn, viewOf};
 ghost use Rattle.solver.specs.Marks.{withMarks, Crowded, Equals, Among, FirstLive, FirstReference};
 
