@@ -181,10 +181,9 @@ forget-requires c κs =
 
 add-count : tie.Need-add-count Inv-loop μ-loop
 add-count c =
-    let at-raise-floors = c .before .before .before .before .before .before .before .before .before .before .before .before .before .before .before .before in
-    let at-loop-test = at-raise-floors .before .before .before .before in
+    let at-next-mark = c .before .before .before .before .before .before .before .before .before .before .before in
+    let at-loop-test = at-next-mark .before .before .before .before .before .before .before .before .before in
     let entry = at-loop-test .before .before .before .before .before .before .before in
-    let l = at-loop-test .before .loop in
     let s = sizes (entry .pre .0) in omega (arith, at-loop-test .loop-test .taken)
 
 loop-less : tie.Need-loop-less Inv-loop μ-loop

@@ -61,9 +61,10 @@ shared-slice-read-if3 c =
 
 first-reference-requires : tie.Need-first-reference-requires Inv-loop μ-loop
 first-reference-requires c κs =
-    let pre = c .before .before .before .before .before .before .before .before .before .before .before .before .before .before .before .before .pre in
+    let at-row-of = c .before .before in
+    let pre = at-row-of .before .before .before .before .before .before .before .before .before .before .before .before .before .before .pre in
     let s = laws.sizes (pre .0) in
-    let l = row-sized _ _ (pre .7) _ _ (pre .0 .is-n) (omega (arith, pre .1)) _ (c .before .before .row-of .ensures) in
+    let l = row-sized _ _ (pre .7) _ _ (pre .0 .is-n) (omega (arith, pre .1)) _ (at-row-of .row-of .ensures) in
     (omega arith, omega arith)
 
 returns : tie.Need-returns Inv-loop μ-loop
@@ -85,7 +86,8 @@ returns c =
           left.digits-hit _ _ _ _ _ (at-loop .loop .inv .1) (at-loop-test .loop-test .taken) _ (met .0) (omega (arith, entry .pre .0 .is-n, met .1))
           (λ u l h. laws.reference-unmet _ _ (entry .pre .0 .prepared) _ (omega arith) (omega (arith, entry .pre .1)) _
           (at-part-of .part-of .ensures) _ (at-is-linear .is-linear .ensures) _ (at-if2 .if2 .taken) _ (entry .pre .7) _ (entry .pre .0 .is-n) _
-          (at-row-of .row-of .ensures) _ (entry .pre .0 .is-p) _ (c .before .first-reference .ensures) _ u l (omega (arith, entry .pre .0 .is-n, met .1)) (inr h))
+          (at-row-of .row-of .ensures) _ (entry .pre .0 .is-p) _ (c .before .first-reference .ensures) _ u l
+          (omega (arith, entry .pre .0 .is-n, met .1)) (inr h))
           (met .2) later,
     )
 
