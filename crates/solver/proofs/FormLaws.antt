@@ -1,11 +1,12 @@
 -- Laws of the searches in one form: unmarked signals, signals that nothing separates, and references.
 use Prim.Native.Nat.{ℕ, zero, suc, _+_, _-_, _≤_, _<_, min}
 use mathlib.Core.Path.{_≡_, refl, sym, ap, _∙_}
-use mathlib.Core.Bool.{Bool, true, false, not}
+use mathlib.Core.Bool.{Bool, true, false, not, _&&_}
 use mathlib.Core.List.{List}
 use mathlib.Core.Logic.{_⊎_, inl, inr, ⊎-elim}
 use native.Mathlib.Omega.{arith}
 use native.Mathlib.Decide.{ℕ-discrete, decLe}
+use lib.Dec.{eqb}
 use lib.ListN.{length, getD, set}
 use lib.Seq.{getD-set-same, getD-set-other}
 use borrow.Author.Tests.{ne-eqb}
@@ -18,16 +19,24 @@ use Rattle.solver.specs.Marks.{withMarks, Crowded, Equals, Among, FirstL
 
 -- An unmarked signal of a form
 
-module _ (form : List ℕ) (b : ℕ → ℕ) (marks : List Bool) where
-  pub live-absent : (s : ℕ) → 1 ≤ s → getD form s 0 ≡ 0 → false ≡ live (coefIn form) (withMarks b marks) s
-  unfolding live occurs coefIn
-  live-absent zero l e = absurd (omega arith)
-  live-absent (suc s) l e = rw e refl
+and-no : (a : Bool) → false ≡ (a && false)
+and-no true = refl
+and-no false = refl
 
-  pub live-read : (s : ℕ) → 1 ≤ s → (getD form s 0 ≡ 0 → ⊥) → not (getD marks s false) ≡ live (coefIn form) (withMarks b marks) s
+and-yes : (a : Bool) → a ≡ (a && true)
+and-yes true = refl
+and-yes false = refl
+
+module _ (form : List ℕ) (b : ℕ → ℕ) (marks : List Bool) where
+  pub live-marked : (s : ℕ) → 1 ≤ s → getD marks s false ≡ true → false ≡ live (coefIn form) (withMarks b marks) s
+  unfolding live markIn
+  live-marked zero l e = absurd (omega arith)
+  live-marked (suc s) l e = rw e (and-no (occurs (coefIn form) (suc s)))
+
+  pub live-read : (s : ℕ) → 1 ≤ s → getD marks s false ≡ false → not (eqb (getD form s 0) 0) ≡ live (coefIn form) (withMarks b marks) s
   unfolding live occurs coefIn markIn
-  live-read zero l d = absurd (omega arith)
-  live-read (suc s) l d = rw (ne-eqb (getD form (suc s) 0) 0 d) refl
+  live-read zero l e = absurd (omega arith)
+  live-read (suc s) l e = rw e (and-yes (not (eqb (getD form (suc s) 0) 0)))
 
 -- the test fails at 1 to s
 pub record Passed (test : ℕ → Bool) (s : ℕ) : Type 0 where

@@ -16,10 +16,10 @@ fn is_live(form: &[u32], marks: &[bool], s: u32) -> bool
     ensures { λ r. ⌜ ((b : ℕ → ℕ) → r ≡ live (coefIn (now (form .entry))) (withMarks b (now (marks .entry))) s) ⌝ }
 {
     let at = s as usize;
-    if form[at] == 0 {
+    if marks[at] {
         return false;
     }
-    !marks[at]
+    form[at] != 0
 }
 
 // The lowest unmarked signal of the form, 0 where it has none.
