@@ -15,7 +15,7 @@ use Rattle.laws.specs.Rules.{occurs, live, separated}
 use Rattle.laws.proofs.Sum.{true-or-false}
 use Rattle.rules.specs.View.{coefIn, boundIn, markIn, viewOf}
 use Rattle.rules.proofs.ViewLaws.{bound-within}
-use Rattle.solver.specs.Marks.{withMarks, Crowded, Equals, Among, FirstLive, FirstReference, FirstZero}
+use Rattle.solver.specs.Marks.{withMarks, Crowded, Equals, Among, FirstLive, FirstZero}
 
 -- An unmarked signal of a form
 
@@ -224,17 +224,6 @@ unreferred-on p n R S r U h = record { fails = λ u l m e. fails u l m e (ℕ-di
     fails : (u : ℕ) → 1 ≤ u → u ≤ r + 1 → occurs R u ≡ true → Dec (u ≡ r + 1) → separated p n R S u ≡ false
     fails u l m e (yes q) = rw q (h (rw q at e))
     fails u l m e (no d) = U .fails u l (omega arith) e
-
-module _ (p n : ℕ) (R : ℕ → ℕ) (S : Standing) (r : ℕ) (U : Unreferred p n R S r) where
-  pub reference-found : r < n → occurs R (r + 1) ≡ true → separated p n R S (r + 1) ≡ true → FirstReference p n R S (r + 1)
-  reference-found h o e =
-      record {
-        found = inr (omega arith, omega arith, o, e);
-        lowest = λ u l m w. U .fails u l (⊎-elim (λ (z : r + 1 ≡ 0). omega arith) (λ (g : u < r + 1). omega arith) w);
-      }
-
-  pub reference-none : n ≤ r → FirstReference p n R S 0
-  reference-none h = record { found = inl refl; lowest = λ u l m w. U .fails u l (omega arith) }
 
 pub absent : (form : List ℕ) (s : ℕ) → getD form s 0 ≡ 0 → occurs (coefIn form) s ≡ false
 unfolding occurs coefIn

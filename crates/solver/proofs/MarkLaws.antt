@@ -1,9 +1,9 @@
 -- The ways out of the search for a constraint's floor, and of the searches that floors bound.
-use Prim.Native.Nat.{ℕ, _+_, _-_, _≤_, _<_}
+use Prim.Native.Nat.{ℕ, _+_, _-_, _≤_, _<_, min}
 use mathlib.Core.Path.{_≡_, refl, sym, ap, _∙_}
 use mathlib.Core.Bool.{Bool, true, false}
 use mathlib.Core.List.{List}
-use mathlib.Core.Logic.{_⊎_, inl, inr, ⊎-elim}
+use mathlib.Core.Logic.{_⊎_, ⊎-elim}
 use native.Mathlib.Omega.{arith}
 use native.Mathlib.Decide.{ℕ-discrete}
 use lib.ListN.{length, getD, set}
@@ -17,14 +17,14 @@ use Rattle.rules.specs.View.{coefIn, boundIn, viewOf}
 use Rattle.derivation.specs.Offsets.{partOf}
 use Rattle.derivation.specs.Inner.{circuitOf}
 use Rattle.solver.specs.Bounds as bounds′
-use Rattle.solver.specs.Marks.{withMarks, IsFloor, Floors, AtMost, Crowded, Equals, FirstLive, FirstReference, StandingOf}
+use Rattle.solver.specs.Marks.{withMarks, IsFloor, Floors, AtMost, Crowded, Equals, FirstLive, StandingOf}
 use Rattle.solver.specs.Rows.{row, Rows}
 use Rattle.solver.specs.Search.{Prepared, SomeUnmarked}
 use Rattle.solver.proofs.SearchLaws.{constraint-part}
 use Rattle.solver.proofs.CandidateLaws.{well-formed}
 use Rattle.solver.proofs.RowLaws.{row-form}
 use Rattle.solver.proofs.Floors as floors
-use Rattle.solver.proofs.FormLaws.{absent, present}
+use Rattle.solver.proofs.FormLaws.{absent, present, tested}
 
 -- The floor of constraint k
 
@@ -85,39 +85,29 @@ module _ (c table : List ℕ) (P : Prepared c table) (k : ℕ) (first : 1 ≤ k)
             → separated (C .p) (C .n) (reduced (C .p) (constraintAt C k)) S r ≡ x
         separated-at r x e = sym (rw (is-form, is-p, is-n) at e)
 
-        module _ (r : ℕ) (F : FirstReference p n (coefIn form) S r) where
-          -- no lower reference separates
-          unseparated : (u : ℕ) → 1 ≤ u → u ≤ n → (r ≡ 0) ⊎ (u < r) → occurs (reduced (C .p) (constraintAt C k)) u ≡ true
-              → separated (C .p) (C .n) (reduced (C .p) (constraintAt C k)) S u ≡ false
-          unseparated u l m w e = separated-at u false (sym (F .lowest u l m w (ap (λ (R : ℕ → ℕ). occurs R u) is-form ∙ e)))
+        pub floor-unreferred : ((r : ℕ) → 1 ≤ r → r ≤ n → occurs (coefIn form) r ≡ true → separated p n (coefIn form) S r ≡ false)
+            → IsFloor C S k bounds′.none
+        floor-unreferred f =
+            floors.digits-unreferred C W S k (linear-at ∙ linear)
+            (λ r l m e. separated-at r false (sym (f r l (omega (arith, is-n)) (ap (λ (R : ℕ → ℕ). occurs R r) is-form ∙ e))))
 
-          pub floor-unreferred : r ≡ 0 → IsFloor C S k bounds′.none
-          floor-unreferred z =
-              floors.digits-unreferred C W S k (linear-at ∙ linear) (λ u l m e. unseparated u l (omega (arith, is-n)) (inl z) e)
+        -- a digits step for t with reference r
+        module _ (t r : ℕ) (x : Bool) (is-separated : x ≡ separated p (min n 256) (coefIn form) S r) where
+          tested-at : separated (C .p) (C .n) (reduced (C .p) (constraintAt C k)) S r ≡ x
+          tested-at = separated-at r x (tested p n (coefIn form) S r x (omega (arith, is-n, W .n-most)) is-separated)
 
-          -- digits steps for t by a lower reference and by r
-          pub reference-unmet : (t u : ℕ) → 1 ≤ u → u ≤ C .n → (r ≡ 0) ⊎ (u < r) → digitsMet (C .p) (C .n) (constraintAt C k) S t u ≡ false
-          reference-unmet t u l m w =
+          pub reference-unmet : x ≡ false → digitsMet (C .p) (C .n) (constraintAt C k) S t r ≡ false
+          reference-unmet e =
               false-by _
-              (λ d.
-              let D = floors.digits-says (C .p) (C .n) (constraintAt C k) S t u d in
-              true-or-false _ (D .is-separated) (unseparated u l (omega (arith, is-n)) w (D .has-reference)))
+              (λ d. true-or-false _ (floors.digits-says (C .p) (C .n) (constraintAt C k) S t r d .is-separated) (tested-at ∙ e))
 
-          pub reference-met : (t : ℕ) → (getD form t 0 ≡ 0 → ⊥) → (r ≡ 0 → ⊥)
-              → (1 ≤ r) × (r ≤ n) × (digitsMet (C .p) (C .n) (constraintAt C k) S t r ≡ true)
-          reference-met t a d = go (F .found)
-            where
-              go : (r ≡ 0) ⊎ ((1 ≤ r) × (r ≤ n) × (occurs (coefIn form) r ≡ true) × (separated p n (coefIn form) S r ≡ true))
-                  → (1 ≤ r) × (r ≤ n) × (digitsMet (C .p) (C .n) (constraintAt C k) S t r ≡ true)
-              go (inl z) = absurd (d z)
-              go (inr w) = (
-                w .0,
-                w .1,
-                floors.digits-holds (C .p) (C .n) (constraintAt C k) S t r (linear-at ∙ linear)
-                    (ap (λ (R : ℕ → ℕ). occurs R t) (sym is-form) ∙ present form t a)
-                    (ap (λ (R : ℕ → ℕ). occurs R r) (sym is-form) ∙ w .2)
-                    (separated-at r true (sym (w .3))),
-              )
+          pub reference-met : (getD form t 0 ≡ 0 → ⊥) → (getD form r 0 ≡ 0 → ⊥) → x ≡ true
+              → digitsMet (C .p) (C .n) (constraintAt C k) S t r ≡ true
+          reference-met a e h =
+              floors.digits-holds (C .p) (C .n) (constraintAt C k) S t r (linear-at ∙ linear)
+              (ap (λ (R : ℕ → ℕ). occurs R t) (sym is-form) ∙ present form t a)
+              (ap (λ (R : ℕ → ℕ). occurs R r) (sym is-form) ∙ present form r e)
+              (tested-at ∙ h)
 
       pub target-absent : (t : ℕ) → getD form t 0 ≡ 0 → (r : ℕ) → digitsMet (C .p) (C .n) (constraintAt C k) S t r ≡ false
       target-absent t e r =
@@ -125,6 +115,13 @@ module _ (c table : List ℕ) (P : Prepared c table) (k : ℕ) (first : 1 ≤ k)
           (λ d.
           true-or-false _ (floors.digits-says (C .p) (C .n) (constraintAt C k) S t r d .has-target)
           (ap (λ (R : ℕ → ℕ). occurs R t) (sym is-form) ∙ absent form t e))
+
+      pub reference-absent : (t r : ℕ) → getD form r 0 ≡ 0 → digitsMet (C .p) (C .n) (constraintAt C k) S t r ≡ false
+      reference-absent t r e =
+          false-by _
+          (λ d.
+          true-or-false _ (floors.digits-says (C .p) (C .n) (constraintAt C k) S t r d .has-reference)
+          (ap (λ (R : ℕ → ℕ). occurs R r) (sym is-form) ∙ absent form r e))
 
     pub nonlinear-unmet : b ≡ false → (t r : ℕ) → digitsMet (C .p) (C .n) (constraintAt C k) S t r ≡ false
     nonlinear-unmet e t r =

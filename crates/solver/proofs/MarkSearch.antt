@@ -5,7 +5,6 @@ use mathlib.Core.Bool.{Bool, true, false, cond}
 use mathlib.Core.Option.{Option, none, some}
 use native.Mathlib.Numerals.{add-one}
 use native.Mathlib.Omega.{arith}
-use native.Mathlib.Decide.{ℕ-discrete}
 use borrow.Author.Tests.{eq-eqb, ne-eqb}
 use Rattle.circuit.specs.Circuit.{Circuit, constraintAt}
 use Rattle.laws.specs.Standing.{Standing}
@@ -67,6 +66,11 @@ module _ (C : Circuit) (S : Standing) (t : ℕ) where
   pub record DigitsFrom (m k : ℕ) : Type 0 where
     pub same : (later : Option Step) → firstDigits C S t 0 m later ≡ firstDigits C S t k (m - k) later
 
+  -- of constraint k the references up to r have been passed
+  pub record ReferenceFrom (m k r : ℕ) : Type 0 where
+    pub same : (later : Option Step)
+        → firstDigits C S t 0 m later ≡ firstReference C S t k r (C .n - r) (firstDigits C S t k (m - k) later)
+
   pub digits-start : (m : ℕ) → DigitsFrom m 0
   digits-start m = let all : m ≡ m - 0 = omega arith in record { same = λ later. ap (λ (j : ℕ). firstDigits C S t 0 j later) all }
 
@@ -78,50 +82,73 @@ module _ (C : Circuit) (S : Standing) (t : ℕ) where
   none-met k r (suc j) later h =
       rw (h (suc r) (omega arith) (omega arith)) (none-met k (suc r) j later (λ u a b. h u a (omega arith)))
 
-  -- r is the first reference that is met
-  first-met : (k r₀ j r : ℕ) (later : Option Step) → r₀ < r → r ≤ r₀ + j
-      → ((u : ℕ) → 1 ≤ u → u < r → digitsMet (C .p) (C .n) (constraintAt C k) S t u ≡ false)
-      → digitsMet (C .p) (C .n) (constraintAt C k) S t r ≡ true → firstReference C S t k r₀ j later ≡ some (step Digits t k r)
-  unfolding firstReference met
-  first-met k r₀ zero r later a b h e = absurd (omega arith)
-  first-met k r₀ (suc j) r later a b h e = go (ℕ-discrete r (suc r₀)) (λ g. first-met k (suc r₀) j r later g (omega arith) h e)
-    where
-      next : Option Step
-      next = firstReference C S t k (suc r₀) j later
-
-      go : Dec (r ≡ suc r₀) → (suc r₀ < r → next ≡ some (step Digits t k r))
-          → firstReference C S t k r₀ (suc j) later ≡ some (step Digits t k r)
-      go (yes q) rest = ap (λ (b : Bool). pick b (step Digits t k (suc r₀)) next) (rw q at e) ∙ ap (λ (i : ℕ). some (step Digits t k i)) (sym q)
-      go (no d) rest = rw (h (suc r₀) (omega arith) (omega arith)) (rest (omega arith))
-
   module _ (m k : ℕ) (F : DigitsFrom m k) where
-    constraint-turn : k < m → (later : Option Step)
-        → firstDigits C S t 0 m later ≡ firstReference C S t (k + 1) 0 (C .n) (firstDigits C S t (k + 1) (m - (k + 1)) later)
+    pub digits-enter : k < m → ReferenceFrom m (k + 1) 0
     unfolding firstDigits
-    constraint-turn h later = F .same later ∙ ap (λ (j : ℕ). firstDigits C S t k j later) (one-less m k h) ∙ rw (← (add-one k)) refl
+    digits-enter h =
+        let all : C .n ≡ C .n - 0 = omega arith in
+        record {
+          same = λ later.
+              F .same later
+              ∙ ap (λ (j : ℕ). firstDigits C S t k j later) (one-less m k h)
+              ∙ ap (λ (j : ℕ). firstReference C S t (suc k) 0 j (firstDigits C S t (suc k) (m - (k + 1)) later)) all
+              ∙ rw (← (add-one k)) refl;
+        }
 
     pub digits-on : k < m → ((u : ℕ) → 1 ≤ u → u ≤ C .n → digitsMet (C .p) (C .n) (constraintAt C (k + 1)) S t u ≡ false)
         → DigitsFrom m (k + 1)
     digits-on h f =
         record {
           same = λ later.
-              constraint-turn h later ∙ none-met (k + 1) 0 (C .n) (firstDigits C S t (k + 1) (m - (k + 1)) later) (λ u a b. f u a (omega arith));
+              digits-enter h .same later
+              ∙ none-met (k + 1) 0 (C .n - 0) (firstDigits C S t (k + 1) (m - (k + 1)) later) (λ u a b. f u a (omega arith));
         }
 
-    pub digits-hit : k < m → (r : ℕ) → 1 ≤ r → r ≤ C .n
-        → ((u : ℕ) → 1 ≤ u → u < r → digitsMet (C .p) (C .n) (constraintAt C (k + 1)) S t u ≡ false)
-        → digitsMet (C .p) (C .n) (constraintAt C (k + 1)) S t r ≡ true → (later : Option Step)
-        → firstDigits C S t 0 m later ≡ found (k + 1) (step Digits t (k + 1) r) later
-    digits-hit h r a b f e later =
-        constraint-turn h later
-        ∙ first-met (k + 1) 0 (C .n) r (firstDigits C S t (k + 1) (m - (k + 1)) later) (omega arith) (omega arith) f e
-        ∙ found-some (k + 1) (step Digits t (k + 1) r) later (omega arith)
-
-    pub digits-end : m ≤ k → (later : Option Step) → firstDigits C S t 0 m later ≡ found 0 (step Digits t 0 0) later
+    pub digits-end : m ≤ k → (r : ℕ) (later : Option Step) → firstDigits C S t 0 m later ≡ found 0 (step Digits t 0 r) later
     unfolding firstDigits
-    digits-end h later =
+    digits-end h r later =
         let none-left : m - k ≡ 0 = omega arith in
-        F .same later ∙ ap (λ (j : ℕ). firstDigits C S t k j later) none-left ∙ found-none (step Digits t 0 0) later
+        F .same later ∙ ap (λ (j : ℕ). firstDigits C S t k j later) none-left ∙ found-none (step Digits t 0 r) later
+
+  module _ (m k r : ℕ) (F : ReferenceFrom m k r) where
+    reference-turn : r < C .n → (later : Option Step) → firstDigits C S t 0 m later
+        ≡ pick (digitsMet (C .p) (C .n) (constraintAt C k) S t (r + 1)) (step Digits t k (r + 1))
+        (firstReference C S t k (r + 1) (C .n - (r + 1)) (firstDigits C S t k (m - k) later))
+    unfolding firstReference met
+    reference-turn h later =
+        F .same later
+        ∙ ap (λ (j : ℕ). firstReference C S t k r j (firstDigits C S t k (m - k) later)) (one-less (C .n) r h)
+        ∙ rw (← (add-one r)) refl
+
+    pub reference-on : r < C .n → digitsMet (C .p) (C .n) (constraintAt C k) S t (r + 1) ≡ false → ReferenceFrom m k (r + 1)
+    reference-on h e =
+        record {
+          same = λ later.
+              reference-turn h later
+              ∙ ap
+              (λ (b : Bool).
+              pick b (step Digits t k (r + 1)) (firstReference C S t k (r + 1) (C .n - (r + 1)) (firstDigits C S t k (m - k) later)))
+              e;
+        }
+
+    pub reference-hit : 1 ≤ k → r < C .n → digitsMet (C .p) (C .n) (constraintAt C k) S t (r + 1) ≡ true → (later : Option Step)
+        → firstDigits C S t 0 m later ≡ found k (step Digits t k (r + 1)) later
+    reference-hit l h e later =
+        reference-turn h later
+        ∙ ap
+        (λ (b : Bool).
+        pick b (step Digits t k (r + 1)) (firstReference C S t k (r + 1) (C .n - (r + 1)) (firstDigits C S t k (m - k) later)))
+        e
+        ∙ found-some k (step Digits t k (r + 1)) later l
+
+    pub reference-end : C .n ≤ r → DigitsFrom m k
+    unfolding firstReference
+    reference-end h =
+        let none-left : C .n - r ≡ 0 = omega arith in
+        record {
+          same = λ later.
+              F .same later ∙ ap (λ (j : ℕ). firstReference C S t k r j (firstDigits C S t k (m - k) later)) none-left;
+        }
 
 -- Targets
 

@@ -1,7 +1,7 @@
 // Floors: below the floor of a constraint no step by it marks an unmarked signal. They are searched as far as the next mark asks.
 
 use crate::references::first_live;
-use crate::references::first_reference;
+use crate::references::has_reference;
 use crate::references::is_hopeless;
 use crate::rows::row_of;
 use crate::search::unmarked_in;
@@ -76,7 +76,7 @@ fn floor_of<'a>(
     if is_hopeless(form, bounds, marks, n, p) {
         return NONE;
     }
-    if first_reference(form, bounds, marks, n, p) == 0 {
+    if !has_reference(form, bounds, marks, n, p) {
         return NONE;
     }
     low

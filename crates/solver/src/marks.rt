@@ -3,11 +3,11 @@
 use crate::floor::raise_floors;
 use crate::memo::forget;
 use crate::output::put_step;
-use crate::references::first_reference;
 use crate::rows::row_of;
 use derivation::offsets::part_of;
 use rules::constraint::is_linear;
 use rules::constraint::product_met;
+use rules::digits::separated;
 use rules::standing::Kind;
 ghost use mathlib.Core.Path.{_≡_};
 ghost use mathlib.Core.Bool.{false};
@@ -89,27 +89,33 @@ fn digits_for<'a>(
         → firstDigits (circuitOf (now (circuit .entry))) (viewOf p (now (bounds .entry)) (now (marks .entry))) t 0 m later
         ≡ found (r .constraint) (step Digits t (r .constraint) (r .reference)) later) ⌝ }
 {
+    let mut constraint: u32 = 0;
+    let mut reference: u32 = 0;
     let mut k: u32 = 0;
-    while k < m {
+    'search: while k < m {
         k = k + 1;
         if floors[k as usize] <= t as u64 {
             if is_linear(part_of(circuit, table, k)) {
                 let form = row_of(rows, n, k);
                 if form[t as usize] != 0 {
-                    let reference = first_reference(form, bounds, marks, n, p);
-                    if reference != 0 {
-                        return Place {
-                            constraint: k,
-                            reference,
-                        };
+                    let mut r: u32 = 0;
+                    while r < n {
+                        r = r + 1;
+                        if form[r as usize] != 0 {
+                            if separated(form, bounds, marks, n, p, r) {
+                                constraint = k;
+                                reference = r;
+                                break 'search;
+                            }
+                        }
                     }
                 }
             }
         }
     }
     Place {
-        constraint: 0,
-        reference: 0,
+        constraint,
+        reference,
     }
 }
 

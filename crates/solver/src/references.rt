@@ -1,14 +1,15 @@
-// Searches in one form for the digits rule: the lowest unmarked signal, signals that nothing separates, and the lowest reference.
+// Searches in one form for the digits rule: the lowest unmarked signal, signals that nothing separates, and whether there is a reference.
 
 use rules::digits::separated;
 ghost use mathlib.Core.Path.{_≡_};
-ghost use mathlib.Core.Bool.{true};
+ghost use mathlib.Core.Bool.{true, false};
 ghost use mathlib.Core.Logic.{_⊎_};
 ghost use Prim.Native.Nat.{ℕ, _≤_, _<_};
 ghost use lib.ListN.{length};
-ghost use Rattle.laws.specs.Rules.{live};
+ghost use Rattle.laws.specs.Rules as rules;
+ghost use Rattle.laws.specs.Rules.{live, occurs};
 ghost use Rattle.rules.specs.View.{coefIn, viewOf};
-ghost use Rattle.solver.specs.Marks.{withMarks, Crowded, Equals, Among, FirstLive, FirstReference};
+ghost use Rattle.solver.specs.Marks.{withMarks, Crowded, Equals, Among, FirstLive};
 
 // Whether s is an unmarked signal of the form.
 fn is_live(form: &[u32], marks: &[bool], s: u32) -> bool
@@ -89,25 +90,26 @@ pub(crate) fn is_hopeless<'a>(
     false
 }
 
-// The lowest signal of the form that may be the reference of a digits step, 0 where there is none.
-pub(crate) fn first_reference<'a>(
+// Whether some signal of the form may be the reference of a digits step.
+pub(crate) fn has_reference<'a>(
     form: &[u32],
     bounds: &'a [u32],
     marks: &'a [bool],
     n: u32,
     p: u32,
-) -> u32
+) -> bool
     requires { ⌜ (n < length (now form)) × (n ≤ 256) ⌝ }
-    ensures { λ r. ⌜ FirstReference p n (coefIn (now (form .entry))) (viewOf p (now (bounds .entry)) (now (marks .entry))) r ⌝ }
+    ensures { λ b. ⌜ (b ≡ false → (r : ℕ) → 1 ≤ r → r ≤ n → occurs (coefIn (now (form .entry))) r ≡ true
+        → rules.separated p n (coefIn (now (form .entry))) (viewOf p (now (bounds .entry)) (now (marks .entry))) r ≡ false) ⌝ }
 {
     let mut r: u32 = 0;
     while r < n {
         r = r + 1;
         if form[r as usize] != 0 {
             if separated(form, bounds, marks, n, p, r) {
-                return r;
+                return true;
             }
         }
     }
-    0
+    false
 }

@@ -1,7 +1,7 @@
 -- `solver::floor::floor_of`: each way out is one law.
 use native.Mathlib.Omega.{arith}
 use borrow.Author.Needs.{needs}
-use borrow.Author.Tests.{not-false}
+use borrow.Author.Tests.{not-true, not-false}
 use Rattle.solver.proofs.RowLaws.{row-inside, row-sized}
 use Rattle.solver.proofs.MarkLaws as laws
 use Rattle.solver.proofs.floor.floor_of.Statement.{statement}
@@ -10,7 +10,7 @@ use Rattle.solver.proofs.floor.floor_of.Reads as reads
 use Rattle.solver.proofs.floor.floor_of.Lts as lts
 use Rattle.derivation.proofs.offsets.part_of.Reads as part-of-reads
 use Rattle.rules.proofs.constraint.is_linear.Reads as is-linear-reads
-use Rattle.solver.proofs.references.first_reference.Reads as first-reference-reads
+use Rattle.solver.proofs.references.has_reference.Reads as has-reference-reads
 use Rattle.solver.proofs.references.is_hopeless.Reads as is-hopeless-reads
 use Rattle.solver.proofs.rows.row_of.Reads as row-of-reads
 
@@ -49,8 +49,8 @@ returns-3 c =
     (at-is-linear .is-linear .ensures) _ (not-false _ (at-if2 .if2 .left)) _ (entry .pre .4) _ (entry .pre .0 .is-n) _ (at-row-of .row-of .ensures) _
     (entry .pre .0 .is-p) (c .before .is-hopeless .ensures (c .if3 .taken))
 
-first-reference-requires : tie.Need-first-reference-requires
-first-reference-requires c κs =
+has-reference-requires : tie.Need-has-reference-requires
+has-reference-requires c κs =
     let entry = c .before .before .before .before .before .before .before .before .before .before .before .before in
     let s = laws.sizes (entry .pre .0) in
     let l = row-sized _ _ (entry .pre .4) _ _ (entry .pre .0 .is-n) (entry .pre .2) _ (c .before .before .row-of .ensures) in
@@ -65,7 +65,7 @@ returns-4 c =
     let entry = at-part-of .before .before .before .before .before .before .before in
     laws.floor-unreferred _ _ (entry .pre .0 .prepared) _ (entry .pre .1) (entry .pre .2) _ (at-part-of .part-of .ensures) _
     (at-is-linear .is-linear .ensures) _ (not-false _ (at-if2 .if2 .left)) _ (entry .pre .4) _ (entry .pre .0 .is-n) _ (at-row-of .row-of .ensures) _
-    (entry .pre .0 .is-p) _ (c .before .first-reference .ensures) (c .if4 .taken)
+    (entry .pre .0 .is-p) (c .before .has-reference .ensures (not-true _ (c .if4 .taken)))
 
 returns-5 : tie.Need-returns-5
 returns-5 c = search needs
@@ -81,6 +81,6 @@ floor-of-spec =
     row-of-requires
     is-hopeless-requires
     returns-3
-    first-reference-requires
+    has-reference-requires
     returns-4
     returns-5)

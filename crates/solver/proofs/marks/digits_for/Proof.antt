@@ -1,6 +1,6 @@
 -- `solver::marks::digits_for`: what is left of the search is what it has still to find.
 use Prim.Native.Nat.{_-_, _≤_}
-use mathlib.Core.Logic.{inl, inr}
+use mathlib.Core.Path.{_≡_, refl}
 use native.Mathlib.Omega.{arith}
 use borrow.Author.Needs.{needs}
 use Rattle.rules.specs.View.{viewOf}
@@ -15,151 +15,233 @@ use Rattle.solver.proofs.marks.digits_for.Reads as reads
 use Rattle.solver.proofs.marks.digits_for.Lts as lts
 use Rattle.derivation.proofs.offsets.part_of.Reads as part-of-reads
 use Rattle.rules.proofs.constraint.is_linear.Reads as is-linear-reads
-use Rattle.solver.proofs.references.first_reference.Reads as first-reference-reads
+use Rattle.rules.proofs.digits.separated.Reads as separated-reads
 use Rattle.solver.proofs.rows.row_of.Reads as row-of-reads
 
 abbrev Inv-loop : tie.InvT-loop
-Inv-loop circuit table rows bounds marks floors p n m t k₀ k = (k ≤ m) × left.DigitsFrom (circuitOf circuit) (viewOf p bounds marks) t m k
+Inv-loop circuit table rows bounds marks floors p n m t constraint₀ reference₀ k form r₀ constraint reference r =
+    (r ≤ n) × (constraint ≡ 0) × (reference ≡ 0) × left.ReferenceFrom (circuitOf circuit) (viewOf p bounds marks) t m k r
 
 abbrev μ-loop : tie.MeasureT-loop
-μ-loop circuit table rows bounds marks floors p n m t k₀ k = m - k
+μ-loop circuit table rows bounds marks floors p n m t constraint₀ reference₀ k form r₀ constraint reference r = n - r
 
-loop-holds : tie.Need-loop-holds Inv-loop μ-loop
-loop-holds c = (omega arith, left.digits-start _ _ _ _)
+abbrev Inv-search : tie.InvT-search
+Inv-search circuit table rows bounds marks floors p n m t constraint₀ reference₀ k₀ constraint reference k =
+    (k ≤ m) × (constraint ≡ 0) × (reference ≡ 0) × left.DigitsFrom (circuitOf circuit) (viewOf p bounds marks) t m k
 
-add-k : tie.Need-add-k Inv-loop μ-loop
+abbrev μ-search : tie.MeasureT-search
+μ-search circuit table rows bounds marks floors p n m t constraint₀ reference₀ k₀ constraint reference k = m - k
+
+search-holds : tie.Need-search-holds Inv-loop μ-loop Inv-search μ-search
+search-holds c = (omega arith, refl, refl, left.digits-start _ _ _ _)
+
+add-k : tie.Need-add-k Inv-loop μ-loop Inv-search μ-search
 add-k c = search needs
 
-cast-if1 : tie.Need-cast-if1 Inv-loop μ-loop
+cast-if1 : tie.Need-cast-if1 Inv-loop μ-loop Inv-search μ-search
 cast-if1 c = search needs
 
-mul-if1 : tie.Need-mul-if1 Inv-loop μ-loop
+mul-if1 : tie.Need-mul-if1 Inv-loop μ-loop Inv-search μ-search
 mul-if1 c = search needs
 
-shared-slice-read-if1 : tie.Need-shared-slice-read-if1 Inv-loop μ-loop
+shared-slice-read-if1 : tie.Need-shared-slice-read-if1 Inv-loop μ-loop Inv-search μ-search
 shared-slice-read-if1 c = search needs
 
-part-of-requires : tie.Need-part-of-requires Inv-loop μ-loop
+part-of-requires : tie.Need-part-of-requires Inv-loop μ-loop Inv-search μ-search
 part-of-requires c κs = search needs
 
-is-linear-requires : tie.Need-is-linear-requires Inv-loop μ-loop
+is-linear-requires : tie.Need-is-linear-requires Inv-loop μ-loop Inv-search μ-search
 is-linear-requires c κs = search needs
 
-row-of-requires : tie.Need-row-of-requires Inv-loop μ-loop
+row-of-requires : tie.Need-row-of-requires Inv-loop μ-loop Inv-search μ-search
 row-of-requires c κs =
     let pre = c .before .before .before .before .before .before .before .before .before .before .before .before .before .pre in
     row-inside _ _ (pre .7) _ _ (pre .0 .is-n) (omega (arith, pre .1))
 
-mul-if3 : tie.Need-mul-if3 Inv-loop μ-loop
+mul-if3 : tie.Need-mul-if3 Inv-loop μ-loop Inv-search μ-search
 mul-if3 c = search needs
 
-shared-slice-read-if3 : tie.Need-shared-slice-read-if3 Inv-loop μ-loop
+shared-slice-read-if3 : tie.Need-shared-slice-read-if3 Inv-loop μ-loop Inv-search μ-search
 shared-slice-read-if3 c =
-    let pre = c .before .before .before .before .before .before .before .before .before .before .before .before .before .before .before .pre in
-    let l = row-sized _ _ (pre .7) _ _ (pre .0 .is-n) (omega (arith, pre .1)) _ (c .before .row-of .ensures) in
+    let at-row-of = c .before in
+    let pre = at-row-of .before .before .before .before .before .before .before .before .before .before .before .before .before .before .pre in
+    let l = row-sized _ _ (pre .7) _ _ (pre .0 .is-n) (omega (arith, pre .1)) _ (at-row-of .row-of .ensures) in
     omega (arith, pre .4)
 
-first-reference-requires : tie.Need-first-reference-requires Inv-loop μ-loop
-first-reference-requires c κs =
+loop-holds : tie.Need-loop-holds Inv-loop μ-loop Inv-search μ-search
+loop-holds c =
     let at-row-of = c .before .before in
-    let pre = at-row-of .before .before .before .before .before .before .before .before .before .before .before .before .before .before .pre in
-    let s = laws.sizes (pre .0) in
-    let l = row-sized _ _ (pre .7) _ _ (pre .0 .is-n) (omega (arith, pre .1)) _ (at-row-of .row-of .ensures) in
-    (omega arith, omega arith)
-
-returns : tie.Need-returns Inv-loop μ-loop
-returns c =
-    let at-row-of = c .before .before .before .before in
     let at-if2 = at-row-of .before in
     let at-is-linear = at-if2 .before in
     let at-part-of = at-is-linear .before in
-    let at-loop-test = at-part-of .before .before .before .before in
-    let at-loop = at-loop-test .before in
-    let entry = at-loop .before .before .before .before .before .before in
-    let met = laws.reference-met _ _ (entry .pre .0 .prepared) _ (omega arith) (omega (arith, entry .pre .1)) _
-    (at-part-of .part-of .ensures) _ (at-is-linear .is-linear .ensures) _ (at-if2 .if2 .taken) _ (entry .pre .7) _ (entry .pre .0 .is-n) _
-    (at-row-of .row-of .ensures) _ (entry .pre .0 .is-p) _ (c .before .first-reference .ensures) _
-    (c .before .before .if3 .taken) (c .if4 .taken) in (
+    let at-search-test = at-part-of .before .before .before .before in
+    let at-search = at-search-test .before in
+    let entry = at-search .before .before .before .before .before .before in (
       omega arith,
-      met .1,
-      λ later.
-          left.digits-hit _ _ _ _ _ (at-loop .loop .inv .1) (at-loop-test .loop-test .taken) _ (met .0) (omega (arith, entry .pre .0 .is-n, met .1))
-          (λ u l h. laws.reference-unmet _ _ (entry .pre .0 .prepared) _ (omega arith) (omega (arith, entry .pre .1)) _
-          (at-part-of .part-of .ensures) _ (at-is-linear .is-linear .ensures) _ (at-if2 .if2 .taken) _ (entry .pre .7) _ (entry .pre .0 .is-n) _
-          (at-row-of .row-of .ensures) _ (entry .pre .0 .is-p) _ (c .before .first-reference .ensures) _ u l
-          (omega (arith, entry .pre .0 .is-n, met .1)) (inr h))
-          (met .2) later,
+      at-search .search .inv .1,
+      at-search .search .inv .2,
+      left.digits-enter _ _ _ _ _ (at-search .search .inv .3) (at-search-test .search-test .taken),
     )
 
-loop-less : tie.Need-loop-less Inv-loop μ-loop
+search-less : tie.Need-search-less Inv-loop μ-loop Inv-search μ-search
+search-less c = search needs
+
+search-again : tie.Need-search-again Inv-loop μ-loop Inv-search μ-search
+search-again c =
+    let at-row-of = c .before .before .before .before in
+    let entry = at-row-of .before .before .before .before .before .before .before .before .before .before .before .before .before .before in (
+      omega arith,
+      c .before .loop .inv .1,
+      c .before .loop .inv .2,
+      left.reference-end _ _ _ _ _ _ (c .before .loop .inv .3) (omega (arith, entry .pre .0 .is-n)),
+    )
+
+add-r : tie.Need-add-r Inv-loop μ-loop Inv-search μ-search
+add-r c = search needs
+
+cast-if4 : tie.Need-cast-if4 Inv-loop μ-loop Inv-search μ-search
+cast-if4 c = search needs
+
+mul-if4 : tie.Need-mul-if4 Inv-loop μ-loop Inv-search μ-search
+mul-if4 c = search needs
+
+shared-slice-read-if4 : tie.Need-shared-slice-read-if4 Inv-loop μ-loop Inv-search μ-search
+shared-slice-read-if4 c =
+    let at-loop-test = c .before in
+    let at-row-of = at-loop-test .before .before .before .before in
+    let at-search-test = at-row-of .before .before .before .before .before .before .before in
+    let pre = at-search-test .before .before .before .before .before .before .before .pre in
+    let l = row-sized _ _ (pre .7) _ _ (pre .0 .is-n) (omega (arith, pre .1, at-search-test .search-test .taken)) _ (at-row-of .row-of .ensures) in
+    omega (arith, at-loop-test .loop-test .taken)
+
+separated-requires : tie.Need-separated-requires Inv-loop μ-loop Inv-search μ-search
+separated-requires c κs = search needs
+
+loop-less : tie.Need-loop-less Inv-loop μ-loop Inv-search μ-search
 loop-less c = search needs
 
-loop-again : tie.Need-loop-again Inv-loop μ-loop
+loop-again : tie.Need-loop-again Inv-loop μ-loop Inv-search μ-search
 loop-again c =
-    let at-row-of = c .before .before .before .before in
+    let at-loop-test = c .before .before .before .before in
+    let at-loop = at-loop-test .before in
+    let at-row-of = at-loop .before .before .before in
     let at-if2 = at-row-of .before in
     let at-is-linear = at-if2 .before in
     let at-part-of = at-is-linear .before in
-    let at-loop-test = at-part-of .before .before .before .before in
-    let at-loop = at-loop-test .before in
-    let entry = at-loop .before .before .before .before .before .before in (
-      omega arith,
-      left.digits-on _ _ _ _ _ (at-loop .loop .inv .1) (at-loop-test .loop-test .taken)
-          (λ u l h. laws.reference-unmet _ _ (entry .pre .0 .prepared) _ (omega arith) (omega (arith, entry .pre .1)) _
+    let at-search-test = at-part-of .before .before .before .before in
+    let entry = at-search-test .before .before .before .before .before .before .before in (
+      omega (arith, at-loop-test .loop-test .taken),
+      at-loop .loop .inv .1,
+      at-loop .loop .inv .2,
+      left.reference-on _ _ _ _ _ _ (at-loop .loop .inv .3) (omega (arith, entry .pre .0 .is-n, at-loop-test .loop-test .taken))
+          (laws.reference-unmet _ _ (entry .pre .0 .prepared) _ (omega arith) (omega (arith, entry .pre .1, at-search-test .search-test .taken)) _
           (at-part-of .part-of .ensures) _ (at-is-linear .is-linear .ensures) _ (at-if2 .if2 .taken) _ (entry .pre .7) _ (entry .pre .0 .is-n) _
-          (at-row-of .row-of .ensures) _ (entry .pre .0 .is-p) _ (c .before .first-reference .ensures) _ u l h (inl (c .if4 .left))),
+          (at-row-of .row-of .ensures) _ (entry .pre .0 .is-p) _ _ _ (c .before .separated .ensures) (c .if5 .left)),
     )
 
-loop-less-2 : tie.Need-loop-less-2 Inv-loop μ-loop
+loop-less-2 : tie.Need-loop-less-2 Inv-loop μ-loop Inv-search μ-search
 loop-less-2 c = search needs
 
-loop-again-2 : tie.Need-loop-again-2 Inv-loop μ-loop
+loop-again-2 : tie.Need-loop-again-2 Inv-loop μ-loop Inv-search μ-search
 loop-again-2 c =
+    let at-loop-test = c .before .before in
+    let at-loop = at-loop-test .before in
+    let at-row-of = at-loop .before .before .before in
+    let at-if2 = at-row-of .before in
+    let at-is-linear = at-if2 .before in
+    let at-part-of = at-is-linear .before in
+    let at-search-test = at-part-of .before .before .before .before in
+    let entry = at-search-test .before .before .before .before .before .before .before in (
+      omega (arith, at-loop-test .loop-test .taken),
+      at-loop .loop .inv .1,
+      at-loop .loop .inv .2,
+      left.reference-on _ _ _ _ _ _ (at-loop .loop .inv .3) (omega (arith, entry .pre .0 .is-n, at-loop-test .loop-test .taken))
+          (laws.reference-absent _ _ (entry .pre .0 .prepared) _ (omega arith) (omega (arith, entry .pre .1, at-search-test .search-test .taken)) _
+          (at-part-of .part-of .ensures) _ (at-is-linear .is-linear .ensures) _ (at-if2 .if2 .taken) _ (entry .pre .7) _ (entry .pre .0 .is-n) _
+          (at-row-of .row-of .ensures) _ _ (c .if4 .left)),
+    )
+
+search-less-2 : tie.Need-search-less-2 Inv-loop μ-loop Inv-search μ-search
+search-less-2 c = search needs
+
+search-again-2 : tie.Need-search-again-2 Inv-loop μ-loop Inv-search μ-search
+search-again-2 c =
     let at-row-of = c .before .before in
     let at-if2 = at-row-of .before in
     let at-is-linear = at-if2 .before in
     let at-part-of = at-is-linear .before in
-    let at-loop-test = at-part-of .before .before .before .before in
-    let at-loop = at-loop-test .before in
-    let entry = at-loop .before .before .before .before .before .before in (
+    let at-search-test = at-part-of .before .before .before .before in
+    let at-search = at-search-test .before in
+    let entry = at-search .before .before .before .before .before .before in (
       omega arith,
-      left.digits-on _ _ _ _ _ (at-loop .loop .inv .1) (at-loop-test .loop-test .taken)
-          (λ u l h. laws.target-absent _ _ (entry .pre .0 .prepared) _ (omega arith) (omega (arith, entry .pre .1)) _
+      at-search .search .inv .1,
+      at-search .search .inv .2,
+      left.digits-on _ _ _ _ _ (at-search .search .inv .3) (at-search-test .search-test .taken)
+          (λ u l h. laws.target-absent _ _ (entry .pre .0 .prepared) _ (omega arith) (omega (arith, entry .pre .1, at-search-test .search-test .taken)) _
           (at-part-of .part-of .ensures) _ (at-is-linear .is-linear .ensures) _ (at-if2 .if2 .taken) _ (entry .pre .7) _ (entry .pre .0 .is-n) _
           (at-row-of .row-of .ensures) _ (c .if3 .left) u),
     )
 
-loop-less-3 : tie.Need-loop-less-3 Inv-loop μ-loop
-loop-less-3 c = search needs
+search-less-3 : tie.Need-search-less-3 Inv-loop μ-loop Inv-search μ-search
+search-less-3 c = search needs
 
-loop-again-3 : tie.Need-loop-again-3 Inv-loop μ-loop
-loop-again-3 c =
+search-again-3 : tie.Need-search-again-3 Inv-loop μ-loop Inv-search μ-search
+search-again-3 c =
     let at-part-of = c .before .before in
-    let at-loop-test = at-part-of .before .before .before .before in
-    let at-loop = at-loop-test .before in
-    let entry = at-loop .before .before .before .before .before .before in (
+    let at-search-test = at-part-of .before .before .before .before in
+    let at-search = at-search-test .before in
+    let entry = at-search .before .before .before .before .before .before in (
       omega arith,
-      left.digits-on _ _ _ _ _ (at-loop .loop .inv .1) (at-loop-test .loop-test .taken)
-          (λ u l h. laws.nonlinear-unmet _ _ (entry .pre .0 .prepared) _ (omega arith) (omega (arith, entry .pre .1)) _
+      at-search .search .inv .1,
+      at-search .search .inv .2,
+      left.digits-on _ _ _ _ _ (at-search .search .inv .3) (at-search-test .search-test .taken)
+          (λ u l h. laws.nonlinear-unmet _ _ (entry .pre .0 .prepared) _ (omega arith) (omega (arith, entry .pre .1, at-search-test .search-test .taken)) _
           (at-part-of .part-of .ensures) _ (c .before .is-linear .ensures) _ (c .if2 .left) _ u),
     )
 
-loop-less-4 : tie.Need-loop-less-4 Inv-loop μ-loop
-loop-less-4 c = search needs
+search-less-4 : tie.Need-search-less-4 Inv-loop μ-loop Inv-search μ-search
+search-less-4 c = search needs
 
-loop-again-4 : tie.Need-loop-again-4 Inv-loop μ-loop
-loop-again-4 c =
-    let at-loop-test = c .before .before in
-    let at-loop = at-loop-test .before in
-    let pre = at-loop .before .before .before .before .before .before .pre in (
+search-again-4 : tie.Need-search-again-4 Inv-loop μ-loop Inv-search μ-search
+search-again-4 c =
+    let at-search-test = c .before .before in
+    let at-search = at-search-test .before in
+    let pre = at-search .before .before .before .before .before .before .pre in (
       omega arith,
-      left.digits-on _ _ _ _ _ (at-loop .loop .inv .1) (at-loop-test .loop-test .taken)
+      at-search .search .inv .1,
+      at-search .search .inv .2,
+      left.digits-on _ _ _ _ _ (at-search .search .inv .3) (at-search-test .search-test .taken)
           (λ u l h. laws.below-digits _ _ _ (pre .6) _ _ (omega arith) (omega (arith, pre .1)) (pre .3) (view-marked _ _ _ _ (pre .5))
           (c .if1 .left) u l h),
     )
 
-returns-2 : tie.Need-returns-2 Inv-loop μ-loop
-returns-2 c = (omega arith, omega arith, λ later. left.digits-end _ _ _ _ _ (c .before .loop .inv .1) (c .loop-test .left) later)
+returns : tie.Need-returns Inv-loop μ-loop Inv-search μ-search
+returns c =
+    let l = c .before .search in (
+      omega arith,
+      omega arith,
+      λ later. rw (l .inv .1) (left.digits-end _ _ _ _ _ (l .inv .3) (c .search-test .left) _ later),
+    )
+
+returns-2 : tie.Need-returns-2 Inv-loop μ-loop Inv-search μ-search
+returns-2 c =
+    let at-loop-test = c .before .before .before .before in
+    let at-loop = at-loop-test .before in
+    let at-row-of = at-loop .before .before .before in
+    let at-if2 = at-row-of .before in
+    let at-is-linear = at-if2 .before in
+    let at-part-of = at-is-linear .before in
+    let at-search-test = at-part-of .before .before .before .before in
+    let entry = at-search-test .before .before .before .before .before .before .before in (
+      omega (arith, at-search-test .search-test .taken),
+      omega (arith, at-loop-test .loop-test .taken),
+      λ later.
+          left.reference-hit _ _ _ _ _ _ (at-loop .loop .inv .3) (omega arith) (omega (arith, entry .pre .0 .is-n, at-loop-test .loop-test .taken))
+          (laws.reference-met _ _ (entry .pre .0 .prepared) _ (omega arith) (omega (arith, entry .pre .1, at-search-test .search-test .taken)) _
+          (at-part-of .part-of .ensures) _ (at-is-linear .is-linear .ensures) _ (at-if2 .if2 .taken) _ (entry .pre .7) _ (entry .pre .0 .is-n) _
+          (at-row-of .row-of .ensures) _ (entry .pre .0 .is-p) _ _ _ (c .before .separated .ensures)
+          (at-loop .before .if3 .taken) (c .before .before .if4 .taken) (c .if5 .taken)) later,
+    )
 
 pub digits-for-spec : {M : Type 1} → statement M
 digits-for-spec =
@@ -167,7 +249,9 @@ digits-for-spec =
     (tie.spec
     Inv-loop
     μ-loop
-    loop-holds
+    Inv-search
+    μ-search
+    search-holds
     add-k
     cast-if1
     mul-if1
@@ -177,14 +261,23 @@ digits-for-spec =
     row-of-requires
     mul-if3
     shared-slice-read-if3
-    first-reference-requires
-    returns
+    loop-holds
+    search-less
+    search-again
+    add-r
+    cast-if4
+    mul-if4
+    shared-slice-read-if4
+    separated-requires
     loop-less
     loop-again
     loop-less-2
     loop-again-2
-    loop-less-3
-    loop-again-3
-    loop-less-4
-    loop-again-4
+    search-less-2
+    search-again-2
+    search-less-3
+    search-again-3
+    search-less-4
+    search-again-4
+    returns
     returns-2)

@@ -1,15 +1,16 @@
--- `solver::references::first_reference`: none of the signals passed is a reference.
+-- `solver::references::has_reference`: none of the signals passed is a reference.
 use Prim.Native.Nat.{_-_, _≤_}
-use mathlib.Core.Path.{sym, _∙_}
+use mathlib.Core.Path.{sym, _∙_, refl}
+use mathlib.Core.Bool.{true}
 use native.Mathlib.Omega.{arith}
 use borrow.Author.Needs.{needs}
 use Rattle.laws.proofs.Sum.{true-or-false}
 use Rattle.rules.specs.View.{coefIn, viewOf}
 use Rattle.solver.proofs.FormLaws as laws
-use Rattle.solver.proofs.references.first_reference.Statement.{statement}
-use Rattle.solver.proofs.references.first_reference.Tie as tie
-use Rattle.solver.proofs.references.first_reference.Reads as reads
-use Rattle.solver.proofs.references.first_reference.Lts as lts
+use Rattle.solver.proofs.references.has_reference.Statement.{statement}
+use Rattle.solver.proofs.references.has_reference.Tie as tie
+use Rattle.solver.proofs.references.has_reference.Reads as reads
+use Rattle.solver.proofs.references.has_reference.Lts as lts
 use Rattle.rules.proofs.digits.separated.Reads as separated-reads
 
 abbrev Inv-loop : tie.InvT-loop
@@ -37,13 +38,7 @@ separated-requires : tie.Need-separated-requires Inv-loop μ-loop
 separated-requires c κs = search needs
 
 returns : tie.Need-returns Inv-loop μ-loop
-returns c =
-    let at-if1 = c .before .before in
-    let at-loop-test = at-if1 .before .before in
-    let at-loop = at-loop-test .before in
-    let entry = at-loop .before .before .before .before in
-    laws.reference-found _ _ _ _ _ (at-loop .loop .inv .1) (at-loop-test .loop-test .taken) (laws.present _ _ (at-if1 .if1 .taken))
-    (sym (laws.tested _ _ _ _ _ _ (entry .pre .1) (c .before .separated .ensures)) ∙ c .if2 .taken)
+returns c = λ e. true-or-false true refl e
 
 loop-less : tie.Need-loop-less Inv-loop μ-loop
 loop-less c = search needs
@@ -66,10 +61,10 @@ loop-again-2 c =
     (omega arith, laws.unreferred-on _ _ _ _ _ (at-loop .loop .inv .1) (λ e. true-or-false _ e (laws.absent _ _ (c .if1 .left))))
 
 returns-2 : tie.Need-returns-2 Inv-loop μ-loop
-returns-2 c = laws.reference-none _ _ _ _ _ (c .before .loop .inv .1) (c .loop-test .left)
+returns-2 c = λ e u l m h. c .before .loop .inv .1 .fails u l (omega arith) h
 
-pub first-reference-spec : {M : Type 1} → statement M
-first-reference-spec =
+pub has-reference-spec : {M : Type 1} → statement M
+has-reference-spec =
     tie.close
     (tie.spec
     Inv-loop
