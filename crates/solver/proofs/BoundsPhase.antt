@@ -1,22 +1,22 @@
 -- The bounds phase under way: a bound that was lowered is settled, and each turn keeps what is known of the keys.
-use Prim.Native.Nat.{ℕ, zero, suc, _+_, _*_, _-_, _≤_, _<_, min}
+use Prim.Native.Nat.{ℕ, suc, _+_, _-_, _≤_, _<_, min}
 use mathlib.Core.Path.{_≡_, refl, sym, ap, _∙_}
 use mathlib.Core.Bool.{Bool, true, false}
-use mathlib.Core.List.{List, [], _∷_, _++_}
-use mathlib.Core.Option.{Option, none, some}
+use mathlib.Core.List.{List}
+use mathlib.Core.Option.{none, some}
 use mathlib.Core.Logic.{_⊎_, inl, inr, ⊎-elim}
 use native.Mathlib.Omega.{arith}
 use native.Mathlib.Decide.{ℕ-discrete}
 use lib.ListN.{length, getD, set, replicate}
 use lib.Seq.{getD-set-same, getD-set-other}
-use Rattle.circuit.specs.Circuit.{Circuit, WellFormed, constraintAt}
+use Rattle.circuit.specs.Circuit.{Circuit, WellFormed}
 use Rattle.laws.specs.Standing.{Standing, put, add, lower, largest, start}
-use Rattle.laws.specs.Step.{Step, after, replay}
-use Rattle.laws.specs.Solver.{step, newBound, lowers, bestBound, boundSteps}
-use Rattle.laws.proofs.Sum.{true-or-false, by-test, true-by}
+use Rattle.laws.specs.Step.{Step, after}
+use Rattle.laws.specs.Solver.{newBound, lowers, bestBound}
+use Rattle.laws.proofs.Sum.{true-or-false, by-test}
 use Rattle.laws.proofs.Order.{add-same, add-other, lower-other}
 use Rattle.laws.proofs.Turns.{none-done}
-use Rattle.laws.proofs.Best.{lowers-says, lowers-kind, Bounding}
+use Rattle.laws.proofs.Best.{lowers-says, Bounding}
 use Rattle.laws.proofs.Greedy.{Reached, reached-start, bound-phase, bounding-after}
 use Rattle.rules.specs.View.{boundIn}
 use Rattle.rules.proofs.ViewLaws.{bound-set, getD-repeated}

@@ -1,18 +1,18 @@
 -- The ways out of the search for a constraint's key, from what the calls on its part answer.
-use Prim.Native.Nat.{ℕ, zero, suc, _+_, _*_, _-_, _≤_, _<_, min}
+use Prim.Native.Nat.{ℕ, _-_, _≤_, _<_, min}
 use mathlib.Core.Path.{_≡_, refl, sym, ap, _∙_}
 use mathlib.Core.Bool.{Bool, true, false}
 use mathlib.Core.List.{List}
-use mathlib.Core.Logic.{_⊎_, inl, inr, ⊎-elim}
+use mathlib.Core.Logic.{_⊎_, ⊎-elim}
 use native.Mathlib.Omega.{arith}
 use native.Mathlib.Decide.{ℕ-discrete}
-use lib.ListN.{length, getD}
-use Rattle.circuit.specs.Circuit.{Circuit, WellFormed, Constraint, Form, constraintAt}
+use lib.ListN.{getD}
+use Rattle.circuit.specs.Circuit.{Circuit, WellFormed, Constraint, constraintAt}
 use Rattle.circuit.specs.Reader.{formIn, constraintIn}
 use Rattle.circuit.proofs.WellFormed.{read-well-formed}
 use Rattle.laws.specs.Standing.{Standing}
 use Rattle.laws.specs.Rules.{linear, reduced, rootMet, rootBound, sumBound}
-use Rattle.rules.specs.View.{coefIn, boundIn, markIn}
+use Rattle.rules.specs.View.{coefIn, boundIn}
 use Rattle.rules.proofs.ViewLaws.{bound-within}
 use Rattle.derivation.specs.Offsets.{partOf}
 use Rattle.solver.specs.Bounds as specs
@@ -123,7 +123,7 @@ module _ (c table bounds : List ℕ) (p n k : ℕ) (B : BoundsOf c table bounds 
           (λ (w : (1 ≤ t) × (t ≤ C .n) × (free (C .p) form bounds t ≡ true)). omega (arith, w .1, W .n-most)) (only-at .holds)
 
       pub sum-none : t ≡ 0 → IsKey C S k specs.none
-      sum-none = candidate.sum-none C W S k first last (linear-at ∙ linear) (B .settled) form bounds (λ s. ap (λ (f : ℕ → ℕ). f s) form-at) bounds-at t only-at
+      sum-none = candidate.sum-none C W S k first last (linear-at ∙ linear) (B .settled) form bounds form-at bounds-at t only-at
 
       module _ (x : ℕ)
           (is-sum : (m : ℕ → Bool) → x ≡ min p (sumBound p n (coefIn form) (record { bound = boundIn p bounds; marked = m }) t)) where
@@ -136,12 +136,12 @@ module _ (c table bounds : List ℕ) (p n k : ℕ) (B : BoundsOf c table bounds 
 
         pub sum-high : p - 1 ≤ x → IsKey C S k specs.none
         sum-high h =
-            candidate.sum-high C W S k first last (linear-at ∙ linear) (B .settled) form bounds (λ s. ap (λ (f : ℕ → ℕ). f s) form-at) bounds-at t only-at
+            candidate.sum-high C W S k first last (linear-at ∙ linear) (B .settled) form bounds form-at bounds-at t only-at
             (omega (arith, sum-at, B .is-p))
 
         pub sum-key : (t ≡ 0 → ⊥) → x < p - 1 → (key : ℕ) → key ≡ keyOf x t 2 → IsKey C S k key
         sum-key d h key is-key =
             let low : x ≡ sumBound (C .p) (C .n) (reduced (C .p) (constraintAt C k)) S t = omega (arith, sum-at, B .is-p) in
             rw (is-key, low)
-            (candidate.sum-key C W S k first last (linear-at ∙ linear) (B .settled) form bounds (λ s. ap (λ (f : ℕ → ℕ). f s) form-at) bounds-at t only-at d
+            (candidate.sum-key C W S k first last (linear-at ∙ linear) (B .settled) form bounds form-at bounds-at t only-at d
             (omega (arith, sum-at, B .is-p)))

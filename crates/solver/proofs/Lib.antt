@@ -11,6 +11,7 @@ pub mod RowLaws
 pub mod CandidateLaws
 pub mod BoundsTurn
 pub mod Floors
+pub mod FormLaws
 pub mod MarkLaws
 pub mod MarkSearch
 pub mod NextMark

@@ -15,7 +15,8 @@ use Rattle.rules.specs.View.{boundIn, markIn, viewOf}
 use Rattle.derivation.specs.Inner.{circuitOf}
 use Rattle.solver.specs.Marks.{withMarks, Floors, AtMost, found, StandingOf}
 use Rattle.solver.proofs.CandidateLaws.{well-formed}
-use Rattle.solver.proofs.MarkLaws.{below-product, below-digits, mark-read, view-marked, bound-read, bound-nonzero}
+use Rattle.solver.proofs.FormLaws.{mark-read, view-marked, bound-read, bound-nonzero}
+use Rattle.solver.proofs.MarkLaws.{below-product, below-digits}
 use Rattle.solver.proofs.MarkSearch as search
 use Rattle.solver.proofs.MarkSearch.{TargetFrom}
 

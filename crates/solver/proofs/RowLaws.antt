@@ -7,8 +7,8 @@ use mathlib.Core.Logic.{_⊎_, inl, inr, ⊎-elim}
 use native.Mathlib.Omega.{arith}
 use native.Mathlib.Decide.{decLe, ℕ-discrete}
 use native.Mathlib.Nat.{mul-le-mul-right}
-use lib.Dec.{ltb, eqb}
-use lib.ListN.{length, getD, set, replicate, take, drop, length-take, length-drop}
+use lib.Dec.{ltb}
+use lib.ListN.{length, getD, set, take, drop, length-take, length-drop}
 use lib.Seq.{getD-take, getD-drop, getD-set-same, getD-set-other}
 use borrow.Author.Tests.{lt-ltb, ne-eqb}
 use Rattle.circuit.specs.Bytes.{byteAt, u16At}
@@ -153,8 +153,8 @@ module _ (f : Form) (part : List ℕ) (left at : ℕ) (before later : List ℕ) 
         where
           other : signal ≡ s → ⊥
           other q =
-              let one : getD (set later signal 1) s 0 ≡ 1 = ap (λ (i : ℕ). getD (set later signal 1) i 0) (sym q) ∙ getD-set-same later signal 1 0 h in
-              omega arith
+              let here = getD-set-same later signal 1 0 h in
+              let same = ap (λ (i : ℕ). getD (set later signal 1) i 0) q in omega (arith, here, same, z)
 
   pub naming-on : 257 ≤ signal → Naming f part (left - 1) (at + 6) before later
   naming-on h = past later (λ s l z. (λ (q : signal ≡ s). omega arith, z))

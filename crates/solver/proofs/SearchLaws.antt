@@ -1,29 +1,28 @@
 -- Laws of the solver's searches: what one turn of each walk finds.
-use Prim.Native.Nat.{ℕ, zero, suc, _+_, _-_, _≤_, _<_}
+use Prim.Native.Nat.{ℕ, _+_, _-_, _≤_, _<_}
 use mathlib.Core.Path.{_≡_, refl, sym, ap, _∙_}
-use mathlib.Core.Bool.{Bool, true, false, cond, not, _&&_, _||_}
-use mathlib.Core.List.{List, [], _∷_}
+use mathlib.Core.Bool.{Bool, true, false, not, _&&_}
+use mathlib.Core.List.{List}
 use mathlib.Core.Logic.{_⊎_, inl, inr, ⊎-elim}
 use native.Mathlib.Omega.{arith}
-use native.Mathlib.Decide.{ℕ-discrete, decLe}
-use lib.Dec.{ltb, leb, eqb}
-use lib.ListN.{length, getD, set}
-use lib.Seq.{getD-set-same, getD-set-other}
-use borrow.Author.Tests.{ltb-true, leb-true, leb-false, eqb-true, eq-eqb, ne-eqb, lt-ltb, le-ltb, le-leb, lt-leb, not-true}
-use Rattle.circuit.specs.Bytes.{byteAt, u16At, u32At}
-use Rattle.circuit.specs.Circuit.{Circuit, Form, Constraint, Term, constraintAt, names}
-use Rattle.circuit.specs.Reader.{termKept, formIn, afterForm, constraintIn}
+use native.Mathlib.Decide.{ℕ-discrete}
+use lib.Dec.{ltb, leb}
+use lib.ListN.{length, getD}
+use borrow.Author.Tests.{ltb-true, eqb-true, eq-eqb, ne-eqb, lt-ltb, le-ltb, le-leb, lt-leb, not-true}
+use Rattle.circuit.specs.Bytes.{byteAt, u16At}
+use Rattle.circuit.specs.Circuit.{Form, constraintAt, names}
+use Rattle.circuit.specs.Reader.{formIn, constraintIn}
 use Rattle.laws.specs.Rules.{occurs}
-use Rattle.laws.proofs.Sum.{and-left, and-right, and-both, by-test, true-or-false, true-by, false-by}
-use Rattle.rules.specs.View.{coefIn, boundIn, markIn}
+use Rattle.laws.proofs.Sum.{and-left, and-right, and-both, true-or-false, true-by, false-by}
+use Rattle.rules.specs.View.{coefIn, markIn}
 use Rattle.rules.proofs.ViewLaws.{mark-past, bound-within}
 use Rattle.rules.proofs.Walk.{termsFrom, turn, terms-end, form-start}
 use Rattle.solver.specs.Bounds.{Least}
 use Rattle.derivation.specs.Offsets.{partOf}
 use Rattle.derivation.proofs.OffsetLaws.{part-is}
 use Rattle.derivation.specs.Inner.{circuitOf}
-use Rattle.solver.specs.Search.{Prepared, SomeUnmarked, Only, free}
 use Rattle.solver.specs.Rows.{reach, SignalsOf}
+use Rattle.solver.specs.Search.{Prepared, SomeUnmarked, Only, free}
 use Rattle.solver.proofs.ListLaws.{Next, reached, walked, passing}
 
 -- An unmarked signal

@@ -1,5 +1,5 @@
 -- The call from what its parts answer: the two phases one after the other, the bytes that they leave, and the answer.
-use Prim.Native.Nat.{ℕ, zero, suc, _+_, _*_, _-_, _≤_, _<_, min}
+use Prim.Native.Nat.{ℕ, _+_, _*_, _-_, _≤_, _<_, min}
 use mathlib.Core.Path.{_≡_, refl, sym, ap, _∙_}
 use mathlib.Core.Bool.{Bool, true, false}
 use mathlib.Core.List.{List, [], _∷_, _++_}
@@ -15,7 +15,7 @@ use Rattle.circuit.specs.Answer as circuit
 use Rattle.circuit.proofs.WellFormed.{read-well-formed}
 use Rattle.laws.specs.Sum.{all}
 use Rattle.laws.specs.Standing.{Standing, largest, isInput, start}
-use Rattle.laws.specs.Step.{Step, replay}
+use Rattle.laws.specs.Step.{replay}
 use Rattle.laws.specs.Solver.{boundSteps, markSteps, solution}
 use Rattle.laws.proofs.Order.{replay-append}
 use Rattle.laws.proofs.Greedy.{bound-steps-short}

@@ -1,24 +1,24 @@
 -- A key stays while the bounds of the signals that its constraint turns on stay.
-use Prim.Native.Nat.{ℕ, zero, suc, _+_, _*_, _-_, _%_, _≤_, _<_}
+use Prim.Native.Nat.{ℕ, zero, suc, _*_, _-_, _≤_, _<_}
 use mathlib.Core.Path.{_≡_, refl, sym, ap, _∙_}
-use mathlib.Core.Bool.{Bool, true, false, not, _&&_, _||_}
+use mathlib.Core.Bool.{true, false, not, _&&_, _||_}
 use mathlib.Core.Logic.{_⊎_, inl, inr, ⊎-elim}
 use native.Mathlib.Omega.{arith}
 use native.Mathlib.Decide.{ℕ-discrete}
 use lib.Dec.{eqb}
 use Rattle.field.specs.Residue.{opposite}
 use Rattle.field.specs.Inverse.{inverse}
-use Rattle.field.proofs.Residue.{congruent-zero, congruent-trans, congruent-refl, congruent-times, congruent-shift, opposite-plus}
+use Rattle.field.proofs.Residue.{congruent-zero, congruent-refl, congruent-times, congruent-shift, opposite-plus}
 use Rattle.circuit.specs.Circuit.{Circuit, WellFormed, Constraint, constraintAt, names}
 use Rattle.laws.specs.Sum.{keep}
 use Rattle.laws.specs.Standing.{Standing, lower}
-use Rattle.laws.specs.Rules.{linear, reduced, occurs, isZero, namesOnly, rootMet, sumWeight, ceiling, sumTerm, sumBound}
+use Rattle.laws.specs.Rules.{linear, reduced, isZero, namesOnly, rootMet, sumWeight, ceiling, sumTerm, sumBound}
 use Rattle.laws.specs.Step.{Kind, Step}
 use Rattle.laws.specs.Solver.{step, newBound, lowers, kindNumber}
 use Rattle.laws.proofs.Sum.{and-left, and-right, or-false-left, or-false-right, by-test, true-or-false, sum-cong}
 use Rattle.laws.proofs.Order.{lower-other, lower-adds}
 use Rattle.laws.proofs.Reduced.{reduced-unnamed, occurs-yes}
-use Rattle.laws.proofs.Best.{Lowering, Bounding, by-root, by-sum, lowers-says, lowers-holds, lowers-kind}
+use Rattle.laws.proofs.Best.{Bounding, by-root, by-sum, lowers-says, lowers-holds, lowers-kind}
 use Rattle.laws.proofs.Greedy.{lowering-from}
 use Rattle.solver.specs.Bounds.{keyOf, Holder, IsKey}
 use Rattle.solver.specs.Search.{involves, Apart}

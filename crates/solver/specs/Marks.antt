@@ -9,7 +9,7 @@ use lib.Dec.{eqb}
 use lib.ListN.{length, getD}
 use Rattle.circuit.specs.Circuit.{Circuit, constraintAt}
 use Rattle.laws.specs.Standing.{Standing, start}
-use Rattle.laws.specs.Rules.{live, occurs, productMet, separated, digitsMet}
+use Rattle.laws.specs.Rules.{live, productMet, digitsMet}
 use Rattle.laws.specs.Step.{Step, replay}
 use Rattle.laws.specs.Solver.{step, boundSteps, markSteps}
 use Rattle.rules.specs.View.{markIn, viewOf}
@@ -69,10 +69,6 @@ pub record Among (values : List ℕ) (count x : ℕ) : Type 0 where
 -- t is at most each unmarked signal of the form, 0 where it has none
 pub record FirstLive (R : ℕ → ℕ) (S : Standing) (n t : ℕ) : Type 0 where
   pub low : (s : ℕ) → 1 ≤ s → s ≤ n → live R S s ≡ true → (1 ≤ t) × (t ≤ s)
-
--- no signal 1 to r of the form is a reference by which the digits rule separates
-pub record Unreferred (p n : ℕ) (R : ℕ → ℕ) (S : Standing) (r : ℕ) : Type 0 where
-  pub fails : (u : ℕ) → 1 ≤ u → u ≤ r → occurs R u ≡ true → separated p n R S u ≡ false
 
 -- t is the lowest unmarked signal with bound 0, n + 1 where there is none
 pub record FirstZero (S : Standing) (n t : ℕ) : Type 0 where

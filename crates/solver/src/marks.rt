@@ -1,48 +1,28 @@
 // The marks phase: the lowest unmarked target that some step marks, by the lowest kind, constraint and reference, until none is left.
 
+use crate::floor::raise_floors;
 use crate::memo::forget;
 use crate::output::put_step;
 use crate::rows::row_of;
-use crate::rows::signals_of;
-use crate::search::unmarked_in;
-use circuit::reader::after_form;
 use derivation::offsets::part_of;
 use rules::constraint::is_linear;
 use rules::constraint::product_met;
 use rules::digits::separated;
 use rules::standing::Kind;
 ghost use mathlib.Core.Path.{_≡_};
-ghost use mathlib.Core.Bool.{true, false};
+ghost use mathlib.Core.Bool.{false};
 ghost use mathlib.Core.Option.{Option, some};
 ghost use Prim.Native.Nat.{ℕ, _+_, _*_, _≤_, _<_};
 ghost use lib.ListN.{length};
 ghost use Rattle.laws.specs.Standing.{start};
 ghost use Rattle.laws.specs.Step.{Step, Product, Digits, replay};
 ghost use Rattle.laws.specs.Solver.{step, kindNumber, firstProduct, firstDigits, firstMark, boundSteps};
-ghost use Rattle.rules.specs.View.{coefIn, markIn, viewOf};
+ghost use Rattle.rules.specs.View.{markIn, viewOf};
 ghost use Rattle.rules.specs.Promise.{kindOf};
 ghost use Rattle.derivation.specs.Inner.{circuitOf};
-ghost use Rattle.solver.specs.Marks.{
-  withMarks,
-  IsFloor,
-  Floors,
-  AtMost,
-  Crowded,
-  Equals,
-  Among,
-  FirstLive,
-  Unreferred,
-  FirstZero,
-  found,
-  choiceOf,
-  StandingOf,
-  Marked,
-};
-ghost use Rattle.solver.specs.Rows.{SignalsOf, Below, Rows};
+ghost use Rattle.solver.specs.Marks.{withMarks, Floors, AtMost, found, choiceOf, StandingOf, Marked};
+ghost use Rattle.solver.specs.Rows.{Rows};
 ghost use Rattle.solver.specs.Search.{Prepared};
-
-// A floor above all signals: the constraint marks nothing.
-const NONE: u64 = 0xffff_ffff_ffff_ffff;
 
 // A step that marks an unmarked signal, if there is one.
 pub(crate) enum Choice {
@@ -59,292 +39,6 @@ pub(crate) enum Choice {
 struct Place {
     constraint: u32,
     reference: u32,
-}
-
-// The lowest unmarked one of the signals of a form, 0 where there is none.
-fn first_live(signals: &[u32], marks: &[bool]) -> u32
-    requires { ⌜ Below (now signals) (length (now marks)) ⌝ }
-    ensures { λ r. ⌜ ((form : ℕ → ℕ) (n : ℕ) → SignalsOf form n (now (signals .entry)) → (b : ℕ → ℕ)
-        → FirstLive form (withMarks b (now (marks .entry))) n r) ⌝ }
-{
-    let mut i: usize = 0;
-    while i < signals.len() {
-        let s = signals[i];
-        i = i + 1;
-        if !marks[s as usize] {
-            return s;
-        }
-    }
-    0
-}
-
-// Whether two unmarked ones of the signals of a form have bound p - 1.
-fn is_crowded<'a>(signals: &[u32], bounds: &'a [u32], marks: &'a [bool], p: u32) -> bool
-    requires { ⌜ Below (now signals) (length (now bounds)) × Below (now signals) (length (now marks)) × (0 < p) ⌝ }
-    ensures { λ r. ⌜ (r ≡ true → (form : ℕ → ℕ) (n : ℕ) → SignalsOf form n (now (signals .entry))
-        → Crowded p n form (viewOf p (now (bounds .entry)) (now (marks .entry)))) ⌝ }
-{
-    let mut found: u32 = 0;
-    let mut i: usize = 0;
-    while i < signals.len() {
-        let s = signals[i];
-        i = i + 1;
-        if !marks[s as usize] {
-            if bounds[s as usize] == p - 1 {
-                if found != 0 {
-                    return true;
-                }
-                found = s;
-            }
-        }
-    }
-    false
-}
-
-// Whether x is among the first values.
-fn is_among(values: &[u32; 257], count: usize, x: u32) -> bool
-    requires { ⌜ count ≤ 257 ⌝ }
-    ensures { λ r. ⌜ (r ≡ true → Among (now (values .entry)) count x) ⌝ }
-{
-    let mut i: usize = 0;
-    while i < count {
-        if values[i] == x {
-            return true;
-        }
-        i = i + 1;
-    }
-    false
-}
-
-// Whether two unmarked ones of the signals have equal coefficients. Their weights are equal then, whatever the reference.
-fn has_equals(form: &[u32], signals: &[u32], marks: &[bool]) -> bool
-    requires { ⌜ Below (now signals) (length (now form)) × Below (now signals) (length (now marks)) × (length (now signals) ≤ 256) ⌝ }
-    ensures { λ r. ⌜ (r ≡ true → (n : ℕ) → SignalsOf (coefIn (now (form .entry))) n (now (signals .entry)) → (b : ℕ → ℕ)
-        → Equals n (coefIn (now (form .entry))) (withMarks b (now (marks .entry)))) ⌝ }
-{
-    let mut seen = [0u32; 257];
-    let mut count: usize = 0;
-    let mut i: usize = 0;
-    while i < signals.len() {
-        let at = signals[i] as usize;
-        i = i + 1;
-        if !marks[at] {
-            let coef = form[at];
-            if is_among(&seen, count, coef) {
-                return true;
-            }
-            seen[count] = coef;
-            count = count + 1;
-        }
-    }
-    false
-}
-
-// Whether one of the signals may be the reference of a digits step.
-fn has_reference<'a>(
-    form: &[u32],
-    signals: &[u32],
-    bounds: &'a [u32],
-    marks: &'a [bool],
-    n: u32,
-    p: u32,
-) -> bool
-    requires { ⌜ SignalsOf (coefIn (now form)) n (now signals) × (n ≤ 256) ⌝ }
-    ensures { λ r. ⌜ (r ≡ false → Unreferred p n (coefIn (now (form .entry))) (viewOf p (now (bounds .entry)) (now (marks .entry))) n) ⌝ }
-{
-    let mut i: usize = 0;
-    while i < signals.len() {
-        let r = signals[i];
-        i = i + 1;
-        if separated(form, bounds, marks, n, p, r) {
-            return true;
-        }
-    }
-    false
-}
-
-// A number at most the lowest unmarked signal that a step by constraint k marks: where k is linear, its lowest unmarked signal.
-fn low_of(circuit: &[u8], table: &[u32; 513], rows: &[u32], marks: &[bool], n: u32, k: u32) -> u64
-    requires { ⌜ Prepared (now circuit) (now table) × Rows (circuitOf (now circuit)) (now rows) × (n ≡ circuitOf (now circuit) .n)
-        × (length (now marks) ≡ 257) × (1 ≤ k) × (k ≤ circuitOf (now circuit) .m) ⌝ }
-    ensures { λ r. ⌜ ((b : ℕ → ℕ) → IsFloor (circuitOf (now (circuit .entry))) (withMarks b (now (marks .entry))) k r) ⌝ }
-{
-    let part = part_of(circuit, table, k);
-    if !is_linear(part) {
-        let b = after_form(part);
-        let t = unmarked_in(after_form(b), marks);
-        if t == 0 {
-            return NONE;
-        }
-        if !product_met(part, marks, t) {
-            return NONE;
-        }
-        return t as u64;
-    }
-    let t = first_live(signals_of(rows, n, k), marks);
-    if t == 0 {
-        return NONE;
-    }
-    t as u64
-}
-
-// The floor `low` of constraint k, or none where it's loose, k is linear, and no digits step by k is met.
-fn floor_of<'a>(
-    circuit: &[u8],
-    table: &[u32; 513],
-    rows: &[u32],
-    bounds: &'a [u32],
-    marks: &'a [bool],
-    p: u32,
-    n: u32,
-    k: u32,
-    low: u64,
-    is_loose: bool,
-) -> u64
-    requires { ⌜ StandingOf (now circuit) (now table) (now bounds) (now marks) p n × (1 ≤ k) × (k ≤ circuitOf (now circuit) .m)
-        × IsFloor (circuitOf (now circuit)) (viewOf p (now bounds) (now marks)) k low
-        × Rows (circuitOf (now circuit)) (now rows) ⌝ }
-    ensures { λ r. ⌜ IsFloor (circuitOf (now (circuit .entry))) (viewOf p (now (bounds .entry)) (now (marks .entry))) k r ⌝ }
-{
-    if !is_loose {
-        return low;
-    }
-    let part = part_of(circuit, table, k);
-    if !is_linear(part) {
-        return low;
-    }
-    let signals = signals_of(rows, n, k);
-    if is_crowded(signals, bounds, marks, p) {
-        return NONE;
-    }
-    let form = row_of(rows, n, k);
-    if has_equals(form, signals, marks) {
-        return NONE;
-    }
-    if !has_reference(form, signals, bounds, marks, n, p) {
-        return NONE;
-    }
-    low
-}
-
-// Finds the floors that are not known, as loose ones.
-fn fill_floors(
-    circuit: &[u8],
-    table: &[u32; 513],
-    rows: &[u32],
-    marks: &[bool],
-    floors: &mut [u64],
-    loose: &mut [bool],
-    n: u32,
-    m: u32,
-)
-    requires { ⌜ Prepared (now circuit) (now table) × Rows (circuitOf (now circuit)) (now rows) × (n ≡ circuitOf (now circuit) .n)
-        × (length (now marks) ≡ 257) × (m ≡ circuitOf (now circuit) .m) × (m < length (now floors)) × (m < length (now loose)) ⌝ }
-    ensures { λ r. ⌜ ((b : ℕ → ℕ) → Floors (circuitOf (now (circuit .entry))) (withMarks b (now (marks .entry))) (now (floors .entry))
-        → Floors (circuitOf (now (circuit .entry))) (withMarks b (now (marks .entry))) (now (floors .exit))) ⌝ }
-{
-    let mut k: u32 = 0;
-    while k < m {
-        k = k + 1;
-        if floors[k as usize] == 0 {
-            floors[k as usize] = low_of(circuit, table, rows, marks, n, k);
-            loose[k as usize] = true;
-        }
-    }
-}
-
-// The lowest of `start` and the floors. A loose floor is raised only where it is below what was found before.
-fn lowest_floor<'a>(
-    circuit: &[u8],
-    table: &[u32; 513],
-    rows: &[u32],
-    bounds: &'a [u32],
-    marks: &'a [bool],
-    floors: &mut [u64],
-    loose: &mut [bool],
-    p: u32,
-    n: u32,
-    m: u32,
-    start: u64,
-) -> u64
-    requires { ⌜ StandingOf (now circuit) (now table) (now bounds) (now marks) p n × (m ≡ circuitOf (now circuit) .m)
-        × (m < length (now floors)) × (m < length (now loose))
-        × Floors (circuitOf (now circuit)) (viewOf p (now bounds) (now marks)) (now floors)
-        × Rows (circuitOf (now circuit)) (now rows) ⌝ }
-    ensures { λ r. ⌜ Floors (circuitOf (now (circuit .entry))) (viewOf p (now (bounds .entry)) (now (marks .entry))) (now (floors .exit))
-        × AtMost (now (floors .exit)) m r ⌝ }
-{
-    let mut lowest = start;
-    let mut k: u32 = 0;
-    while k < m {
-        k = k + 1;
-        let at = k as usize;
-        let low = floors[at];
-        if low < lowest {
-            let floor = floor_of(circuit, table, rows, bounds, marks, p, n, k, low, loose[at]);
-            floors[at] = floor;
-            loose[at] = false;
-            if floor < lowest {
-                lowest = floor;
-            }
-        }
-    }
-    lowest
-}
-
-// The lowest unmarked signal with bound 0, n + 1 where there is none.
-fn first_zero<'a>(bounds: &'a [u32], marks: &'a [bool], n: u32) -> u32
-    requires { ⌜ (n < length (now bounds)) × (n < length (now marks)) × (n ≤ 256) ⌝ }
-    ensures { λ r. ⌜ ((p : ℕ) → FirstZero (viewOf p (now (bounds .entry)) (now (marks .entry))) n r) ⌝ }
-{
-    let mut s: u32 = 0;
-    while s < n {
-        s = s + 1;
-        let at = s as usize;
-        if bounds[at] == 0 {
-            if !marks[at] {
-                return s;
-            }
-        }
-    }
-    n + 1
-}
-
-// Finds as many floors as it takes to know the lowest target of a step, or a number at most each floor, and answers it.
-fn raise_floors<'a>(
-    circuit: &[u8],
-    table: &[u32; 513],
-    rows: &[u32],
-    bounds: &'a [u32],
-    marks: &'a [bool],
-    floors: &mut [u64],
-    loose: &mut [bool],
-    p: u32,
-    n: u32,
-    m: u32,
-) -> u64
-    requires { ⌜ StandingOf (now circuit) (now table) (now bounds) (now marks) p n × (m ≡ circuitOf (now circuit) .m)
-        × (m < length (now floors)) × (m < length (now loose))
-        × Floors (circuitOf (now circuit)) (viewOf p (now bounds) (now marks)) (now floors)
-        × Rows (circuitOf (now circuit)) (now rows) ⌝ }
-    ensures { λ r. ⌜ Floors (circuitOf (now (circuit .entry))) (viewOf p (now (bounds .entry)) (now (marks .entry))) (now (floors .exit))
-        × AtMost (now (floors .exit)) m r ⌝ }
-{
-    let zero = first_zero(bounds, marks, n);
-    fill_floors(circuit, table, rows, marks, floors, loose, n, m);
-    lowest_floor(
-        circuit,
-        table,
-        rows,
-        bounds,
-        marks,
-        floors,
-        loose,
-        p,
-        n,
-        m,
-        zero as u64,
-    )
 }
 
 // The lowest constraint by which a product step marks t, 0 where there is none.

@@ -14,11 +14,14 @@ pub(crate) fn least(entries: &[u64], m: u32) -> u32
     ensures { λ r. ⌜ Least (now (entries .entry)) m r ⌝ }
 {
     let mut r: u32 = 0;
+    let mut lowest = entries[0];
     let mut k: u32 = 0;
     while k < m {
         k = k + 1;
-        if entries[k as usize] < entries[r as usize] {
+        let next = entries[k as usize];
+        if next < lowest {
             r = k;
+            lowest = next;
         }
     }
     r

@@ -65,7 +65,7 @@ fn named_form(part: &[u8]) -> [u32; 257]
     form
 }
 
-// What the row of the constraint at the start of the part starts with.
+// The entries of the row of the constraint at the start of the part, up to 256.
 fn form_of(part: &[u8], p: u32) -> [u32; 257]
     requires { ⌜ 1 < p ⌝ }
     ensures { λ r. ⌜ IsRow p 256 (constraintIn (now (part .entry))) (coefIn r) ⌝ }
@@ -76,7 +76,7 @@ fn form_of(part: &[u8], p: u32) -> [u32; 257]
     named_form(part)
 }
 
-// Copies the first n + 1 entries.
+// Copies the entries 0 to n to the row that starts at `start`.
 fn put_row(rows: &mut [u32], start: usize, form: &[u32; 257], n: u32)
     requires { ⌜ (start + (n + 1) ≤ length (now rows)) × (n ≤ 256) ⌝ }
     ensures { λ r. ⌜ Copied (now (form .entry)) (now (rows .entry)) start (n + 1) (now (rows .exit)) ⌝ }
@@ -106,7 +106,7 @@ fn put_signals(rows: &mut [u32], at: usize, form: &[u32; 257], n: u32)
     rows[at] = count as u32;
 }
 
-// Fills the table.
+// Fills the table with the row of each constraint.
 pub(crate) fn fill_rows(
     circuit: &[u8],
     table: &[u32; 513],

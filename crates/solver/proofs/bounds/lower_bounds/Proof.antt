@@ -1,11 +1,9 @@
 -- `solver::bounds::lower_bounds`: at each turn the steps so far, what is known of keys, and the bytes written.
-use Prim.Native.Nat.{_+_, _-_, _≤_}
+use Prim.Native.Nat.{_-_, _≤_}
 use mathlib.Core.Path.{_≡_, refl, sym, _∙_}
 use native.Mathlib.Omega.{arith}
 use borrow.Author.Needs.{needs}
 use lib.ListN.{length, length-set}
-use Rattle.solver.specs.Bounds.{withBounds}
-use Rattle.derivation.specs.Inner.{circuitOf}
 use Rattle.solver.proofs.CandidateLaws.{sizes, few-constraints}
 use Rattle.solver.proofs.BoundsPhase.{no-keys}
 use Rattle.solver.proofs.RowLaws.{row-inside}

@@ -1,5 +1,4 @@
 -- `solver::call::solve_with`: the table, the two phases one after the other, then the header and the answer.
-use Prim.Native.Nat.{_+_, _*_, _≤_}
 use mathlib.Core.Path.{_≡_, refl, _∙_}
 use native.Mathlib.Omega.{arith}
 use borrow.Author.Needs.{needs}
@@ -51,10 +50,10 @@ lower-bounds-requires c κs =
     let at-offsets = at-fill-rows .before .before .before in
     let entry = at-offsets .before .before .before .before in (
       laws.bounds-of _ _ _ _ _ _ (entry .pre .0) (entry .pre .1) (entry .pre .2) _ (at-offsets .offsets .ensures) _ _ (at-start .start .ensures)
-          (sized-bounds (at-start)),
+          (sized-bounds at-start),
       entry .pre .0 .is-m,
       laws.start-bounds _ _ _ _ _ _ (entry .pre .0) (entry .pre .1) (entry .pre .2) _ (at-offsets .offsets .ensures) _ _
-          (at-start .start .ensures) (sized-bounds (at-start)),
+          (at-start .start .ensures) (sized-bounds at-start),
       entry .pre .3,
       at-fill-rows .fill-rows .ensures,
     )
@@ -73,15 +72,15 @@ add-marks-requires c κs =
     let at-offsets = at-fill-rows .before .before .before in
     let entry = at-offsets .before .before .before .before in (
       laws.standing-of _ _ _ _ _ _ (entry .pre .0) (entry .pre .1) (entry .pre .2) _ (at-offsets .offsets .ensures) _ _ (at-start .start .ensures)
-          (sized-bounds (at-start)) _ (entry .pre .3) _ _ _ (at-lower-bounds .lower-bounds .ensures)
-          (at-lower-bounds .lower-bounds .kept .1 .1 .1 .0 ∙ sized-bounds (at-start)) (sized-marks (at-start)),
+          (sized-bounds at-start) _ (entry .pre .3) _ _ _ (at-lower-bounds .lower-bounds .ensures)
+          (at-lower-bounds .lower-bounds .kept .1 .1 .1 .0 ∙ sized-bounds at-start) (sized-marks at-start),
       entry .pre .0 .is-m,
       laws.bounded-view _ _ _ _ _ _ (entry .pre .0) (entry .pre .1) (entry .pre .2) _ (at-offsets .offsets .ensures) _ _
-          (at-start .start .ensures) (sized-bounds (at-start)) _ (entry .pre .3) _ _ _ (at-lower-bounds .lower-bounds .ensures)
-          (at-lower-bounds .lower-bounds .kept .1 .1 .1 .0 ∙ sized-bounds (at-start)) (sized-marks (at-start)),
+          (at-start .start .ensures) (sized-bounds at-start) _ (entry .pre .3) _ _ _ (at-lower-bounds .lower-bounds .ensures)
+          (at-lower-bounds .lower-bounds .kept .1 .1 .1 .0 ∙ sized-bounds at-start) (sized-marks at-start),
       laws.base-small _ _ _ _ _ _ (entry .pre .0) (entry .pre .1) (entry .pre .2) _ (at-offsets .offsets .ensures) _ _ (at-start .start .ensures)
-          (sized-bounds (at-start)) _ (entry .pre .3) _ _ _ (at-lower-bounds .lower-bounds .ensures)
-          (at-lower-bounds .lower-bounds .kept .1 .1 .1 .0 ∙ sized-bounds (at-start)) (sized-marks (at-start)),
+          (sized-bounds at-start) _ (entry .pre .3) _ _ _ (at-lower-bounds .lower-bounds .ensures)
+          (at-lower-bounds .lower-bounds .kept .1 .1 .1 .0 ∙ sized-bounds at-start) (sized-marks at-start),
       omega (arith, entry .pre .3, at-lower-bounds .lower-bounds .kept .1 .1 .1 .1 .0),
       at-fill-rows .fill-rows .ensures,
     )
@@ -95,8 +94,8 @@ put-header-requires c κs =
     let at-offsets = at-fill-rows .before .before .before in
     let entry = at-offsets .before .before .before .before in
     let few = laws.steps-small _ _ _ _ _ _ (entry .pre .0) (entry .pre .1) (entry .pre .2) _ (at-offsets .offsets .ensures) _ _
-    (at-start .start .ensures) (sized-bounds (at-start)) _ (entry .pre .3) _ _ _ (at-lower-bounds .lower-bounds .ensures)
-    (at-lower-bounds .lower-bounds .kept .1 .1 .1 .0 ∙ sized-bounds (at-start)) (sized-marks (at-start)) _ _ _ (at-add-marks .add-marks .ensures) in
+    (at-start .start .ensures) (sized-bounds at-start) _ (entry .pre .3) _ _ _ (at-lower-bounds .lower-bounds .ensures)
+    (at-lower-bounds .lower-bounds .kept .1 .1 .1 .0 ∙ sized-bounds at-start) (sized-marks at-start) _ _ _ (at-add-marks .add-marks .ensures) in
     (omega (arith, entry .pre .3, at-lower-bounds .lower-bounds .kept .1 .1 .1 .1 .0, at-add-marks .add-marks .kept .1 .1 .1 .1 .1 .0), omega arith)
 
 slice-aggregate-count-marks : tie.Need-slice-aggregate-count-marks
@@ -123,8 +122,9 @@ add-t46 c = search needs
 same-length : tie.Need-same-length
 same-length c =
     let at-put-header = c .before .before .before .before .before .before in
-    let at-lower-bounds = at-put-header .before .before .before .before .before .before .before .before .before .before .before .before .before .before in
-    let at-fill-rows = at-lower-bounds .before .before .before .before .before .before .before .before .before .before in at-fill-rows .fill-rows .kept .1 .1 .0
+    let at-add-marks = at-put-header .before .before .before .before .before in
+    let at-lower-bounds = at-add-marks .before .before .before .before .before .before .before .before .before in
+    let at-start = at-lower-bounds .before .before .before .before .before .before .before in at-start .before .before .before .fill-rows .kept .1 .1 .0
 
 same-length-2 : tie.Need-same-length-2
 same-length-2 c =
@@ -144,12 +144,12 @@ returns c =
     let at-offsets = at-fill-rows .before .before .before in
     let entry = at-offsets .before .before .before .before in (
       laws.solved-answer _ _ _ _ _ _ (entry .pre .0) (entry .pre .1) (entry .pre .2) _ (at-offsets .offsets .ensures) _ _
-          (at-start .start .ensures) (sized-bounds (at-start)) _ (entry .pre .3) _ _ _ (at-lower-bounds .lower-bounds .ensures)
-          (at-lower-bounds .lower-bounds .kept .1 .1 .1 .0 ∙ sized-bounds (at-start)) (sized-marks (at-start)) _ _ _ (at-add-marks .add-marks .ensures) _
+          (at-start .start .ensures) (sized-bounds at-start) _ (entry .pre .3) _ _ _ (at-lower-bounds .lower-bounds .ensures)
+          (at-lower-bounds .lower-bounds .kept .1 .1 .1 .0 ∙ sized-bounds at-start) (sized-marks at-start) _ _ _ (at-add-marks .add-marks .ensures) _
           _ _ (at-count-marks .count-marks .ensures) (c .verdict-of .ensures) refl,
       laws.solved-output _ _ _ _ _ _ (entry .pre .0) (entry .pre .1) (entry .pre .2) _ (at-offsets .offsets .ensures) _ _
-          (at-start .start .ensures) (sized-bounds (at-start)) _ (entry .pre .3) _ _ _ (at-lower-bounds .lower-bounds .ensures)
-          (at-lower-bounds .lower-bounds .kept .1 .1 .1 .0 ∙ sized-bounds (at-start)) (sized-marks (at-start)) _ _ _ (at-add-marks .add-marks .ensures) _
+          (at-start .start .ensures) (sized-bounds at-start) _ (entry .pre .3) _ _ _ (at-lower-bounds .lower-bounds .ensures)
+          (at-lower-bounds .lower-bounds .kept .1 .1 .1 .0 ∙ sized-bounds at-start) (sized-marks at-start) _ _ _ (at-add-marks .add-marks .ensures) _
           (at-put-header .put-header .ensures),
     )
 

@@ -14,7 +14,7 @@ use Rattle.solver.proofs.marks.add_marks.Reads as reads
 use Rattle.solver.proofs.marks.add_marks.Lts as lts
 use Rattle.solver.proofs.marks.next_mark.Reads as next-mark-reads
 use Rattle.solver.proofs.marks.number_of.Reads as number-of-reads
-use Rattle.solver.proofs.marks.raise_floors.Reads as raise-floors-reads
+use Rattle.solver.proofs.floor.raise_floors.Reads as raise-floors-reads
 use Rattle.solver.proofs.memo.forget.Reads as forget-reads
 use Rattle.solver.proofs.output.put_step.Reads as put-step-reads
 
@@ -181,10 +181,9 @@ forget-requires c κs =
 
 add-count : tie.Need-add-count Inv-loop μ-loop
 add-count c =
-    let at-raise-floors = c .before .before .before .before .before .before .before .before .before .before .before .before .before .before .before .before in
-    let at-loop-test = at-raise-floors .before .before .before .before in
+    let at-next-mark = c .before .before .before .before .before .before .before .before .before .before .before in
+    let at-loop-test = at-next-mark .before .before .before .before .before .before .before .before .before in
     let entry = at-loop-test .before .before .before .before .before .before .before in
-    let l = at-loop-test .before .loop in
     let s = sizes (entry .pre .0) in omega (arith, at-loop-test .loop-test .taken)
 
 loop-less : tie.Need-loop-less Inv-loop μ-loop

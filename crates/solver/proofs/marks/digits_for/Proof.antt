@@ -1,11 +1,12 @@
 -- `solver::marks::digits_for`: what is left of the search is what it has still to find.
-use Prim.Native.Nat.{_+_, _-_, _≤_}
+use Prim.Native.Nat.{_-_, _≤_}
 use mathlib.Core.Path.{_≡_, refl}
 use native.Mathlib.Omega.{arith}
 use borrow.Author.Needs.{needs}
 use Rattle.rules.specs.View.{viewOf}
 use Rattle.derivation.specs.Inner.{circuitOf}
 use Rattle.solver.proofs.RowLaws.{row-inside, row-sized}
+use Rattle.solver.proofs.FormLaws.{view-marked}
 use Rattle.solver.proofs.MarkLaws as laws
 use Rattle.solver.proofs.MarkSearch as left
 use Rattle.solver.proofs.marks.digits_for.Statement.{statement}
@@ -54,25 +55,28 @@ is-linear-requires c κs = search needs
 
 row-of-requires : tie.Need-row-of-requires Inv-loop μ-loop Inv-search μ-search
 row-of-requires c κs =
-    let at-search-test = c .before .before .before .before .before .before in
-    let entry = at-search-test .before .before .before .before .before .before .before in
-    row-inside _ _ (entry .pre .7) _ _ (entry .pre .0 .is-n) (omega (arith, at-search-test .search-test .taken, entry .pre .1))
+    let pre = c .before .before .before .before .before .before .before .before .before .before .before .before .before .pre in
+    row-inside _ _ (pre .7) _ _ (pre .0 .is-n) (omega (arith, pre .1))
 
 mul-if3 : tie.Need-mul-if3 Inv-loop μ-loop Inv-search μ-search
 mul-if3 c = search needs
 
 shared-slice-read-if3 : tie.Need-shared-slice-read-if3 Inv-loop μ-loop Inv-search μ-search
 shared-slice-read-if3 c =
-    let at-search-test = c .before .before .before .before .before .before .before .before in
-    let entry = at-search-test .before .before .before .before .before .before .before in
-    let l = row-sized _ _ (entry .pre .7) _ _ (entry .pre .0 .is-n) (omega (arith, at-search-test .search-test .taken, entry .pre .1)) _
-    (c .before .row-of .ensures) in
-    omega (arith, entry .pre .4)
+    let at-row-of = c .before in
+    let pre = at-row-of .before .before .before .before .before .before .before .before .before .before .before .before .before .before .pre in
+    let l = row-sized _ _ (pre .7) _ _ (pre .0 .is-n) (omega (arith, pre .1)) _ (at-row-of .row-of .ensures) in
+    omega (arith, pre .4)
 
 loop-holds : tie.Need-loop-holds Inv-loop μ-loop Inv-search μ-search
 loop-holds c =
-    let at-search-test = c .before .before .before .before .before .before .before .before .before in
-    let at-search = at-search-test .before in (
+    let at-row-of = c .before .before in
+    let at-if2 = at-row-of .before in
+    let at-is-linear = at-if2 .before in
+    let at-part-of = at-is-linear .before in
+    let at-search-test = at-part-of .before .before .before .before in
+    let at-search = at-search-test .before in
+    let entry = at-search .before .before .before .before .before .before in (
       omega arith,
       at-search .search .inv .1,
       at-search .search .inv .2,
@@ -84,13 +88,12 @@ search-less c = search needs
 
 search-again : tie.Need-search-again Inv-loop μ-loop Inv-search μ-search
 search-again c =
-    let at-loop = c .before in
-    let at-search-test = at-loop .before .before .before .before .before .before .before .before .before .before in
-    let entry = at-search-test .before .before .before .before .before .before .before in (
-      omega (arith, at-search-test .search-test .taken),
-      at-loop .loop .inv .1,
-      at-loop .loop .inv .2,
-      left.reference-end _ _ _ _ _ _ (at-loop .loop .inv .3) (omega (arith, entry .pre .0 .is-n)),
+    let at-row-of = c .before .before .before .before in
+    let entry = at-row-of .before .before .before .before .before .before .before .before .before .before .before .before .before .before in (
+      omega arith,
+      c .before .loop .inv .1,
+      c .before .loop .inv .2,
+      left.reference-end _ _ _ _ _ _ (c .before .loop .inv .3) (omega (arith, entry .pre .0 .is-n)),
     )
 
 add-r : tie.Need-add-r Inv-loop μ-loop Inv-search μ-search
@@ -104,12 +107,12 @@ mul-if4 c = search needs
 
 shared-slice-read-if4 : tie.Need-shared-slice-read-if4 Inv-loop μ-loop Inv-search μ-search
 shared-slice-read-if4 c =
-    let at-row-of = c .before .before .before .before .before in
+    let at-loop-test = c .before in
+    let at-row-of = at-loop-test .before .before .before .before in
     let at-search-test = at-row-of .before .before .before .before .before .before .before in
-    let entry = at-search-test .before .before .before .before .before .before .before in
-    let l = row-sized _ _ (entry .pre .7) _ _ (entry .pre .0 .is-n) (omega (arith, at-search-test .search-test .taken, entry .pre .1)) _
-    (at-row-of .row-of .ensures) in
-    omega (arith, c .before .loop-test .taken)
+    let pre = at-search-test .before .before .before .before .before .before .before .pre in
+    let l = row-sized _ _ (pre .7) _ _ (pre .0 .is-n) (omega (arith, pre .1, at-search-test .search-test .taken)) _ (at-row-of .row-of .ensures) in
+    omega (arith, at-loop-test .loop-test .taken)
 
 separated-requires : tie.Need-separated-requires Inv-loop μ-loop Inv-search μ-search
 separated-requires c κs = search needs
@@ -163,7 +166,9 @@ search-less-2 c = search needs
 
 search-again-2 : tie.Need-search-again-2 Inv-loop μ-loop Inv-search μ-search
 search-again-2 c =
-    let at-is-linear = c .before .before .before .before in
+    let at-row-of = c .before .before in
+    let at-if2 = at-row-of .before in
+    let at-is-linear = at-if2 .before in
     let at-part-of = at-is-linear .before in
     let at-search-test = at-part-of .before .before .before .before in
     let at-search = at-search-test .before in
@@ -171,10 +176,10 @@ search-again-2 c =
       omega arith,
       at-search .search .inv .1,
       at-search .search .inv .2,
-      left.digits-on _ _ _ _ _ (at-search .search .inv .3) (omega (arith, at-search-test .search-test .taken))
+      left.digits-on _ _ _ _ _ (at-search .search .inv .3) (at-search-test .search-test .taken)
           (λ u l h. laws.target-absent _ _ (entry .pre .0 .prepared) _ (omega arith) (omega (arith, entry .pre .1, at-search-test .search-test .taken)) _
-          (at-part-of .part-of .ensures) _ (at-is-linear .is-linear .ensures) _ (c .before .before .before .if2 .taken) _ (entry .pre .7) _ (entry .pre .0 .is-n) _
-          (c .before .before .row-of .ensures) _ (c .if3 .left) u),
+          (at-part-of .part-of .ensures) _ (at-is-linear .is-linear .ensures) _ (at-if2 .if2 .taken) _ (entry .pre .7) _ (entry .pre .0 .is-n) _
+          (at-row-of .row-of .ensures) _ (c .if3 .left) u),
     )
 
 search-less-3 : tie.Need-search-less-3 Inv-loop μ-loop Inv-search μ-search
@@ -182,15 +187,16 @@ search-less-3 c = search needs
 
 search-again-3 : tie.Need-search-again-3 Inv-loop μ-loop Inv-search μ-search
 search-again-3 c =
-    let at-search-test = c .before .before .before .before .before .before in
+    let at-part-of = c .before .before in
+    let at-search-test = at-part-of .before .before .before .before in
     let at-search = at-search-test .before in
     let entry = at-search .before .before .before .before .before .before in (
       omega arith,
       at-search .search .inv .1,
       at-search .search .inv .2,
-      left.digits-on _ _ _ _ _ (at-search .search .inv .3) (omega (arith, at-search-test .search-test .taken))
+      left.digits-on _ _ _ _ _ (at-search .search .inv .3) (at-search-test .search-test .taken)
           (λ u l h. laws.nonlinear-unmet _ _ (entry .pre .0 .prepared) _ (omega arith) (omega (arith, entry .pre .1, at-search-test .search-test .taken)) _
-          (c .before .before .part-of .ensures) _ (c .before .is-linear .ensures) _ (c .if2 .left) _ u),
+          (at-part-of .part-of .ensures) _ (c .before .is-linear .ensures) _ (c .if2 .left) _ u),
     )
 
 search-less-4 : tie.Need-search-less-4 Inv-loop μ-loop Inv-search μ-search
@@ -200,13 +206,13 @@ search-again-4 : tie.Need-search-again-4 Inv-loop μ-loop Inv-search μ-search
 search-again-4 c =
     let at-search-test = c .before .before in
     let at-search = at-search-test .before in
-    let entry = at-search .before .before .before .before .before .before in (
+    let pre = at-search .before .before .before .before .before .before .pre in (
       omega arith,
       at-search .search .inv .1,
       at-search .search .inv .2,
-      left.digits-on _ _ _ _ _ (at-search .search .inv .3) (omega (arith, at-search-test .search-test .taken))
-          (λ u l h. laws.below-digits _ _ _ (entry .pre .6) _ _ (omega arith) (omega (arith, entry .pre .1, at-search-test .search-test .taken))
-          (entry .pre .3) (laws.view-marked _ _ _ _ (entry .pre .5)) (c .if1 .left) u l h),
+      left.digits-on _ _ _ _ _ (at-search .search .inv .3) (at-search-test .search-test .taken)
+          (λ u l h. laws.below-digits _ _ _ (pre .6) _ _ (omega arith) (omega (arith, pre .1)) (pre .3) (view-marked _ _ _ _ (pre .5))
+          (c .if1 .left) u l h),
     )
 
 returns : tie.Need-returns Inv-loop μ-loop Inv-search μ-search
@@ -221,8 +227,7 @@ returns-2 : tie.Need-returns-2 Inv-loop μ-loop Inv-search μ-search
 returns-2 c =
     let at-loop-test = c .before .before .before .before in
     let at-loop = at-loop-test .before in
-    let at-if3 = at-loop .before in
-    let at-row-of = at-if3 .before .before in
+    let at-row-of = at-loop .before .before .before in
     let at-if2 = at-row-of .before in
     let at-is-linear = at-if2 .before in
     let at-part-of = at-is-linear .before in
@@ -234,8 +239,8 @@ returns-2 c =
           left.reference-hit _ _ _ _ _ _ (at-loop .loop .inv .3) (omega arith) (omega (arith, entry .pre .0 .is-n, at-loop-test .loop-test .taken))
           (laws.reference-met _ _ (entry .pre .0 .prepared) _ (omega arith) (omega (arith, entry .pre .1, at-search-test .search-test .taken)) _
           (at-part-of .part-of .ensures) _ (at-is-linear .is-linear .ensures) _ (at-if2 .if2 .taken) _ (entry .pre .7) _ (entry .pre .0 .is-n) _
-          (at-row-of .row-of .ensures) _ (entry .pre .0 .is-p) _ _ _ (c .before .separated .ensures) (at-if3 .if3 .taken) (c .before .before .if4 .taken)
-          (c .if5 .taken)) later,
+          (at-row-of .row-of .ensures) _ (entry .pre .0 .is-p) _ _ _ (c .before .separated .ensures)
+          (at-loop .before .if3 .taken) (c .before .before .if4 .taken) (c .if5 .taken)) later,
     )
 
 pub digits-for-spec : {M : Type 1} → statement M

@@ -139,8 +139,8 @@ loop-again c =
     let entry = at-loop .before .before .before .before .before .before in (
       omega arith,
       laws.next-on _ _ _ _ _ _ _ (entry .pre .0) (entry .pre .1) _ (entry .pre .3) _ (at-loop .loop .inv .1)
-          (at-loop-test .loop-test .taken) (at-if1 .if1 .taken) (at-if2 .if2 .left) _ (at-product-for .product-for .ensures .1) (at-if4 .if4 .left) _ _
-          (at-digits-for .digits-for .ensures .2) (c .if5 .left),
+          (at-loop-test .loop-test .taken) (at-if1 .if1 .taken) (at-if2 .if2 .left) _ (at-product-for .product-for .ensures .1)
+          (at-if4 .if4 .left) _ _ (at-digits-for .digits-for .ensures .2) (c .if5 .left),
     )
 
 loop-less-2 : tie.Need-loop-less-2 Inv-loop μ-loop

@@ -1,4 +1,4 @@
--- `solver::marks::first_live`: none of the signals passed is unmarked.
+-- `solver::references::first_live`: none of the signals passed is unmarked.
 use Prim.Native.Nat.{ℕ, _-_, _≤_}
 use native.Mathlib.Omega.{arith}
 use lib.ListN.{length}
@@ -7,12 +7,12 @@ use Rattle.solver.specs.Rows.{reach, SignalsOf}
 use borrow.Author.Tests.{not-false}
 use Rattle.solver.specs.Marks.{withMarks}
 use Rattle.solver.proofs.ListLaws.{next}
-use Rattle.solver.proofs.MarkLaws as laws
+use Rattle.solver.proofs.FormLaws as laws
 use borrow.Author.Needs.{needs}
-use Rattle.solver.proofs.marks.first_live.Statement.{statement}
-use Rattle.solver.proofs.marks.first_live.Tie as tie
-use Rattle.solver.proofs.marks.first_live.Reads as reads
-use Rattle.solver.proofs.marks.first_live.Lts as lts
+use Rattle.solver.proofs.references.first_live.Statement.{statement}
+use Rattle.solver.proofs.references.first_live.Tie as tie
+use Rattle.solver.proofs.references.first_live.Reads as reads
+use Rattle.solver.proofs.references.first_live.Lts as lts
 
 abbrev Inv-loop : tie.InvT-loop
 Inv-loop signals marks i₀ i =

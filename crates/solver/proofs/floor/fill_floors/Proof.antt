@@ -1,4 +1,4 @@
--- `solver::marks::fill_floors`: each floor found is one.
+-- `solver::floor::fill_floors`: each floor found is one.
 use Prim.Native.Nat.{ℕ, _+_, _-_, _≤_}
 use mathlib.Core.Path.{_≡_, refl, _∙_}
 use native.Mathlib.Omega.{arith}
@@ -7,11 +7,11 @@ use lib.ListN.{length, length-set}
 use Rattle.derivation.specs.Inner.{circuitOf}
 use Rattle.solver.specs.Marks.{withMarks, Floors}
 use Rattle.solver.proofs.Floors.{floors-set}
-use Rattle.solver.proofs.marks.fill_floors.Statement.{statement}
-use Rattle.solver.proofs.marks.fill_floors.Tie as tie
-use Rattle.solver.proofs.marks.fill_floors.Reads as reads
-use Rattle.solver.proofs.marks.fill_floors.Lts as lts
-use Rattle.solver.proofs.marks.low_of.Reads as low-of-reads
+use Rattle.solver.proofs.floor.fill_floors.Statement.{statement}
+use Rattle.solver.proofs.floor.fill_floors.Tie as tie
+use Rattle.solver.proofs.floor.fill_floors.Reads as reads
+use Rattle.solver.proofs.floor.fill_floors.Lts as lts
+use Rattle.solver.proofs.floor.low_of.Reads as low-of-reads
 
 abbrev Inv-loop : tie.InvT-loop
 Inv-loop circuit table rows marks floors₀ loose₀ n m k₀ floors loose k =

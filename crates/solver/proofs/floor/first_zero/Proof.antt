@@ -1,15 +1,15 @@
--- `solver::marks::first_zero`: none of the signals passed is one.
+-- `solver::floor::first_zero`: none of the signals passed is one.
 use Prim.Native.Nat.{ℕ, _-_, _≤_}
 use native.Mathlib.Omega.{arith}
 use borrow.Author.Needs.{needs}
 use borrow.Author.Tests.{not-true, not-false}
 use Rattle.laws.proofs.Sum.{true-or-false}
 use Rattle.rules.specs.View.{viewOf}
-use Rattle.solver.proofs.MarkLaws as laws
-use Rattle.solver.proofs.marks.first_zero.Statement.{statement}
-use Rattle.solver.proofs.marks.first_zero.Tie as tie
-use Rattle.solver.proofs.marks.first_zero.Reads as reads
-use Rattle.solver.proofs.marks.first_zero.Lts as lts
+use Rattle.solver.proofs.FormLaws as laws
+use Rattle.solver.proofs.floor.first_zero.Statement.{statement}
+use Rattle.solver.proofs.floor.first_zero.Tie as tie
+use Rattle.solver.proofs.floor.first_zero.Reads as reads
+use Rattle.solver.proofs.floor.first_zero.Lts as lts
 
 abbrev Inv-loop : tie.InvT-loop
 Inv-loop bounds marks n s₀ s = (s ≤ n) × ((p : ℕ) → laws.Nonzero (viewOf p bounds marks) s)

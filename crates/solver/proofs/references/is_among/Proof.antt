@@ -1,14 +1,14 @@
--- `solver::marks::is_among`: where it answers yes, x is at i.
+-- `solver::references::is_among`: where it answers yes, x is at i.
 use Prim.Native.Nat.{_-_, _≤_}
 use mathlib.Core.Path.{refl}
 use mathlib.Core.Bool.{false}
 use native.Mathlib.Omega.{arith}
 use borrow.Author.Needs.{needs}
 use Rattle.laws.proofs.Sum.{true-or-false}
-use Rattle.solver.proofs.marks.is_among.Statement.{statement}
-use Rattle.solver.proofs.marks.is_among.Tie as tie
-use Rattle.solver.proofs.marks.is_among.Reads as reads
-use Rattle.solver.proofs.marks.is_among.Lts as lts
+use Rattle.solver.proofs.references.is_among.Statement.{statement}
+use Rattle.solver.proofs.references.is_among.Tie as tie
+use Rattle.solver.proofs.references.is_among.Reads as reads
+use Rattle.solver.proofs.references.is_among.Lts as lts
 
 abbrev Inv-loop : tie.InvT-loop
 Inv-loop values count x i₀ i = i ≤ count

@@ -1,4 +1,4 @@
--- `solver::marks::low_of`: each way out is one law.
+-- `solver::floor::low_of`: each way out is one law.
 use mathlib.Core.Path.{refl}
 use native.Mathlib.Omega.{arith}
 use borrow.Author.Needs.{needs}
@@ -7,15 +7,15 @@ use Rattle.solver.proofs.CandidateLaws.{well-formed}
 use Rattle.solver.proofs.RowLaws.{row-inside, row-few, row-signals}
 use Rattle.solver.proofs.ListLaws.{below}
 use Rattle.solver.proofs.MarkLaws as laws
-use Rattle.solver.proofs.marks.low_of.Statement.{statement}
-use Rattle.solver.proofs.marks.low_of.Tie as tie
-use Rattle.solver.proofs.marks.low_of.Reads as reads
-use Rattle.solver.proofs.marks.low_of.Lts as lts
+use Rattle.solver.proofs.floor.low_of.Statement.{statement}
+use Rattle.solver.proofs.floor.low_of.Tie as tie
+use Rattle.solver.proofs.floor.low_of.Reads as reads
+use Rattle.solver.proofs.floor.low_of.Lts as lts
 use Rattle.circuit.proofs.reader.after_form.Reads as after-form-reads
 use Rattle.derivation.proofs.offsets.part_of.Reads as part-of-reads
 use Rattle.rules.proofs.constraint.is_linear.Reads as is-linear-reads
 use Rattle.rules.proofs.constraint.product_met.Reads as product-met-reads
-use Rattle.solver.proofs.marks.first_live.Reads as first-live-reads
+use Rattle.solver.proofs.references.first_live.Reads as first-live-reads
 use Rattle.solver.proofs.rows.signals_of.Reads as signals-of-reads
 use Rattle.solver.proofs.search.unmarked_in.Reads as unmarked-in-reads
 

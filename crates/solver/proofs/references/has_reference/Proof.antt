@@ -1,25 +1,24 @@
--- `solver::marks::has_reference`: none of the signals passed is a reference.
+-- `solver::references::has_reference`: none of the signals passed is a reference.
 use mathlib.Core.Path.{refl, sym, _∙_}
 use mathlib.Core.Bool.{true}
-use Prim.Native.Nat.{ℕ, _-_, _≤_}
+use Prim.Native.Nat.{_-_, _≤_}
 use native.Mathlib.Omega.{arith}
 use lib.ListN.{length}
 use Rattle.rules.specs.View.{coefIn, viewOf}
 use Rattle.solver.specs.Rows.{reach}
 use Rattle.laws.proofs.Sum.{true-or-false}
-use Rattle.solver.specs.Marks.{Unreferred}
 use Rattle.solver.proofs.ListLaws.{next}
-use Rattle.solver.proofs.MarkLaws as laws
+use Rattle.solver.proofs.FormLaws as laws
 use borrow.Author.Needs.{needs}
-use Rattle.solver.proofs.marks.has_reference.Statement.{statement}
-use Rattle.solver.proofs.marks.has_reference.Tie as tie
-use Rattle.solver.proofs.marks.has_reference.Reads as reads
-use Rattle.solver.proofs.marks.has_reference.Lts as lts
+use Rattle.solver.proofs.references.has_reference.Statement.{statement}
+use Rattle.solver.proofs.references.has_reference.Tie as tie
+use Rattle.solver.proofs.references.has_reference.Reads as reads
+use Rattle.solver.proofs.references.has_reference.Lts as lts
 use Rattle.rules.proofs.digits.separated.Reads as separated-reads
 
 abbrev Inv-loop : tie.InvT-loop
 Inv-loop form signals bounds marks n p i₀ i =
-    (i ≤ length signals) × Unreferred p n (coefIn form) (viewOf p bounds marks) (reach (coefIn signals) i)
+    (i ≤ length signals) × laws.Unreferred p n (coefIn form) (viewOf p bounds marks) (reach (coefIn signals) i)
 
 abbrev μ-loop : tie.MeasureT-loop
 μ-loop form signals bounds marks n p i₀ i = length signals - i
@@ -61,7 +60,7 @@ returns-2 : tie.Need-returns-2 Inv-loop μ-loop
 returns-2 c =
     let at-loop = c .before in
     let entry = at-loop .before .before .before .before .before in
-    λ e. laws.unreferred-end _ _ _ _ _ (entry .pre .0) _ (c .loop-test .left) (at-loop .loop .inv .0) (at-loop .loop .inv .1)
+    λ e. laws.unreferred-end _ _ _ _ _ (entry .pre .0) _ (c .loop-test .left) (at-loop .loop .inv .0) (at-loop .loop .inv .1) .fails
 
 pub has-reference-spec : {M : Type 1} → statement M
 has-reference-spec =
