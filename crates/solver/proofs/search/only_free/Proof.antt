@@ -79,8 +79,10 @@ loop-less-3 c = search needs
 loop-again-3 : tie.Need-loop-again-3 Inv-loop μ-loop
 loop-again-3 c =
     let at-loop-test = c .before .before in
-    let at-loop = at-loop-test .before in
-    (omega arith, laws.sole-on _ _ _ _ (at-loop .loop .inv .1) (at-loop-test .loop-test .taken) (laws.free-lower _ _ _ _ (omega arith) (c .if1 .left)))
+    let at-loop = at-loop-test .before in (
+      omega arith,
+      laws.sole-on _ _ _ _ (at-loop .loop .inv .1) (at-loop-test .loop-test .taken) (laws.free-lower _ _ _ _ (omega arith) (c .if1 .left)),
+    )
 
 returns-2 : tie.Need-returns-2 Inv-loop μ-loop
 returns-2 c = laws.sole-end _ _ _ _ (c .before .loop .inv .1) (omega arith) (omega arith)
