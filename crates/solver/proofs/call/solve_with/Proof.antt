@@ -124,7 +124,8 @@ same-length c =
     let at-put-header = c .before .before .before .before .before .before in
     let at-add-marks = at-put-header .before .before .before .before .before in
     let at-lower-bounds = at-add-marks .before .before .before .before .before .before .before .before .before in
-    let at-start = at-lower-bounds .before .before .before .before .before .before .before in at-start .before .before .before .fill-rows .kept .1 .1 .0
+    let at-start = at-lower-bounds .before .before .before .before .before .before .before in
+    at-start .before .before .before .fill-rows .kept .1 .1 .0
 
 same-length-2 : tie.Need-same-length-2
 same-length-2 c =

@@ -177,8 +177,9 @@ search-again-2 c =
       at-search .search .inv .1,
       at-search .search .inv .2,
       left.digits-on _ _ _ _ _ (at-search .search .inv .3) (at-search-test .search-test .taken)
-          (λ u l h. laws.target-absent _ _ (entry .pre .0 .prepared) _ (omega arith) (omega (arith, entry .pre .1, at-search-test .search-test .taken)) _
-          (at-part-of .part-of .ensures) _ (at-is-linear .is-linear .ensures) _ (at-if2 .if2 .taken) _ (entry .pre .7) _ (entry .pre .0 .is-n) _
+          (λ u l h. laws.target-absent _ _ (entry .pre .0 .prepared) _ (omega arith)
+          (omega (arith, entry .pre .1, at-search-test .search-test .taken)) _ (at-part-of .part-of .ensures) _
+          (at-is-linear .is-linear .ensures) _ (at-if2 .if2 .taken) _ (entry .pre .7) _ (entry .pre .0 .is-n) _
           (at-row-of .row-of .ensures) _ (c .if3 .left) u),
     )
 
@@ -195,8 +196,9 @@ search-again-3 c =
       at-search .search .inv .1,
       at-search .search .inv .2,
       left.digits-on _ _ _ _ _ (at-search .search .inv .3) (at-search-test .search-test .taken)
-          (λ u l h. laws.nonlinear-unmet _ _ (entry .pre .0 .prepared) _ (omega arith) (omega (arith, entry .pre .1, at-search-test .search-test .taken)) _
-          (at-part-of .part-of .ensures) _ (c .before .is-linear .ensures) _ (c .if2 .left) _ u),
+          (λ u l h. laws.nonlinear-unmet _ _ (entry .pre .0 .prepared) _ (omega arith)
+          (omega (arith, entry .pre .1, at-search-test .search-test .taken)) _ (at-part-of .part-of .ensures) _
+          (c .before .is-linear .ensures) _ (c .if2 .left) _ u),
     )
 
 search-less-4 : tie.Need-search-less-4 Inv-loop μ-loop Inv-search μ-search
