@@ -381,7 +381,8 @@ module _ (rows : List ℕ) (n signal k : ℕ) (before later : List ℕ) (F : For
       done j l m (yes q) = inl (rw q (getD-set-same later (k + 1) 0 0 h))
       done j l m (no d) = rw (getD-set-other later (k + 1) j 0 0 d) (F .done j l (omega arith))
 
-  pub forgetting-on : (at : ℕ) → at ≡ k * (2 * (n + 1)) + signal → getD rows (at + (2 * (n + 1))) 0 ≡ 0 → Forgetting rows n signal (k + 1) before later
+  pub forgetting-on : (at : ℕ) → at ≡ k * (2 * (n + 1)) + signal → getD rows (at + 2 * (n + 1)) 0 ≡ 0
+      → Forgetting rows n signal (k + 1) before later
   unfolding entry
   forgetting-on at is-at e =
       record { top = F .top; done = λ j l m. done j l m (ℕ-discrete j (k + 1)); same = λ j g. F .same j (omega arith) }
@@ -389,6 +390,6 @@ module _ (rows : List ℕ) (n signal k : ℕ) (before later : List ℕ) (F : For
       done : (j : ℕ) → 1 ≤ j → j ≤ k + 1 → Dec (j ≡ k + 1)
           → (getD later j 0 ≡ 0) ⊎ ((getD later j 0 ≡ getD before j 0) × (entry rows n j signal ≡ 0))
       done j l m (yes q) =
-          let there : at + (2 * (n + 1)) ≡ (k + 1) * (2 * (n + 1)) + signal = omega arith in
+          let there : at + 2 * (n + 1) ≡ (k + 1) * (2 * (n + 1)) + signal = omega arith in
           inr (rw q (F .same (k + 1) (omega arith), ap (λ (i : ℕ). getD rows i 0) (sym there) ∙ e))
       done j l m (no d) = F .done j l (omega arith)

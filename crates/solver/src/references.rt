@@ -1,4 +1,4 @@
-// Searches in the signals of one form for the digits rule: the lowest unmarked signal, signals that nothing separates, and whether there is a reference.
+// Searches in the signals of one form for the digits rule: the lowest unmarked one, those that nothing separates, whether one is a reference.
 
 use rules::digits::separated;
 ghost use mathlib.Core.Path.{_≡_};

@@ -144,10 +144,11 @@ returns-5 c =
     let at-is-linear = c .before .before .before .before in
     let at-part-of = at-is-linear .before in
     let entry = at-part-of .before .before .before .before .before in
-    let L = row-signals _ _ (entry .pre .3) _ _ (entry .pre .0 .is-n) (entry .pre .2) (entry .pre .1) _ refl _ (c .before .before .signals-of .ensures) in
+    let L = row-signals _ _ (entry .pre .3) _ _ (entry .pre .0 .is-n) (entry .pre .2) (entry .pre .1) _ refl _
+    (c .before .before .signals-of .ensures) in
     laws.sum-none _ _ _ _ _ _ (entry .pre .0) (entry .pre .1) (entry .pre .2) _ (at-part-of .part-of .ensures) _
-    (at-is-linear .is-linear .ensures) (not-false _ (c .before .before .before .if1 .left)) _ (entry .pre .3) _ refl _ (c .before .only-free .ensures _ _ L)
-    (c .if5 .taken)
+    (at-is-linear .is-linear .ensures) (not-false _ (c .before .before .before .if1 .left)) _ (entry .pre .3) _ refl _
+    (c .before .only-free .ensures _ _ L) (c .if5 .taken)
 
 row-of-requires : tie.Need-row-of-requires
 row-of-requires c κs =
@@ -190,7 +191,8 @@ key-of-requires-2 c κs =
     let at-is-linear = at-if1 .before in
     let at-part-of = at-is-linear .before in
     let entry = at-part-of .before .before .before .before .before in
-    let L = row-signals _ _ (entry .pre .3) _ _ (entry .pre .0 .is-n) (entry .pre .2) (entry .pre .1) _ refl _ (at-signals-of .signals-of .ensures) in (
+    let L = row-signals _ _ (entry .pre .3) _ _ (entry .pre .0 .is-n) (entry .pre .2) (entry .pre .1) _ refl _
+    (at-signals-of .signals-of .ensures) in (
       omega (
         arith,
         laws.sum-small _ _ _ _ _ _ (entry .pre .0) (entry .pre .1) (entry .pre .2) _ (at-part-of .part-of .ensures) _

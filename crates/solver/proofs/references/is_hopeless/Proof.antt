@@ -75,7 +75,10 @@ returns c =
     let at-if1 = c .before .before .before .before in
     let at-loop-test = at-if1 .before .before .before in
     let at-loop = at-loop-test .before in
-    λ e n L. inl (laws.gathered-equal _ _ _ _ _ _ (next _ _ _ L _ (at-loop-test .loop-test .taken)) _ _ (at-loop .loop .inv .3 n L .0) (laws.view-marked _ _ _ _ (laws.mark-read _ _ (not-true _ (at-if1 .if1 .taken)))) _
+    let more = at-loop-test .loop-test .taken in
+    let l = at-loop .loop in
+    let unmarked = laws.mark-read _ _ (not-true _ (at-if1 .if1 .taken)) in
+    λ e n L. inl (laws.gathered-equal _ _ _ _ _ _ (next _ _ _ L _ more) _ _ (l .inv .3 n L .0) (laws.view-marked _ _ _ _ unmarked) _
     (laws.coef-read _ _) (c .before .is-among .ensures (c .if2 .taken)))
 
 mul-seen : tie.Need-mul-seen Inv-loop μ-loop
@@ -114,8 +117,11 @@ returns-2 c =
     let at-loop-test = at-if1 .before .before .before in
     let at-loop = at-loop-test .before in
     let entry = at-loop .before .before .before .before .before in
-    λ e n L. inr (laws.held-two _ _ _ _ _ _ _ (next _ _ _ L _ (at-loop-test .loop-test .taken)) _ (at-loop .loop .inv .3 n L .1) (laws.view-marked _ _ _ _ (laws.mark-read _ _ (not-true _ (at-if1 .if1 .taken))))
-    (laws.bound-read _ _ _ _ _ (entry .pre .1 .each _ (at-loop-test .loop-test .taken)) (c .before .if3 .taken)) (c .if4 .taken))
+    let more = at-loop-test .loop-test .taken in
+    let l = at-loop .loop in
+    let unmarked = laws.mark-read _ _ (not-true _ (at-if1 .if1 .taken)) in
+    λ e n L. inr (laws.held-two _ _ _ _ _ _ _ (next _ _ _ L _ more) _ (l .inv .3 n L .1) (laws.view-marked _ _ _ _ unmarked)
+    (laws.bound-read _ _ _ _ _ (entry .pre .1 .each _ more) (c .before .if3 .taken)) (c .if4 .taken))
 
 loop-less : tie.Need-loop-less Inv-loop μ-loop
 loop-less c = search needs
@@ -125,15 +131,18 @@ loop-again c =
     let at-if1 = c .before .before .before .before .before .before .before in
     let at-loop-test = at-if1 .before .before .before in
     let at-loop = at-loop-test .before in
-    let entry = at-loop .before .before .before .before .before in (
-      omega (arith, at-loop-test .loop-test .taken),
-      omega (arith, at-loop .loop .inv .1),
-      length-set (at-loop .loop .seen) (at-loop .loop .count) _ ∙ at-loop .loop .inv .2,
+    let entry = at-loop .before .before .before .before .before in
+    let more = at-loop-test .loop-test .taken in
+    let l = at-loop .loop in
+    let unmarked = laws.mark-read _ _ (not-true _ (at-if1 .if1 .taken)) in (
+      omega (arith, more),
+      omega (arith, l .inv .1),
+      length-set (l .seen) (l .count) _ ∙ l .inv .2,
       λ n L. (
-        laws.gathered-new _ _ _ _ _ _ (next _ _ _ L _ (at-loop-test .loop-test .taken)) _ _ (at-loop .loop .inv .3 n L .0) (laws.view-marked _ _ _ _ (laws.mark-read _ _ (not-true _ (at-if1 .if1 .taken)))) _ (laws.coef-read _ _)
-            (omega (arith, at-loop .loop .inv .1, at-loop .loop .inv .2, at-loop-test .loop-test .taken, entry .pre .3)),
-        laws.held-new _ _ _ _ _ _ _ (next _ _ _ L _ (at-loop-test .loop-test .taken)) _ (at-loop .loop .inv .3 n L .1) (laws.view-marked _ _ _ _ (laws.mark-read _ _ (not-true _ (at-if1 .if1 .taken))))
-            (laws.bound-read _ _ _ _ _ (entry .pre .1 .each _ (at-loop-test .loop-test .taken)) (c .before .if3 .taken)),
+        laws.gathered-new _ _ _ _ _ _ (next _ _ _ L _ more) _ _ (l .inv .3 n L .0) (laws.view-marked _ _ _ _ unmarked) _ (laws.coef-read _ _)
+            (omega (arith, l .inv .1, l .inv .2, more, entry .pre .3)),
+        laws.held-new _ _ _ _ _ _ _ (next _ _ _ L _ more) _ (l .inv .3 n L .1) (laws.view-marked _ _ _ _ unmarked)
+            (laws.bound-read _ _ _ _ _ (entry .pre .1 .each _ more) (c .before .if3 .taken)),
       ),
     )
 
@@ -145,14 +154,17 @@ loop-again-2 c =
     let at-if1 = c .before .before .before .before .before .before in
     let at-loop-test = at-if1 .before .before .before in
     let at-loop = at-loop-test .before in
-    let entry = at-loop .before .before .before .before .before in (
-      omega (arith, at-loop-test .loop-test .taken),
-      omega (arith, at-loop .loop .inv .1),
-      length-set (at-loop .loop .seen) (at-loop .loop .count) _ ∙ at-loop .loop .inv .2,
+    let entry = at-loop .before .before .before .before .before in
+    let more = at-loop-test .loop-test .taken in
+    let l = at-loop .loop in
+    let unmarked = laws.mark-read _ _ (not-true _ (at-if1 .if1 .taken)) in (
+      omega (arith, more),
+      omega (arith, l .inv .1),
+      length-set (l .seen) (l .count) _ ∙ l .inv .2,
       λ n L. (
-        laws.gathered-new _ _ _ _ _ _ (next _ _ _ L _ (at-loop-test .loop-test .taken)) _ _ (at-loop .loop .inv .3 n L .0) (laws.view-marked _ _ _ _ (laws.mark-read _ _ (not-true _ (at-if1 .if1 .taken)))) _ (laws.coef-read _ _)
-            (omega (arith, at-loop .loop .inv .1, at-loop .loop .inv .2, at-loop-test .loop-test .taken, entry .pre .3)),
-        laws.held-on _ _ _ _ _ _ _ (next _ _ _ L _ (at-loop-test .loop-test .taken)) _ (at-loop .loop .inv .3 n L .1),
+        laws.gathered-new _ _ _ _ _ _ (next _ _ _ L _ more) _ _ (l .inv .3 n L .0) (laws.view-marked _ _ _ _ unmarked) _ (laws.coef-read _ _)
+            (omega (arith, l .inv .1, l .inv .2, more, entry .pre .3)),
+        laws.held-on _ _ _ _ _ _ _ (next _ _ _ L _ more) _ (l .inv .3 n L .1),
       ),
     )
 
@@ -161,14 +173,15 @@ loop-less-3 c = search needs
 
 loop-again-3 : tie.Need-loop-again-3 Inv-loop μ-loop
 loop-again-3 c =
-    let at-loop-test = c .before .before .before in
-    let at-loop = at-loop-test .before in (
-      omega (arith, at-loop-test .loop-test .taken),
-      omega (arith, at-loop .loop .inv .1),
-      at-loop .loop .inv .2,
+    let at-loop = c .before .before .before .before in
+    let more = c .before .before .before .loop-test .taken in
+    let l = at-loop .loop in (
+      omega (arith, more),
+      omega (arith, l .inv .1),
+      l .inv .2,
       λ n L. (
-        laws.gathered-on _ _ _ _ _ _ (next _ _ _ L _ (at-loop-test .loop-test .taken)) _ _ (at-loop .loop .inv .3 n L .0),
-        laws.held-on _ _ _ _ _ _ _ (next _ _ _ L _ (at-loop-test .loop-test .taken)) _ (at-loop .loop .inv .3 n L .1),
+        laws.gathered-on _ _ _ _ _ _ (next _ _ _ L _ more) _ _ (l .inv .3 n L .0),
+        laws.held-on _ _ _ _ _ _ _ (next _ _ _ L _ more) _ (l .inv .3 n L .1),
       ),
     )
 

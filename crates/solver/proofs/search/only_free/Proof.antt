@@ -16,7 +16,8 @@ use Rattle.solver.proofs.search.only_free.Lts as lts
 
 abbrev Inv-loop : tie.InvT-loop
 Inv-loop signals bounds p found₀ i₀ found i =
-    (i ≤ length signals) × ((form : List ℕ) (n : ℕ) → SignalsOf (coefIn form) n signals → laws.Sole (free p form bounds) (reach (coefIn signals) i) found)
+    (i ≤ length signals)
+    × ((form : List ℕ) (n : ℕ) → SignalsOf (coefIn form) n signals → laws.Sole (free p form bounds) (reach (coefIn signals) i) found)
 
 abbrev μ-loop : tie.MeasureT-loop
 μ-loop signals bounds p found₀ i₀ found i = length signals - i
