@@ -9,7 +9,7 @@ use Rattle.laws.specs.Rules.{linear, reduced}
 use Rattle.rules.specs.View.{coefIn}
 use Rattle.solver.specs.Search.{involves}
 
--- a row has n + 1 entries, then the number of its signals, then the signals; it starts at k · 2 · (n + 1)
+-- row k starts at k · 2 · (n + 1): n + 1 entries, then the number of its signals, then the signals
 unfoldable pub entry : List ℕ → ℕ → ℕ → ℕ → ℕ
 entry rows n k s = getD rows (k * (2 * (n + 1)) + s) 0
 
