@@ -12,9 +12,9 @@ use borrow.Author.Tests.{ne-eqb, not-true}
 use Rattle.laws.specs.Standing.{Standing}
 use Rattle.laws.specs.Rules.{occurs, live, separated}
 use Rattle.laws.proofs.Sum.{and-right, true-or-false, false-by}
-use Rattle.rules.specs.View.{coefIn, markIn, viewOf}
+use Rattle.rules.specs.View.{coefIn, boundIn, markIn, viewOf}
 use Rattle.rules.proofs.ViewLaws.{bound-within}
-use Rattle.solver.specs.Marks.{Crowded, Equals, Among, FirstLive, FirstZero}
+use Rattle.solver.specs.Marks.{withMarks, Crowded, Equals, Among, FirstLive, FirstZero}
 use Rattle.solver.specs.Rows.{reach, SignalsOf}
 use Rattle.solver.proofs.ListLaws.{Next, walked, passing}
 
@@ -172,6 +172,11 @@ bound-nonzero p bounds marks s h e = bound-within p bounds s h ∙ e
 pub mark-read : (marks : List Bool) (s : ℕ) {b : Bool} → getD marks s false ≡ b → markIn marks s ≡ b
 unfolding markIn
 mark-read marks s e = e
+
+pub view-equals : (p : ℕ) (bounds : List ℕ) (marks : List Bool) (R : ℕ → ℕ) (n : ℕ) → ((b : ℕ → ℕ) → Equals n R (withMarks b marks))
+    → Equals n R (viewOf p bounds marks)
+unfolding viewOf
+view-equals p bounds marks R n h = h (boundIn p bounds)
 
 pub view-marked : (p : ℕ) (bounds : List ℕ) (marks : List Bool) (s : ℕ) {b : Bool} → markIn marks s ≡ b → viewOf p bounds marks .marked s ≡ b
 unfolding viewOf

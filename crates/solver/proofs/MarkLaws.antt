@@ -3,7 +3,6 @@ use Prim.Native.Nat.{ℕ, _+_, _-_, _≤_, _<_, min}
 use mathlib.Core.Path.{_≡_, refl, sym, ap, _∙_}
 use mathlib.Core.Bool.{Bool, true, false}
 use mathlib.Core.List.{List}
-use mathlib.Core.Logic.{_⊎_, ⊎-elim}
 use native.Mathlib.Omega.{arith}
 use native.Mathlib.Decide.{ℕ-discrete}
 use lib.ListN.{length, getD, set}
@@ -74,11 +73,12 @@ module _ (c table : List ℕ) (P : Prepared c table) (k : ℕ) (first : 1 ≤ k)
         pub floor-digits : IsFloor C S k t
         floor-digits = floors.digits-floor C W S k (linear-at ∙ linear) t first-at
 
+      pub floor-equal : Equals n (coefIn form) S → IsFloor C S k bounds′.none
+      floor-equal X = floors.digits-equal C W S k (linear-at ∙ linear) (rw (is-form, is-n) at X)
+
       module _ (p : ℕ) (is-p : p ≡ C .p) where
-        pub floor-hopeless : Equals n (coefIn form) S ⊎ Crowded p n (coefIn form) S → IsFloor C S k bounds′.none
-        floor-hopeless =
-            ⊎-elim (λ X. floors.digits-equal C W S k (linear-at ∙ linear) (rw (is-form, is-n) at X))
-            (λ X. floors.digits-crowded C W S k (linear-at ∙ linear) (rw (is-form, is-p, is-n) at X))
+        pub floor-crowded : Crowded p n (coefIn form) S → IsFloor C S k bounds′.none
+        floor-crowded X = floors.digits-crowded C W S k (linear-at ∙ linear) (rw (is-form, is-p, is-n) at X)
 
         -- whether r separates
         separated-at : (r : ℕ) (x : Bool) → x ≡ separated p n (coefIn form) S r

@@ -1,8 +1,9 @@
 // Floors: below the floor of a constraint no step by it marks an unmarked signal. They are searched as far as the next mark asks.
 
 use crate::references::first_live;
+use crate::references::has_equals;
 use crate::references::has_reference;
-use crate::references::is_hopeless;
+use crate::references::is_crowded;
 use crate::rows::row_of;
 use crate::rows::signals_of;
 use crate::search::unmarked_in;
@@ -72,9 +73,12 @@ fn floor_of<'a>(
     if !is_linear(part) {
         return low;
     }
-    let form = row_of(rows, n, k);
     let signals = signals_of(rows, n, k);
-    if is_hopeless(form, signals, bounds, marks, p) {
+    if is_crowded(signals, bounds, marks, p) {
+        return NONE;
+    }
+    let form = row_of(rows, n, k);
+    if has_equals(form, signals, marks) {
         return NONE;
     }
     if !has_reference(form, signals, bounds, marks, n, p) {

@@ -3,7 +3,6 @@
 use rules::digits::separated;
 ghost use mathlib.Core.Path.{_≡_};
 ghost use mathlib.Core.Bool.{true, false};
-ghost use mathlib.Core.Logic.{_⊎_};
 ghost use Prim.Native.Nat.{ℕ, _≤_, _<_};
 ghost use lib.ListN.{length};
 ghost use Rattle.laws.specs.Rules as rules;
@@ -29,6 +28,29 @@ pub(crate) fn first_live(signals: &[u32], marks: &[bool]) -> u32
     0
 }
 
+// Whether two unmarked ones of the signals of a form have bound p - 1. Their sum is too large then, whatever the reference.
+pub(crate) fn is_crowded<'a>(signals: &[u32], bounds: &'a [u32], marks: &'a [bool], p: u32) -> bool
+    requires { ⌜ Below (now signals) (length (now bounds)) × Below (now signals) (length (now marks)) × (0 < p) ⌝ }
+    ensures { λ r. ⌜ (r ≡ true → (form : ℕ → ℕ) (n : ℕ) → SignalsOf form n (now (signals .entry))
+        → Crowded p n form (viewOf p (now (bounds .entry)) (now (marks .entry)))) ⌝ }
+{
+    let mut found: u32 = 0;
+    let mut i: usize = 0;
+    while i < signals.len() {
+        let s = signals[i];
+        i = i + 1;
+        if !marks[s as usize] {
+            if bounds[s as usize] == p - 1 {
+                if found != 0 {
+                    return true;
+                }
+                found = s;
+            }
+        }
+    }
+    false
+}
+
 // Whether x is among the first values.
 fn is_among(values: &[u32; 257], count: usize, x: u32) -> bool
     requires { ⌜ count ≤ 257 ⌝ }
@@ -44,24 +66,14 @@ fn is_among(values: &[u32; 257], count: usize, x: u32) -> bool
     false
 }
 
-// Whether two unmarked ones of the signals of a form have equal coefficients, or bound p - 1 both. No reference separates them: their
-// weights are equal, or their sum is too large.
-pub(crate) fn is_hopeless<'a>(
-    form: &[u32],
-    signals: &[u32],
-    bounds: &'a [u32],
-    marks: &'a [bool],
-    p: u32,
-) -> bool
-    requires { ⌜ Below (now signals) (length (now form)) × Below (now signals) (length (now bounds)) × Below (now signals) (length (now marks))
-        × (length (now signals) ≤ 256) × (0 < p) ⌝ }
-    ensures { λ r. ⌜ (r ≡ true → (n : ℕ) → SignalsOf (coefIn (now (form .entry))) n (now (signals .entry))
-        → Equals n (coefIn (now (form .entry))) (viewOf p (now (bounds .entry)) (now (marks .entry)))
-        ⊎ Crowded p n (coefIn (now (form .entry))) (viewOf p (now (bounds .entry)) (now (marks .entry)))) ⌝ }
+// Whether two unmarked ones of the signals have equal coefficients. Their weights are equal then, whatever the reference.
+pub(crate) fn has_equals(form: &[u32], signals: &[u32], marks: &[bool]) -> bool
+    requires { ⌜ Below (now signals) (length (now form)) × Below (now signals) (length (now marks)) × (length (now signals) ≤ 256) ⌝ }
+    ensures { λ r. ⌜ (r ≡ true → (n : ℕ) → SignalsOf (coefIn (now (form .entry))) n (now (signals .entry)) → (b : ℕ → ℕ)
+        → Equals n (coefIn (now (form .entry))) (withMarks b (now (marks .entry)))) ⌝ }
 {
     let mut seen = [0u32; 257];
     let mut count: usize = 0;
-    let mut free: u32 = 0;
     let mut i: usize = 0;
     while i < signals.len() {
         let s = signals[i];
@@ -73,12 +85,6 @@ pub(crate) fn is_hopeless<'a>(
             }
             seen[count] = coef;
             count = count + 1;
-            if bounds[s as usize] == p - 1 {
-                if free != 0 {
-                    return true;
-                }
-                free = s;
-            }
         }
     }
     false
