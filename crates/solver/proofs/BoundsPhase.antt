@@ -1,29 +1,29 @@
 -- The bounds phase under way: a bound that was lowered is settled, and each turn keeps what is known of the keys.
-use Prim.Native.Nat.{ℕ, zero, suc, _+_, _*_, _-_, _≤_, _<_, min}
+use Prim.Native.Nat.{ℕ, suc, _+_, _-_, _≤_, _<_, min}
 use mathlib.Core.Path.{_≡_, refl, sym, ap, _∙_}
-use mathlib.Core.Bool.{Bool, true, false, cond}
-use mathlib.Core.List.{List, [], _∷_, _++_}
-use mathlib.Core.Option.{Option, none, some}
+use mathlib.Core.Bool.{Bool, true, false}
+use mathlib.Core.List.{List}
+use mathlib.Core.Option.{none, some}
 use mathlib.Core.Logic.{_⊎_, inl, inr, ⊎-elim}
 use native.Mathlib.Omega.{arith}
 use native.Mathlib.Decide.{ℕ-discrete}
 use lib.ListN.{length, getD, set, replicate}
 use lib.Seq.{getD-set-same, getD-set-other}
-use Rattle.circuit.specs.Circuit.{Circuit, WellFormed, constraintAt}
+use Rattle.circuit.specs.Circuit.{Circuit, WellFormed}
 use Rattle.laws.specs.Standing.{Standing, put, add, lower, largest, start}
-use Rattle.laws.specs.Step.{Step, after, replay}
-use Rattle.laws.specs.Solver.{step, newBound, lowers, bestBound, boundSteps}
-use Rattle.laws.proofs.Sum.{true-or-false, by-test, true-by}
+use Rattle.laws.specs.Step.{Step, after}
+use Rattle.laws.specs.Solver.{newBound, lowers, bestBound}
+use Rattle.laws.proofs.Sum.{true-or-false, by-test}
 use Rattle.laws.proofs.Order.{add-same, add-other, lower-other}
 use Rattle.laws.proofs.Turns.{none-done}
-use Rattle.laws.proofs.Best.{lowers-says, lowers-kind, Bounding}
+use Rattle.laws.proofs.Best.{lowers-says, Bounding}
 use Rattle.laws.proofs.Greedy.{Reached, reached-start, bound-phase, bounding-after}
 use Rattle.rules.specs.View.{boundIn}
 use Rattle.rules.proofs.ViewLaws.{bound-set, getD-repeated}
 use Rattle.solver.specs.Bounds as bounds
 use Rattle.solver.specs.Bounds.{withBounds, IsKey, Settled, SomeKeys, Keys}
-use Rattle.solver.specs.Search.{involves, Forgotten}
-use Rattle.solver.proofs.Untouched.{uninvolved, key-kept}
+use Rattle.solver.specs.Search.{Forgotten}
+use Rattle.solver.proofs.Untouched.{key-kept}
 
 -- what was lowered was lowered to at most the bounds that are still to come; the rest is as at the start
 pub record Running (C : Circuit) (S : Standing) : Type 0 where
@@ -108,15 +108,11 @@ no-keys C S n =
       each = λ k l h. inl (getD-set-other (replicate (suc n) 0) 0 k bounds.none 0 (λ (z : k ≡ 0). omega arith) ∙ getD-repeated (suc n) k 0);
     }
 
--- where a bound is lowered, the keys of the constraints that involve the signal are forgotten, and the others stay
+-- where a bound is lowered, keys are forgotten, but for constraints that the signal is apart from, whose keys stay
 pub keys-kept : (C : Circuit) (W : WellFormed C) (S : Standing) (u v : ℕ) → 1 ≤ u → (before later : List ℕ) → Keys C S before
     → Forgotten C u before later → SomeKeys C (lower S u v) later
 keys-kept C W S u v low before later K F = record { top = F .top ∙ K .top; each = each }
   where
     each : (k : ℕ) → 1 ≤ k → k ≤ C .m → (getD later k 0 ≡ 0) ⊎ IsKey C (lower S u v) k (getD later k 0)
     each k l m =
-        by-test (involves (constraintAt C k) u) (λ e. inl (F .each k l m ∙ ap (λ (b : Bool). cond b 0 (getD before k 0)) e))
-        (λ e.
-        inr
-        (rw (F .each k l m, e)
-        (key-kept C W S k l m u v low (uninvolved (constraintAt C k) u e) (getD before k 0) (K .each k l m))))
+        ⊎-elim inl (λ w. inr (rw (w .0) (key-kept C W S k l m u v low (w .1) (getD before k 0) (K .each k l m)))) (F .each k l m)

@@ -1,18 +1,18 @@
 -- The turns of the bounds phase: what the loop knows, and what a turn does with it.
-use Prim.Native.Nat.{ℕ, zero, suc, _+_, _*_, _-_, _/_, _%_, _≤_, _<_}
+use Prim.Native.Nat.{ℕ, _+_, _*_, _-_, _/_, _%_, _≤_, _<_}
 use mathlib.Core.Path.{_≡_, refl, sym, ap, _∙_}
 use mathlib.Core.List.{List, [], _∷_, _++_}
 use native.Mathlib.Omega.{arith}
 use lib.ListN.{length, getD, set, length-append}
 use Rattle.circuit.specs.Circuit.{Circuit, WellFormed}
-use Rattle.laws.specs.Standing.{Standing, lower, start}
+use Rattle.laws.specs.Standing.{Standing, start}
 use Rattle.laws.specs.Step.{Step, after, replay}
-use Rattle.laws.specs.Solver.{step, newBound, kindNumber, bestBound, boundSteps}
+use Rattle.laws.specs.Solver.{step, newBound, bestBound, boundSteps}
 use Rattle.laws.proofs.Best.{lowers-says}
 use Rattle.laws.proofs.Greedy.{bounding-after}
 use Rattle.derivation.specs.Encoded.{stepBytes, stepsBytes}
 use Rattle.solver.specs.Bytes.{listed, stored}
-use Rattle.solver.specs.Bounds.{withBounds, Settled, SomeKeys, Keys, Least, BoundsOf, Lowered}
+use Rattle.solver.specs.Bounds.{withBounds, Settled, SomeKeys, Keys, Least, Lowered}
 use Rattle.derivation.specs.Inner.{circuitOf}
 use Rattle.solver.specs.Search.{Prepared, Forgotten}
 use Rattle.solver.proofs.Written.{nothing-stored, written-next, step-listed}
@@ -20,7 +20,7 @@ use Rattle.solver.proofs.Progress.{Turned, turned-start, turned-next, t
 use Rattle.solver.proofs.Keys.{Taken, nothing-left, taken-step}
 use Rattle.solver.proofs.CandidateLaws.{well-formed}
 use Rattle.solver.proofs.BoundsPhase as phase
-use Rattle.solver.proofs.BoundsPhase.{Running, running-start, running-settled, running-next, no-keys, keys-kept}
+use Rattle.solver.proofs.BoundsPhase.{Running, running-start, running-settled, running-next, keys-kept}
 
 -- the steps so far, where they led, what is known of keys, and the bytes written
 pub record Turning (c bounds keys output₀ output : List ℕ) (count : ℕ) : Type 0 where
@@ -90,8 +90,12 @@ module _ (c table : List ℕ) (P : Prepared c table) where
         abbrev x : Step
         x = step (H .kind) (H .target) k 0
 
-        pub target-small : (1 ≤ key / 4 % 512) × (key / 4 % 512 ≤ 256)
-        target-small = (omega (arith, H .is-target, H .target-least), omega (arith, H .is-target, H .target-most, W .n-most))
+        pub target-small : (1 ≤ key / 4 % 512) × (key / 4 % 512 ≤ 256) × (key / 4 % 512 ≤ C .n)
+        target-small = (
+          omega (arith, H .is-target, H .target-least),
+          omega (arith, H .is-target, H .target-most, W .n-most),
+          omega (arith, H .is-target, H .target-most),
+        )
 
         pub bound-small : key / 4 / 512 < C .p
         bound-small =

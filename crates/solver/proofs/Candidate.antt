@@ -1,7 +1,7 @@
 -- The one step by which a constraint lowers a bound: a root at the one signal of A, or a sum at the one signal whose bound is still p - 1.
-use Prim.Native.Nat.{ℕ, zero, suc, _+_, _*_, _-_, _%_, _≤_, _<_}
+use Prim.Native.Nat.{ℕ, zero, suc, _*_, _-_, _%_, _≤_, _<_}
 use mathlib.Core.Path.{_≡_, refl, sym, ap, _∙_}
-use mathlib.Core.Bool.{Bool, true, false, not, _&&_, _||_}
+use mathlib.Core.Bool.{Bool, true, false, not, _&&_}
 use mathlib.Core.List.{List}
 use mathlib.Core.Logic.{_⊎_, inl, inr, ⊎-elim}
 use native.Mathlib.Omega.{arith}
@@ -10,28 +10,28 @@ use native.Mathlib.Nat.{mul-le-mul-right, pos-of-ne-zero, mod-eq-of-lt}
 use lib.Dec.{ltb, eqb}
 use borrow.Author.Tests.{eqb-true, eq-eqb, ne-eqb, lt-ltb}
 use Rattle.field.specs.Prime.{Prime}
-use Rattle.field.specs.Residue.{Congruent, opposite}
+use Rattle.field.specs.Residue.{opposite}
 use Rattle.field.specs.Inverse.{inverse}
 use Rattle.field.proofs.Residue.{congruent-sym, congruent-plus, congruent-shift, congruent-zero, zero-congruent, opposite-plus}
 use Rattle.field.proofs.Inverse.{inverse-is, inverse-nonzero, euclid}
 use Rattle.circuit.specs.Circuit.{Circuit, WellFormed, Constraint, Form, Rises, constraintAt, names}
-use Rattle.laws.specs.Sum.{sum, keep}
+use Rattle.laws.specs.Sum.{sum}
 use Rattle.laws.specs.Standing.{Standing}
 use Rattle.laws.specs.Rules.{linear, reduced, occurs, isZero, namesOnly, rootMet, rootBound, sumWeight, ceiling, sumTerm, sumBound, sumMet, namesNone}
-use Rattle.laws.specs.Step.{Kind, Root, Sum, Zero, Product, Digits, Step, within, inRange, met}
+use Rattle.laws.specs.Step.{Kind, Root, Sum, Step, inRange, met}
 use Rattle.laws.specs.Solver.{step, newBound, lowers, kindNumber}
 use Rattle.laws.proofs.Sum.{and-left, and-right, and-both, or-cases, or-neither, true-or-false, false-by, keep-true, sum-at}
 use Rattle.laws.proofs.Forms.{none-at, only-at, unnamed-beyond}
 use Rattle.laws.proofs.Reduced.{reduced-below, occurs-yes, nonzero-mod}
 use Rattle.laws.proofs.SumRule.{SumMet, sum-met}
 use Rattle.laws.proofs.Turns.{target-within}
-use Rattle.laws.proofs.Best.{Lowering, Bounding, by-root, by-sum, lowers-says, lowers-holds, lowers-kind, bounding-fields}
+use Rattle.laws.proofs.Best.{Bounding, by-root, by-sum, lowers-says, lowers-holds, lowers-kind}
 use Rattle.laws.proofs.Marks.{in-range-by, within-holds}
 use Rattle.rules.specs.View.{coefIn, boundIn}
 use Rattle.solver.specs.Bounds as bounds′
 use Rattle.solver.specs.Search.{SomeUnmarked, Only, free}
-use Rattle.solver.proofs.Keys.{Small, small, same-step}
-use Rattle.solver.specs.Bounds.{keyOf, Holder, IsKey, Settled}
+use Rattle.solver.proofs.Keys.{small, same-step}
+use Rattle.solver.specs.Bounds.{keyOf, IsKey, Settled}
 
 -- a signal of a sum other than the target, with bound p - 1, makes the sum at least p - 1
 weight-positive : (p : ℕ) (K : Constraint) (t s : ℕ) → Prime p → occurs (reduced p K) t ≡ true → occurs (reduced p K) s ≡ true
@@ -79,7 +79,7 @@ named-within {n} r t e = go (decLe t n)
     go (no d) = true-or-false _ e (unnamed-beyond r t (omega arith))
 
 -- a constraint that meets the root rule is not linear: A and B name the target
-root-not-linear : (K : Constraint) (t : ℕ) → 1 ≤ t → rootMet K t ≡ true → linear K ≡ false
+pub root-not-linear : (K : Constraint) (t : ℕ) → 1 ≤ t → rootMet K t ≡ true → linear K ≡ false
 unfolding rootMet linear
 root-not-linear K t l e =
     let a = and-right (isZero (K .c)) (names (K .a) t && namesOnly t (K .a)) (and-left _ _ e) in
@@ -179,16 +179,16 @@ module _ (C : Circuit) (W : WellFormed C) (S : Standing) (k : ℕ) (first : 1 �
 
   -- A linear constraint, its reduced form and the bounds as lists
   module _
-      (is-linear : linear K ≡ true) (T : Settled C S) (form bounds : List ℕ) (is-form : (s : ℕ) → coefIn form s ≡ reduced (C .p) K s)
+      (is-linear : linear K ≡ true) (T : Settled C S) (form bounds : List ℕ) (is-form : coefIn form ≡ reduced (C .p) K)
       (is-bounds : (s : ℕ) → boundIn (C .p) bounds s ≡ S .bound s) (t : ℕ) (O : Only (free (C .p) form bounds) (C .n) t) where
     free-yes : (s : ℕ) → occurs (reduced (C .p) K) s ≡ true → S .bound s ≡ C .p - 1 → free (C .p) form bounds s ≡ true
     unfolding free occurs
-    free-yes s e h = rw (is-form s, is-bounds s) (and-both _ _ e (eq-eqb _ _ h))
+    free-yes s e h = rw (is-form, is-bounds s) (and-both _ _ e (eq-eqb _ _ h))
 
     free-says : (s : ℕ) → free (C .p) form bounds s ≡ true → (occurs (reduced (C .p) K) s ≡ true) × (S .bound s ≡ C .p - 1)
     unfolding free occurs
     free-says s e =
-        let e′ = rw (is-form s, is-bounds s) at e in
+        let e′ = rw (is-form, is-bounds s) at e in
         (and-left _ _ e′, eqb-true _ _ (and-right (not (eqb (reduced (C .p) K s) 0)) _ e′))
 
     sum-target : (u : ℕ) → 1 ≤ u → u ≤ C .n → SumMet (C .p) (C .n) K S u → S .bound u ≡ C .p - 1

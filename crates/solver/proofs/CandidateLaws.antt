@@ -1,29 +1,27 @@
 -- The ways out of the search for a constraint's key, from what the calls on its part answer.
-use Prim.Native.Nat.{ℕ, zero, suc, _+_, _*_, _-_, _≤_, _<_, min}
-use mathlib.Core.Path.{_≡_, refl, sym, ap, _∙_, fun-ext}
+use Prim.Native.Nat.{ℕ, _-_, _≤_, _<_, min}
+use mathlib.Core.Path.{_≡_, refl, sym, ap, _∙_}
 use mathlib.Core.Bool.{Bool, true, false}
 use mathlib.Core.List.{List}
-use mathlib.Core.Logic.{_⊎_, inl, inr, ⊎-elim}
+use mathlib.Core.Logic.{_⊎_, ⊎-elim}
 use native.Mathlib.Omega.{arith}
 use native.Mathlib.Decide.{ℕ-discrete}
-use lib.Dec.{ltb}
-use lib.ListN.{length, getD}
-use borrow.Author.Tests.{lt-ltb}
-use Rattle.circuit.specs.Circuit.{Circuit, WellFormed, Constraint, Form, constraintAt}
+use lib.ListN.{getD}
+use Rattle.circuit.specs.Circuit.{Circuit, WellFormed, Constraint, constraintAt}
 use Rattle.circuit.specs.Reader.{formIn, constraintIn}
 use Rattle.circuit.proofs.WellFormed.{read-well-formed}
-use Rattle.laws.specs.Sum.{keep}
 use Rattle.laws.specs.Standing.{Standing}
 use Rattle.laws.specs.Rules.{linear, reduced, rootMet, rootBound, sumBound}
-use Rattle.laws.proofs.Sum.{keep-true}
-use Rattle.rules.specs.View.{coefIn, boundIn, markIn}
+use Rattle.rules.specs.View.{coefIn, boundIn}
 use Rattle.rules.proofs.ViewLaws.{bound-within}
 use Rattle.derivation.specs.Offsets.{partOf}
 use Rattle.solver.specs.Bounds as specs
 use Rattle.solver.specs.Bounds.{keyOf, withBounds, IsKey, BoundsOf}
 use Rattle.derivation.specs.Inner.{circuitOf}
 use Rattle.solver.specs.Search.{Prepared, SomeUnmarked, Only, free}
+use Rattle.solver.specs.Rows.{row, Rows}
 use Rattle.solver.proofs.SearchLaws.{constraint-part}
+use Rattle.solver.proofs.RowLaws.{row-form}
 use Rattle.solver.proofs.Candidate as candidate
 
 pub well-formed : (c table : List ℕ) → Prepared c table → WellFormed (circuitOf c)
@@ -107,14 +105,10 @@ module _ (c table bounds : List ℕ) (p n k : ℕ) (B : BoundsOf c table bounds 
               (omega (arith, bound-at, bound-read t root-small)))
 
     -- linear: a sum at the only signal whose bound is still p - 1
-    module _ (linear : b ≡ true) (form : List ℕ) (is-form : (s : ℕ) → coefIn form s ≡ keep (ltb 1 p) (reduced p (constraintIn part) s)) (t : ℕ)
+    module _ (linear : b ≡ true) (rows : List ℕ) (R : Rows C rows) (form : List ℕ) (is-form : form ≡ row rows n k) (t : ℕ)
         (O : Only (free p form bounds) n t) where
-      form-at : (s : ℕ) → coefIn form s ≡ reduced (C .p) (constraintAt C k) s
-      form-at s =
-          is-form s
-          ∙ keep-true (ltb 1 p) _ (lt-ltb 1 p (omega (arith, B .is-p, W .p-least)))
-          ∙ ap (λ (K : Constraint). reduced p K s) same
-          ∙ ap (λ (q : ℕ). reduced q (constraintAt C k) s) (B .is-p)
+      form-at : coefIn form ≡ reduced (C .p) (constraintAt C k)
+      form-at = row-form C rows R n k (B .is-n) last W first (linear-at ∙ linear) form is-form
 
       only-at : Only (free (C .p) form bounds) (C .n) t
       only-at = rw (B .is-p, B .is-n) at O
@@ -137,7 +131,7 @@ module _ (c table bounds : List ℕ) (p n k : ℕ) (B : BoundsOf c table bounds 
         unfolding withBounds
         sum-at =
             is-sum (S .marked)
-            ∙ ap (λ (R : ℕ → ℕ). min p (sumBound p n R (record { bound = boundIn p bounds; marked = S .marked }) t)) (fun-ext form-at)
+            ∙ ap (λ (R : ℕ → ℕ). min p (sumBound p n R (record { bound = boundIn p bounds; marked = S .marked }) t)) form-at
             ∙ rw (B .is-p, B .is-n) refl
 
         pub sum-high : p - 1 ≤ x → IsKey C S k specs.none

@@ -1,13 +1,13 @@
--- Floors: below which no step by a constraint marks an unmarked signal. A floor stays while the marks of the signals that it names stay.
-use Prim.Native.Nat.{ℕ, zero, suc, _+_, _*_, _-_, _%_, _≤_, _<_}
+-- Floors: below which no step by a constraint marks an unmarked signal. A floor stays while the marks of the signals that it turns on stay.
+use Prim.Native.Nat.{ℕ, zero, suc, _*_, _-_, _%_, _≤_, _<_}
 use mathlib.Core.Path.{_≡_, refl, sym, ap, _∙_}
-use mathlib.Core.Bool.{Bool, true, false, cond, not, _&&_, _||_}
+use mathlib.Core.Bool.{true, false, not, _&&_, _||_}
 use mathlib.Core.List.{List}
-use mathlib.Core.Logic.{_⊎_, inl, inr, ⊎-elim}
+use mathlib.Core.Logic.{_⊎_, ⊎-elim}
 use native.Mathlib.Omega.{arith}
 use native.Mathlib.Decide.{ℕ-discrete, decLe}
 use native.Mathlib.Nat.{mul-le-mul-right, pos-of-ne-zero}
-use lib.Dec.{ltb, eqb}
+use lib.Dec.{eqb}
 use lib.ListN.{length, getD, set, replicate}
 use lib.Seq.{getD-set-same, getD-set-other}
 use borrow.Author.Tests.{eqb-true, ne-eqb, le-ltb, not-true}
@@ -18,28 +18,17 @@ use Rattle.circuit.specs.Circuit.{Circuit, WellFormed, Constraint, Form, constr
 use Rattle.laws.specs.Sum.{sum, keep, all}
 use Rattle.laws.specs.Standing.{Standing, mark}
 use Rattle.laws.specs.Rules.{linear, reduced, occurs, othersMarked, productMet, weight, live, separate, liveTerm, separated, digitsMet}
-use Rattle.laws.proofs.Sum.{
-  and-left,
-  and-right,
-  and-both,
-  or-cases,
-  or-right,
-  by-test,
-  true-or-false,
-  false-by,
-  keep-true,
-  sum-at,
-  sum-out,
-}
+use Rattle.laws.proofs.Sum.{and-left, and-right, and-both, or-cases, true-or-false, false-by, keep-true, sum-at, sum-out}
 use Rattle.laws.proofs.Order.{mark-other, mark-keeps, mark-bound}
 use Rattle.laws.proofs.Forms.{others-at, others-from}
 use Rattle.laws.proofs.Reduced.{reduced-below, reduced-beyond, occurs-yes, nonzero-mod}
+use Rattle.laws.proofs.DigitsRule.{digits-met}
 use Rattle.laws.proofs.Monotone.{digits-met-from}
 use Rattle.rules.proofs.ViewLaws.{getD-repeated}
 use Rattle.solver.specs.Bounds as bounds
-use Rattle.solver.specs.Marks.{IsFloor, Floors, Crowded, FirstLive}
-use Rattle.solver.specs.Search.{SomeUnmarked, involves, Forgotten}
-use Rattle.solver.proofs.Untouched.{Uninvolved, uninvolved, uninvolved-reduced}
+use Rattle.solver.specs.Marks.{IsFloor, Floors, Crowded, Equals, FirstLive}
+use Rattle.solver.specs.Search.{SomeUnmarked, Apart, Forgotten}
+use Rattle.solver.proofs.Untouched.{apart-uninvolved, apart-reduced}
 
 -- The rules taken apart
 
@@ -151,6 +140,12 @@ crowded-fails p n K S r P er X =
     true-or-false _ (and-right (all (suc n) (separate p n (reduced p K) S r)) _ e)
     (le-ltb (sum (suc n) (liveTerm p (reduced p K) S r)) p (crowded-total p n K S r P er X)))
 
+-- Signals with equal coefficients have equal weights
+
+weight-same : (p : ℕ) (R : ℕ → ℕ) (r s u : ℕ) → R s ≡ R u → weight p R r s ≡ weight p R r u
+unfolding weight
+weight-same p R r s u e = ap (λ (x : ℕ). x * inverse p (R r) % p) e
+
 -- a signal of the reduced form is one of 1 to n
 occurs-within : (C : Circuit) → WellFormed C → (k t : ℕ) → 1 ≤ t → occurs (reduced (C .p) (constraintAt C k)) t ≡ true → t ≤ C .n
 occurs-within C W k zero l e = absurd (omega arith)
@@ -219,6 +214,14 @@ module _ (C : Circuit) (W : WellFormed C) (S : Standing) (k : ℕ) where
         let D = digits-says (C .p) (C .n) K S u r e in
         true-or-false _ (D .is-separated) (crowded-fails (C .p) (C .n) K S r (W .prime) (D .has-reference) X))
 
+    pub digits-equal : Equals (C .n) (reduced (C .p) K) S → IsFloor C S k bounds.none
+    digits-equal X =
+        nothing bounds.none no-product
+        (λ u r l a b m e.
+        digits-met (C .p) (C .n) K S u r e .differ (X .one) (X .other) (omega (arith, X .one-below, X .other-most)) (omega (arith, X .other-most))
+        (X .one-live) (X .other-live) (λ (q : X .one ≡ X .other). omega (arith, X .one-below))
+        (weight-same (C .p) (reduced (C .p) K) r (X .one) (X .other) (X .same)))
+
     pub digits-unreferred :
         ((r : ℕ) → 1 ≤ r → r ≤ C .n → occurs (reduced (C .p) K) r ≡ true → separated (C .p) (C .n) (reduced (C .p) K) S r ≡ false)
         → IsFloor C S k bounds.none
@@ -243,7 +246,8 @@ module _ (C : Circuit) (W : WellFormed C) (S : Standing) (k : ℕ) where
 
 -- A floor stays
 
-module _ (C : Circuit) (W : WellFormed C) (S : Standing) (k u : ℕ) (low : 1 ≤ u) (U : Uninvolved (constraintAt C k) u) where
+module _ (C : Circuit) (W : WellFormed C) (S : Standing) (k u : ℕ) (low : 1 ≤ u)
+    (A : Apart (C .p) (constraintAt C k) u) where
   -- where a signal that the constraint does not name was marked, the others were marked before
   others-before : (t : ℕ) (f : Form) → names f u ≡ false → othersMarked (mark S u) t f ≡ true → othersMarked S t f ≡ true
   others-before t f n e = others-from S t f (λ s h. before s h (ℕ-discrete s u) (others-at (mark S u) t f e s h))
@@ -265,7 +269,7 @@ module _ (C : Circuit) (W : WellFormed C) (S : Standing) (k u : ℕ) (low : 1 �
       other q =
           occurs-yes (C .p) (constraintAt C k) (suc s) (and-left _ _ e)
           (ap (reduced (C .p) (constraintAt C k)) q
-          ∙ uninvolved-reduced (C .p) (constraintAt C k) u (omega (arith, W .p-least)) low U)
+          ∙ apart-reduced (C .p) (constraintAt C k) u (omega (arith, W .p-least)) low A)
 
   unmarked-before : (t : ℕ) → mark S u .marked t ≡ false → S .marked t ≡ false
   unmarked-before t e = false-by _ (λ m. true-or-false _ (mark-keeps S u t m) e)
@@ -275,6 +279,7 @@ module _ (C : Circuit) (W : WellFormed C) (S : Standing) (k u : ℕ) (low : 1 �
   product-before t e =
       let K = constraintAt C k in
       let X = product-says K (mark S u) t e in
+      let U = apart-uninvolved (C .p) K u A (X .nonlinear) in
       let stands = names (K .c) t && not (names (K .a) t) && not (names (K .b) t) in
       and-both _ _ (and-left (not (linear K) && stands) _ e)
       (and-both _ _
@@ -292,35 +297,24 @@ module _ (C : Circuit) (W : WellFormed C) (S : Standing) (k u : ℕ) (low : 1 �
 
 -- Floors in a list
 
-pub no-floors : (C : Circuit) (W : WellFormed C) (S : Standing) (n : ℕ) → Floors C S (set (replicate (suc n) 0) 0 bounds.none)
-no-floors C W S n =
-    record {
-      top = getD-set-same (replicate (suc n) 0) 0 bounds.none 0 (omega arith);
-      each = λ k l h.
-          rw (getD-set-other (replicate (suc n) 0) 0 k bounds.none 0 (λ (z : k ≡ 0). omega arith), getD-repeated {A = ℕ} (suc n) k 0)
-          (nothing-known C W S k);
-    }
+pub no-floors : (C : Circuit) (W : WellFormed C) (S : Standing) (n : ℕ) → Floors C S (replicate n 0)
+no-floors C W S n = record { each = λ k l h. rw (getD-repeated {A = ℕ} n k 0) (nothing-known C W S k) }
 
-pub floors-set : (C : Circuit) (S : Standing) (k floor : ℕ) (floors : List ℕ) → Floors C S floors → 1 ≤ k → k < length floors
-    → IsFloor C S k floor → Floors C S (set floors k floor)
-floors-set C S k floor floors F l h I =
-    record {
-      top = getD-set-other floors k 0 floor 0 (λ (z : 0 ≡ k). omega arith) ∙ F .top;
-      each = λ j a b. each j a b (ℕ-discrete j k);
-    }
+pub floors-set : (C : Circuit) (S : Standing) (k floor : ℕ) (floors : List ℕ) → Floors C S floors → k < length floors → IsFloor C S k floor
+    → Floors C S (set floors k floor)
+floors-set C S k floor floors F h I = record { each = λ j a b. each j a b (ℕ-discrete j k) }
   where
     each : (j : ℕ) → 1 ≤ j → j ≤ C .m → Dec (j ≡ k) → IsFloor C S j (getD (set floors k floor) j 0)
     each j a b (yes q) = rw (q, getD-set-same floors k floor 0 h) I
     each j a b (no d) = rw (getD-set-other floors k j floor 0 d) (F .each j a b)
 
--- where a signal is marked, the floors of the constraints that involve it are forgotten, and the others stay
+-- where a signal is marked, floors are forgotten, but for constraints that it is apart from, whose floors stay
 pub floors-kept : (C : Circuit) (W : WellFormed C) (S : Standing) (u : ℕ) → 1 ≤ u → (before later : List ℕ) → Floors C S before
     → Forgotten C u before later → Floors C (mark S u) later
-floors-kept C W S u low before later F G = record { top = G .top ∙ F .top; each = each }
+floors-kept C W S u low before later F G = record { each = each }
   where
     each : (k : ℕ) → 1 ≤ k → k ≤ C .m → IsFloor C (mark S u) k (getD later k 0)
     each k l m =
-        by-test (involves (constraintAt C k) u) (λ e. rw (G .each k l m, e) (nothing-known C W (mark S u) k))
-        (λ e.
-        rw (G .each k l m, e)
-        (floor-kept C W S k u low (uninvolved (constraintAt C k) u e) (getD before k 0) (F .each k l m)))
+        ⊎-elim (λ z. rw z (nothing-known C W (mark S u) k))
+        (λ w. rw (w .0) (floor-kept C W S k u low (w .1) (getD before k 0) (F .each k l m)))
+        (G .each k l m)

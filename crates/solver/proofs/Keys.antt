@@ -1,35 +1,24 @@
 -- Keys of steps: their order is the order of the solver's choice, so the least key is the step that the bounds phase takes.
-use Prim.Native.Nat.{ℕ, zero, suc, _+_, _*_, _-_, _/_, _%_, _≤_, _<_}
+use Prim.Native.Nat.{ℕ, _+_, _*_, _-_, _/_, _%_, _≤_, _<_}
 use mathlib.Core.Path.{_≡_, refl, sym, ap, _∙_}
-use mathlib.Core.Bool.{Bool, true, false}
+use mathlib.Core.Bool.{true, false}
 use mathlib.Core.List.{List}
 use mathlib.Core.Option.{Option, none, some}
-use mathlib.Core.Logic.{_⊎_, inl, inr, ⊎-elim}
+use mathlib.Core.Logic.{_⊎_, ⊎-elim}
 use native.Mathlib.Omega.{arith}
-use native.Mathlib.Decide.{decLt, ℕ-discrete}
-use native.Mathlib.Nat.{mod-lt, div-add-mod', mod-eq-of-lt}
+use native.Mathlib.Decide.{decLt}
+use native.Mathlib.Nat.{mod-lt, div-add-mod'}
 use lib.Dec.{ltb}
 use lib.ListN.{getD}
 use borrow.Author.Tests.{ltb-false, le-ltb}
 use Rattle.circuit.specs.Circuit.{Circuit, WellFormed}
 use Rattle.laws.specs.Standing.{Standing}
-use Rattle.laws.specs.Step.{Kind, Step, inRange}
+use Rattle.laws.specs.Step.{Kind, Step}
 use Rattle.laws.specs.Solver.{step, newBound, lowers, kindNumber, firstBy, precedes, bestBound}
-use Rattle.laws.proofs.Sum.{false-by, true-or-false}
+use Rattle.laws.proofs.Sum.{true-or-false}
 use Rattle.laws.proofs.Turns.{target-within}
-use Rattle.laws.proofs.Best.{
-  first-by-says,
-  first-by-holds,
-  Lowering,
-  Bounding,
-  by-root,
-  by-sum,
-  lowers-says,
-  lowers-kind,
-  bounding-fields,
-  best-none,
-  best-some,
-}
+use Rattle.laws.proofs.Best.{first-by-says, first-by-holds, lowers-says, lowers-kind, bounding-fields, best-none, best-some}
+use Rattle.laws.proofs.Best.{Bounding, by-root, by-sum}
 use Rattle.solver.specs.Bounds as bounds
 use Rattle.solver.specs.Bounds.{keyOf, Holder, Settled, Keys, Least}
 

@@ -5,10 +5,13 @@ pub mod Untouched
 pub mod Progress
 pub mod BoundsPhase
 pub mod Written
+pub mod ListLaws
 pub mod SearchLaws
+pub mod RowLaws
 pub mod CandidateLaws
 pub mod BoundsTurn
 pub mod Floors
+pub mod FormLaws
 pub mod MarkLaws
 pub mod MarkSearch
 pub mod NextMark

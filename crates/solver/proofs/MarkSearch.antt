@@ -2,20 +2,16 @@
 use Prim.Native.Nat.{ℕ, zero, suc, _+_, _-_, _≤_, _<_}
 use mathlib.Core.Path.{_≡_, refl, sym, ap, _∙_}
 use mathlib.Core.Bool.{Bool, true, false, cond}
-use mathlib.Core.List.{List}
 use mathlib.Core.Option.{Option, none, some}
 use native.Mathlib.Numerals.{add-one}
 use native.Mathlib.Omega.{arith}
-use lib.Dec.{eqb}
-use lib.ListN.{getD}
 use borrow.Author.Tests.{eq-eqb, ne-eqb}
-use Rattle.circuit.specs.Circuit.{Circuit, Constraint, constraintAt}
+use Rattle.circuit.specs.Circuit.{Circuit, constraintAt}
 use Rattle.laws.specs.Standing.{Standing}
 use Rattle.laws.specs.Rules.{productMet, digitsMet, zeroMet}
 use Rattle.laws.specs.Step.{Step, Zero, Product, Digits, met}
 use Rattle.laws.specs.Solver.{step, pick, firstReference, firstDigits, firstProduct, firstFor, firstTarget, firstMark}
-use Rattle.laws.proofs.Sum.{false-by}
-use Rattle.solver.specs.Marks.{IsFloor, found}
+use Rattle.solver.specs.Marks.{found}
 
 one-less : (m k : ℕ) → k < m → m - k ≡ suc (m - (k + 1))
 one-less m k h = omega arith

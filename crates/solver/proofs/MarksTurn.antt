@@ -1,16 +1,16 @@
 -- The turns of the marks phase: what the loop knows, and what a turn does with it.
-use Prim.Native.Nat.{ℕ, zero, suc, _+_, _*_, _-_, _≤_, _<_}
+use Prim.Native.Nat.{ℕ, _+_, _*_, _-_, _≤_, _<_}
 use mathlib.Core.Path.{_≡_, refl, sym, ap, _∙_}
-use mathlib.Core.Bool.{Bool, true, _&&_}
+use mathlib.Core.Bool.{Bool, true}
 use mathlib.Core.List.{List, [], _∷_, _++_}
-use mathlib.Core.Option.{Option, none, some}
+use mathlib.Core.Option.{some}
 use native.Mathlib.Omega.{arith}
 use lib.Dec.{eqb}
 use lib.ListN.{length, set, replicate, length-append}
 use borrow.Author.Tests.{eqb-true}
 use Rattle.circuit.specs.Circuit.{Circuit, WellFormed}
-use Rattle.laws.specs.Standing.{Standing, mark, start}
-use Rattle.laws.specs.Step.{Kind, Step, within, fields, inRange, after, replay}
+use Rattle.laws.specs.Standing.{Standing, start}
+use Rattle.laws.specs.Step.{Kind, Step, within, fields, after, replay}
 use Rattle.laws.specs.Solver.{step, kindNumber, firstMark, boundSteps, markSteps}
 use Rattle.laws.proofs.Sum.{and-left, and-right}
 use Rattle.laws.proofs.Turns.{within-says, target-within, fields-fit}
@@ -22,7 +22,6 @@ use Rattle.derivation.specs.Encoded.{stepBytes, stepsBytes}
 use Rattle.derivation.specs.Inner.{circuitOf}
 use Rattle.rules.specs.declared.standing.Kind as K
 use Rattle.solver.specs.Bytes.{listed, stored}
-use Rattle.solver.specs.Bounds as bounds′
 use Rattle.solver.specs.Marks.{Floors, choiceOf, StandingOf, Marked}
 use Rattle.solver.specs.Search.{Forgotten}
 use Rattle.solver.specs.declared.marks.Choice.{Choice}
@@ -64,7 +63,7 @@ module _ (c table bounds : List ℕ) (marks : List Bool) (p n : ℕ) (B : Standi
   W = well-formed c table (B .prepared)
 
   pub turning-start : (output : List ℕ) (base size : ℕ) → viewOf p bounds marks ≡ bounded C
-      → Turning c bounds marks (set (replicate (suc size) 0) 0 bounds′.none) output output p base 0
+      → Turning c bounds marks (replicate size 0) output output p base 0
   unfolding stepsBytes
   turning-start output base size e =
       record {
@@ -115,10 +114,10 @@ module _ (c table bounds : List ℕ) (marks : List Bool) (p n : ℕ) (B : Standi
       M : Marking (circuitOf c) S x
       M = first-mark-some (circuitOf c) S x taken
 
-      pub target-small : (1 ≤ target) × (target ≤ 256)
+      pub target-small : (1 ≤ target) × (target ≤ 256) × (target ≤ n)
       target-small =
           let w = target-within (circuitOf c) x (M .in-range) in
-          (w .0, omega (arith, w .1, W c table bounds marks p n B .n-most))
+          (w .0, omega (arith, w .1, W c table bounds marks p n B .n-most), omega (arith, w .1, B .is-n))
 
       pub fields-small : (constraint ≤ 512) × (reference ≤ 256)
       fields-small =

@@ -1,6 +1,6 @@
 -- The ways out of the search for the next mark, from what the searches for one target answer.
-use Prim.Native.Nat.{ℕ, zero, suc, _+_, _-_, _≤_, _<_}
-use mathlib.Core.Path.{_≡_, refl, sym, ap, _∙_}
+use Prim.Native.Nat.{ℕ, _+_, _-_, _≤_, _<_}
+use mathlib.Core.Path.{_≡_, sym, ap, _∙_}
 use mathlib.Core.Bool.{Bool, true, false, not}
 use mathlib.Core.List.{List}
 use mathlib.Core.Option.{Option, none, some}
@@ -12,18 +12,13 @@ use Rattle.laws.specs.Standing.{Standing}
 use Rattle.laws.specs.Step.{Step, Zero, Product, Digits}
 use Rattle.laws.specs.Solver.{step, firstDigits, firstProduct, firstMark}
 use Rattle.rules.specs.View.{boundIn, markIn, viewOf}
-use Rattle.rules.proofs.ViewLaws.{bound-within}
 use Rattle.derivation.specs.Inner.{circuitOf}
-use Rattle.solver.specs.Bounds.{Least}
-use Rattle.solver.specs.Marks.{withMarks, Floors, found, StandingOf}
+use Rattle.solver.specs.Marks.{withMarks, Floors, AtMost, found, StandingOf}
 use Rattle.solver.proofs.CandidateLaws.{well-formed}
-use Rattle.solver.proofs.MarkLaws.{below-product, below-digits, view-marked, bound-read}
+use Rattle.solver.proofs.FormLaws.{mark-read, view-marked, bound-read, bound-nonzero}
+use Rattle.solver.proofs.MarkLaws.{below-product, below-digits}
 use Rattle.solver.proofs.MarkSearch as search
 use Rattle.solver.proofs.MarkSearch.{TargetFrom}
-
-pub mark-read : (marks : List Bool) (s : ℕ) {b : Bool} → getD marks s false ≡ b → markIn marks s ≡ b
-unfolding markIn
-mark-read marks s e = e
 
 module _ (c table bounds : List ℕ) (marks : List Bool) (p n m : ℕ) (B : StandingOf c table bounds marks p n) (is-m : m ≡ circuitOf c .m)
     (floors : List ℕ) (F : Floors (circuitOf c) (viewOf p bounds marks) floors) where
@@ -63,16 +58,15 @@ module _ (c table bounds : List ℕ) (marks : List Bool) (p n m : ℕ) (B : Stan
 
         module _ (nonzero : getD bounds (t + 1) 0 ≡ 0 → ⊥) where
           nonzero-at : S .bound (t + 1) ≡ 0 → ⊥
-          unfolding viewOf
-          nonzero-at e = nonzero (bound-within p bounds (t + 1) near ∙ e)
+          nonzero-at e = nonzero (bound-nonzero p bounds marks (t + 1) near e)
 
-          pub next-below : (r : ℕ) → Least floors m r → t + 1 < getD floors r 0 → TargetFrom C S (t + 1)
-          next-below r L h =
+          pub next-below : (lowest : ℕ) → AtMost floors m lowest → t + 1 < lowest → TargetFrom C S (t + 1)
+          next-below lowest L h =
               search.target-below C S t T more-at unmarked-at nonzero-at
               (λ k a b.
-              below-product C S floors F k (t + 1) a b (omega arith) unmarked-at (omega (arith, L .least k (omega (arith, is-m)))))
+              below-product C S floors F k (t + 1) a b (omega arith) unmarked-at (omega (arith, L .each k a (omega (arith, is-m)))))
               (λ k a b.
-              below-digits C S floors F k (t + 1) a b (omega arith) unmarked-at (omega (arith, L .least k (omega (arith, is-m)))))
+              below-digits C S floors F k (t + 1) a b (omega arith) unmarked-at (omega (arith, L .each k a (omega (arith, is-m)))))
 
           module _ (k : ℕ)
               (products : (b : ℕ → ℕ) → Floors C (withMarks b marks) floors → (later : Option Step)

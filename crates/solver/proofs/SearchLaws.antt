@@ -1,48 +1,29 @@
 -- Laws of the solver's searches: what one turn of each walk finds.
-use Prim.Native.Nat.{ℕ, zero, suc, _+_, _-_, _≤_, _<_}
+use Prim.Native.Nat.{ℕ, _+_, _-_, _≤_, _<_}
 use mathlib.Core.Path.{_≡_, refl, sym, ap, _∙_}
-use mathlib.Core.Bool.{Bool, true, false, cond, not, _&&_, _||_}
-use mathlib.Core.List.{List, [], _∷_}
+use mathlib.Core.Bool.{Bool, true, false, not, _&&_}
+use mathlib.Core.List.{List}
 use mathlib.Core.Logic.{_⊎_, inl, inr, ⊎-elim}
 use native.Mathlib.Omega.{arith}
-use native.Mathlib.Decide.{ℕ-discrete, decLe}
-use lib.Dec.{ltb, leb, eqb}
-use lib.ListN.{length, getD, set}
-use lib.Seq.{getD-set-same, getD-set-other}
-use borrow.Author.Tests.{ltb-true, leb-true, leb-false, eqb-true, eq-eqb, ne-eqb, lt-ltb, le-ltb, le-leb, lt-leb, not-true}
-use Rattle.circuit.specs.Bytes.{byteAt, u16At, u32At}
-use Rattle.circuit.specs.Circuit.{Circuit, Form, Constraint, Term, constraintAt, names}
-use Rattle.circuit.specs.Reader.{termKept, formIn, afterForm, constraintIn}
+use native.Mathlib.Decide.{ℕ-discrete}
+use lib.Dec.{ltb, leb}
+use lib.ListN.{length, getD}
+use borrow.Author.Tests.{ltb-true, eqb-true, eq-eqb, ne-eqb, lt-ltb, le-ltb, le-leb, lt-leb, not-true}
+use Rattle.circuit.specs.Bytes.{byteAt, u16At}
+use Rattle.circuit.specs.Circuit.{Form, constraintAt, names}
+use Rattle.circuit.specs.Reader.{formIn, constraintIn}
 use Rattle.laws.specs.Rules.{occurs}
-use Rattle.laws.proofs.Sum.{and-left, and-right, and-both, by-test, true-or-false, true-by, false-by}
-use Rattle.rules.specs.View.{coefIn, boundIn, markIn}
+use Rattle.laws.proofs.Sum.{and-left, and-right, and-both, true-or-false, true-by, false-by}
+use Rattle.rules.specs.View.{coefIn, markIn}
 use Rattle.rules.proofs.ViewLaws.{mark-past, bound-within}
 use Rattle.rules.proofs.Walk.{termsFrom, turn, terms-end, form-start}
 use Rattle.solver.specs.Bounds.{Least}
 use Rattle.derivation.specs.Offsets.{partOf}
 use Rattle.derivation.proofs.OffsetLaws.{part-is}
 use Rattle.derivation.specs.Inner.{circuitOf}
-use Rattle.solver.specs.Search.{Prepared, SomeUnmarked, Only, free, involves, Forgotten}
-
--- Whether a constraint involves a signal
-
-module _ (s : List ℕ) (t : ℕ) where
-  pub involved-a : names (formIn s) t ≡ true → true ≡ involves (constraintIn s) t
-  unfolding involves constraintIn
-  involved-a a = rw a
-
-  pub involved-b : (b : List ℕ) → names (formIn s) t ≡ false → b ≡ afterForm s → names (formIn b) t ≡ true → true ≡ involves (constraintIn s) t
-  unfolding involves constraintIn
-  involved-b b a e f = rw (a, sym (ap (λ (r : List ℕ). names (formIn r) t) e) ∙ f)
-
-  pub involved-c : (b c : List ℕ) (r : Bool) → names (formIn s) t ≡ false → b ≡ afterForm s → names (formIn b) t ≡ false
-      → c ≡ afterForm b → r ≡ names (formIn c) t → r ≡ involves (constraintIn s) t
-  unfolding involves constraintIn
-  involved-c b c r a e f g h =
-      let second : names (formIn (afterForm s)) t ≡ false = sym (ap (λ (z : List ℕ). names (formIn z) t) e) ∙ f in
-      let third : names (formIn (afterForm (afterForm s))) t ≡ r
-      = sym (h ∙ ap (λ (z : List ℕ). names (formIn z) t) (g ∙ ap afterForm e)) in
-      rw (a, second, third)
+use Rattle.solver.specs.Rows.{reach, SignalsOf}
+use Rattle.solver.specs.Search.{Prepared, SomeUnmarked, Only, free}
+use Rattle.solver.proofs.ListLaws.{Next, reached, walked, passing}
 
 -- An unmarked signal
 
@@ -117,57 +98,76 @@ pub record Sole (test : ℕ → Bool) (s found : ℕ) : Type 0 where
   pub each : (u : ℕ) → 1 ≤ u → u ≤ s → test u ≡ true → u ≡ found
   pub holds : (found ≡ 0) ⊎ ((1 ≤ found) × (found ≤ s) × (test found ≡ true))
 
-pub sole-start : (test : ℕ → Bool) → Sole test 0 0
-sole-start test = record { each = λ u l m e. absurd (omega arith); holds = inl refl }
+pub sole-start : (test : ℕ → Bool) (list : ℕ → ℕ) → Sole test (reach list 0) 0
+unfolding reach
+sole-start test list = record { each = λ u l m e. absurd (omega arith); holds = inl refl }
 
-pub sole-end : (test : ℕ → Bool) (n s found : ℕ) → Sole test s found → s ≤ n → n ≤ s → Only test n found
-sole-end test n s found S h g =
-    record {
-      holds = ⊎-elim (λ z. inl z) (λ (w : (1 ≤ found) × (found ≤ s) × (test found ≡ true)). inr (w .0, omega arith, w .2)) (S .holds);
-      is-only = λ u l m e alone. sym (S .each u l (omega arith) e);
-    }
+-- the test of a form and bounds
+module _ (p : ℕ) (form bounds : List ℕ) where
+  free-absent : (s : ℕ) → coefIn form s ≡ 0 → free p form bounds s ≡ false
+  unfolding free occurs
+  free-absent s e = rw e refl
 
--- the next signal
-module _ (test : ℕ → Bool) (n s found : ℕ) (S : Sole test s found) (more : s < n) where
-  pub sole-on : test (s + 1) ≡ false → Sole test (s + 1) found
-  sole-on e =
-      record {
-        each = λ u l m f. each u l m f (ℕ-discrete u (s + 1));
-        holds = ⊎-elim (λ z. inl z) (λ (w : (1 ≤ found) × (found ≤ s) × (test found ≡ true)). inr (w .0, omega arith, w .2)) (S .holds);
-      }
-    where
-      each : (u : ℕ) → 1 ≤ u → u ≤ s + 1 → test u ≡ true → Dec (u ≡ s + 1) → u ≡ found
-      each u l m f (yes q) = true-or-false _ f (ap test q ∙ e)
-      each u l m f (no d) = S .each u l (omega arith) f
-
-  pub sole-found : test (s + 1) ≡ true → found ≡ 0 → Sole test (s + 1) (s + 1)
-  sole-found e z = record { each = λ u l m f. each u l m f (ℕ-discrete u (s + 1)); holds = inr (omega arith, omega arith, e) }
-    where
-      each : (u : ℕ) → 1 ≤ u → u ≤ s + 1 → test u ≡ true → Dec (u ≡ s + 1) → u ≡ s + 1
-      each u l m f (yes q) = q
-      each u l m f (no d) = absurd (omega (arith, S .each u l (omega arith) f))
-
-  pub sole-several : test (s + 1) ≡ true → (found ≡ 0 → ⊥) → Only test n 0
-  sole-several e d = record { holds = inl refl; is-only = λ u l m f alone. absurd (several u alone (S .holds)) }
-    where
-      several : (u : ℕ) → ((v : ℕ) → 1 ≤ v → v ≤ n → test v ≡ true → v ≡ u)
-          → (found ≡ 0) ⊎ ((1 ≤ found) × (found ≤ s) × (test found ≡ true)) → ⊥
-      several u alone (inl z) = d z
-      several u alone (inr w) = omega (arith, alone found (w .0) (omega arith) (w .2), alone (s + 1) (omega arith) (omega arith) e)
-
--- the test of a form and bounds at a signal
-module _ (p : ℕ) (form bounds : List ℕ) (s : ℕ) where
-  pub free-absent : getD form s 0 ≡ 0 → free p form bounds s ≡ false
-  unfolding free occurs coefIn
-  free-absent e = rw e refl
-
-  pub free-lower : s < length bounds → (getD bounds s 0 ≡ p - 1 → ⊥) → free p form bounds s ≡ false
+  free-lower : (s : ℕ) → s < length bounds → (getD bounds s 0 ≡ p - 1 → ⊥) → free p form bounds s ≡ false
   unfolding free
-  free-lower l d = false-by _ (λ e. d (bound-within p bounds s l ∙ eqb-true _ _ (and-right (occurs (coefIn form) s) _ e)))
+  free-lower s l d = false-by _ (λ e. d (bound-within p bounds s l ∙ eqb-true _ _ (and-right (occurs (coefIn form) s) _ e)))
 
-  pub free-holds : s < length bounds → (getD form s 0 ≡ 0 → ⊥) → getD bounds s 0 ≡ p - 1 → free p form bounds s ≡ true
-  unfolding free occurs coefIn
-  free-holds l d e = rw (ne-eqb (getD form s 0) 0 d, sym (bound-within p bounds s l) ∙ e, eq-eqb (p - 1) (p - 1) refl) refl
+  free-holds : (s : ℕ) → s < length bounds → (coefIn form s ≡ 0 → ⊥) → getD bounds s 0 ≡ p - 1 → free p form bounds s ≡ true
+  unfolding free occurs
+  free-holds s l d e = rw (ne-eqb (coefIn form s) 0 d, sym (bound-within p bounds s l) ∙ e, eq-eqb (p - 1) (p - 1) refl) refl
+
+  pub sole-end : (n : ℕ) (list : List ℕ) → SignalsOf (coefIn form) n list → (i : ℕ) → length list ≤ i → i ≤ length list → (found : ℕ)
+      → Sole (free p form bounds) (reach (coefIn list) i) found → Only (free p form bounds) n found
+  sole-end n list L i h g found S =
+      record {
+        holds =
+            ⊎-elim (λ z. inl z)
+            (λ (w : (1 ≤ found) × (found ≤ reach (coefIn list) i) × (free p form bounds found ≡ true)).
+            inr (w .0, omega (arith, w .1, reached (coefIn form) n list L i h g), w .2))
+            (S .holds);
+        is-only = λ u l m e alone.
+            sym
+            (walked (coefIn form) n list L (λ (v : ℕ). free p form bounds v ≡ true → v ≡ found) i h g (S .each)
+            (λ v x z f. true-or-false _ f (free-absent v z)) u l m e);
+      }
+
+  -- the signal t is passed
+  module _ (n s t r found : ℕ) (N : Next (coefIn form) n s t r) (S : Sole (free p form bounds) s found) (read : t < length bounds) where
+    pub sole-on : (getD bounds t 0 ≡ p - 1 → ⊥) → Sole (free p form bounds) r found
+    sole-on d =
+        record {
+          each = passing N (λ (u : ℕ). free p form bounds u ≡ true → u ≡ found) (S .each) (λ u l z f. true-or-false _ f (free-absent u z))
+              (λ f. true-or-false _ f (free-lower t read d));
+          holds = ⊎-elim (λ z. inl z) (λ (w : (1 ≤ found) × (found ≤ s) × (free p form bounds found ≡ true)).
+              inr (w .0, omega (arith, w .1, N .above, N .is), w .2)) (S .holds);
+        }
+
+    module _ (e : getD bounds t 0 ≡ p - 1) where
+      here : free p form bounds t ≡ true
+      here = free-holds t read (N .present) e
+
+      pub sole-found : found ≡ 0 → Sole (free p form bounds) r t
+      sole-found z =
+          record {
+            each = passing N (λ (u : ℕ). free p form bounds u ≡ true → u ≡ t) (λ u l m f. absurd (omega (arith, S .each u l m f)))
+                (λ u l a f. true-or-false _ f (free-absent u a)) (λ f. refl);
+            holds = inr (omega (arith, N .above), omega (arith, N .is), here);
+          }
+
+      pub sole-several : (found ≡ 0 → ⊥) → Only (free p form bounds) n 0
+      sole-several d = record { holds = inl refl; is-only = λ u l m f alone. absurd (several u alone (S .holds)) }
+        where
+          several : (u : ℕ) → ((v : ℕ) → 1 ≤ v → v ≤ n → free p form bounds v ≡ true → v ≡ u)
+              → (found ≡ 0) ⊎ ((1 ≤ found) × (found ≤ s) × (free p form bounds found ≡ true)) → ⊥
+          several u alone (inl z) = d z
+          several u alone (inr w) =
+              omega (
+                arith,
+                w .1,
+                N .above,
+                alone found (w .0) (omega (arith, w .1, N .above, N .within)) (w .2),
+                alone t (omega (arith, N .above)) (N .within) here,
+              )
 
 -- The least entry
 
@@ -199,49 +199,8 @@ module _ (entries : List ℕ) (m r : ℕ) (L : Least entries m r) where
       least k h (yes q) = rw q l
       least k h (no d) = L .least k (omega arith)
 
--- What is forgotten
-
--- the same as in a table of k constraints: those up to k are done, the others as before
-pub record Forgetting (C : Circuit) (signal k : ℕ) (before later : List ℕ) : Type 0 where
-  pub top : getD later 0 0 ≡ getD before 0 0
-  pub done : (j : ℕ) → 1 ≤ j → j ≤ k → getD later j 0 ≡ cond (involves (constraintAt C j) signal) 0 (getD before j 0)
-  pub same : (j : ℕ) → k < j → getD later j 0 ≡ getD before j 0
-
-pub forgetting-start : (C : Circuit) (signal : ℕ) (before : List ℕ) → Forgetting C signal 0 before before
-forgetting-start C signal before = record { top = refl; done = λ j l m. absurd (omega arith); same = λ j h. refl }
-
-pub forgetting-end : (C : Circuit) (signal k : ℕ) (before later : List ℕ) → Forgetting C signal k before later → C .m ≤ k
-    → Forgotten C signal before later
-forgetting-end C signal k before later F h = record { top = F .top; each = λ j l m. F .done j l (omega arith) }
-
-module _ (C : Circuit) (signal k : ℕ) (before later : List ℕ) (F : Forgetting C signal k before later) (b : Bool)
-    (is : b ≡ involves (constraintAt C (k + 1)) signal) where
-  pub forgetting-set : k + 1 < length later → b ≡ true → Forgetting C signal (k + 1) before (set later (k + 1) 0)
-  forgetting-set h e =
-      record {
-        top = getD-set-other later (k + 1) 0 0 0 (λ (z : 0 ≡ k + 1). omega arith) ∙ F .top;
-        done = λ j l m. done j l m (ℕ-discrete j (k + 1));
-        same = λ j g. getD-set-other later (k + 1) j 0 0 (λ (z : j ≡ k + 1). omega arith) ∙ F .same j (omega arith);
-      }
-    where
-      done : (j : ℕ) → 1 ≤ j → j ≤ k + 1 → Dec (j ≡ k + 1)
-          → getD (set later (k + 1) 0) j 0 ≡ cond (involves (constraintAt C j) signal) 0 (getD before j 0)
-      done j l m (yes q) = rw (q, sym is ∙ e) (getD-set-same later (k + 1) 0 0 h)
-      done j l m (no d) = getD-set-other later (k + 1) j 0 0 d ∙ F .done j l (omega arith)
-
-  pub forgetting-on : b ≡ false → Forgetting C signal (k + 1) before later
-  forgetting-on e = record { top = F .top; done = λ j l m. done j l m (ℕ-discrete j (k + 1)); same = λ j g. F .same j (omega arith) }
-    where
-      done : (j : ℕ) → 1 ≤ j → j ≤ k + 1 → Dec (j ≡ k + 1) → getD later j 0 ≡ cond (involves (constraintAt C j) signal) 0 (getD before j 0)
-      done j l m (yes q) = rw (q, sym is ∙ e) (F .same (k + 1) (omega arith))
-      done j l m (no d) = F .done j l (omega arith)
-
 -- The part of a constraint
 
 pub constraint-part : (c table : List ℕ) → Prepared c table → (k : ℕ) → 1 ≤ k → k ≤ circuitOf c .m → (part : List ℕ) → part ≡ partOf c table k
     → constraintIn part ≡ constraintAt (circuitOf c) k
 constraint-part c table P k l m part e = ap constraintIn e ∙ part-is c (circuitOf c) (P .size) (P .read) table (P .offsets) k l m
-
-pub involved-part : (c table : List ℕ) → Prepared c table → (k : ℕ) → 1 ≤ k → k ≤ circuitOf c .m → (part : List ℕ) → part ≡ partOf c table k
-    → (signal : ℕ) (b : Bool) → b ≡ involves (constraintIn part) signal → b ≡ involves (constraintAt (circuitOf c) k) signal
-involved-part c table P k l m part e signal b h = h ∙ ap (λ (K : Constraint). involves K signal) (constraint-part c table P k l m part e)

@@ -1,9 +1,10 @@
 -- The call from what its parts answer: the two phases one after the other, the bytes that they leave, and the answer.
-use Prim.Native.Nat.{ℕ, zero, suc, _+_, _*_, _-_, _≤_, _<_, min}
+use Prim.Native.Nat.{ℕ, _+_, _*_, _-_, _≤_, _<_, min}
 use mathlib.Core.Path.{_≡_, refl, sym, ap, _∙_}
 use mathlib.Core.Bool.{Bool, true, false}
 use mathlib.Core.List.{List, [], _∷_, _++_}
 use native.Mathlib.Omega.{arith}
+use native.Mathlib.Nat.{mul-le-mul}
 use lib.Dec.{leb}
 use lib.ListN.{length, drop, length-append}
 use borrow.Author.Tests.{le-leb, lt-leb}
@@ -14,7 +15,7 @@ use Rattle.circuit.specs.Answer as circuit
 use Rattle.circuit.proofs.WellFormed.{read-well-formed}
 use Rattle.laws.specs.Sum.{all}
 use Rattle.laws.specs.Standing.{Standing, largest, isInput, start}
-use Rattle.laws.specs.Step.{Step, replay}
+use Rattle.laws.specs.Step.{replay}
 use Rattle.laws.specs.Solver.{boundSteps, markSteps, solution}
 use Rattle.laws.proofs.Order.{replay-append}
 use Rattle.laws.proofs.Greedy.{bound-steps-short}
@@ -80,6 +81,13 @@ module _ (c : List ℕ) (p n i o m : ℕ) (Z : Sized c p n m) (is-i : i ≡ circ
         sym (call-on c output C (Z .size) (Z .read) ∙ ap (λ (b : Bool). fitting b C) few),
         sym (output-on c output C (Z .size) (Z .read) ∙ ap (λ (b : Bool). leftBy b C output) few),
       )
+
+  -- the large table is large enough
+  pub rows-fit : (m + 1) * (2 * (n + 1)) ≤ 263682
+  rows-fit =
+      let fewest : n + 1 ≤ 257 = omega (arith, Z .is-n, W .n-most) in
+      let most : m + 1 ≤ 513 = omega (arith, Z .is-m, W .m-most) in
+      omega (arith, mul-le-mul most fewest)
 
   module _ (table : List ℕ) (O : Offsets c (min m 512) table) where
     pub prepared : Prepared c table

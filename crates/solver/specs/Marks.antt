@@ -17,7 +17,6 @@ use Rattle.rules.specs.Promise.{kindOf}
 use Rattle.derivation.specs.Encoded.{stepsBytes}
 use Rattle.derivation.specs.Inner.{circuitOf}
 use Rattle.solver.specs.Bytes.{stored}
-use Rattle.solver.specs.Bounds as bounds
 use Rattle.solver.specs.Search.{Prepared}
 use Rattle.solver.specs.declared.marks.Choice.{Choice}
 use Rattle.solver.specs.declared.marks.Choice.the-variants.{Nothing, Taken}
@@ -31,10 +30,13 @@ pub record IsFloor (C : Circuit) (S : Standing) (k floor : ℕ) : Type 0 where
   pub product : (t : ℕ) → 1 ≤ t → S .marked t ≡ false → productMet (constraintAt C k) S t ≡ true → floor ≤ t
   pub digits : (t r : ℕ) → 1 ≤ t → 1 ≤ r → r ≤ C .n → S .marked t ≡ false → digitsMet (C .p) (C .n) (constraintAt C k) S t r ≡ true → floor ≤ t
 
--- a floor of each constraint, 0 where nothing is known; none at 0
+-- a floor of each constraint, 0 where nothing is known
 pub record Floors (C : Circuit) (S : Standing) (floors : List ℕ) : Type 0 where
-  pub top : getD floors 0 0 ≡ bounds.none
   pub each : (k : ℕ) → 1 ≤ k → k ≤ C .m → IsFloor C S k (getD floors k 0)
+
+-- r is at most each of the entries 1 to m
+pub record AtMost (floors : List ℕ) (m r : ℕ) : Type 0 where
+  pub each : (k : ℕ) → 1 ≤ k → k ≤ m → r ≤ getD floors k 0
 
 -- two unmarked signals of the form have bound p - 1
 pub record Crowded (p n : ℕ) (R : ℕ → ℕ) (S : Standing) : Type 0 where
@@ -48,9 +50,30 @@ pub record Crowded (p n : ℕ) (R : ℕ → ℕ) (S : Standing) : Type 0 where
   pub one-bound : S .bound one ≡ p - 1
   pub other-bound : S .bound other ≡ p - 1
 
+-- two unmarked signals of the form have equal coefficients
+pub record Equals (n : ℕ) (R : ℕ → ℕ) (S : Standing) : Type 0 where
+  pub one : ℕ
+  pub other : ℕ
+  pub one-below : one < other
+  pub other-most : other ≤ n
+  pub one-live : live R S one ≡ true
+  pub other-live : live R S other ≡ true
+  pub same : R one ≡ R other
+
+-- x is one of the first entries
+pub record Among (values : List ℕ) (count x : ℕ) : Type 0 where
+  pub place : ℕ
+  pub early : place < count
+  pub is : getD values place 0 ≡ x
+
 -- t is at most each unmarked signal of the form, 0 where it has none
 pub record FirstLive (R : ℕ → ℕ) (S : Standing) (n t : ℕ) : Type 0 where
   pub low : (s : ℕ) → 1 ≤ s → s ≤ n → live R S s ≡ true → (1 ≤ t) × (t ≤ s)
+
+-- t is the lowest unmarked signal with bound 0, n + 1 where there is none
+pub record FirstZero (S : Standing) (n t : ℕ) : Type 0 where
+  pub found : (t ≡ n + 1) ⊎ ((1 ≤ t) × (t ≤ n) × (S .marked t ≡ false) × (S .bound t ≡ 0))
+  pub lowest : (s : ℕ) → 1 ≤ s → s ≤ n → S .marked s ≡ false → S .bound s ≡ 0 → t ≤ s
 
 -- the step found, or what is found later where there is none
 unfoldable pub found : ℕ → Step → Option Step → Option Step

@@ -1,7 +1,7 @@
 -- What the solver's searches work on and look for: constraints in a table of offsets, signals in forms.
 use Prim.Native.Nat.{ℕ, _-_, _≤_}
 use mathlib.Core.Path.{_≡_}
-use mathlib.Core.Bool.{Bool, true, false, cond, _&&_, _||_}
+use mathlib.Core.Bool.{Bool, true, false, _&&_, _||_}
 use mathlib.Core.List.{List}
 use mathlib.Core.Logic.{_⊎_}
 use lib.Dec.{eqb}
@@ -9,7 +9,7 @@ use lib.ListN.{getD}
 use Rattle.circuit.specs.Circuit.{Circuit, Constraint, Form, constraintAt, names}
 use Rattle.circuit.specs.Reading.{whole}
 use Rattle.circuit.specs.Reader.{readCircuit}
-use Rattle.laws.specs.Rules.{occurs}
+use Rattle.laws.specs.Rules.{linear, reduced, occurs}
 use Rattle.rules.specs.View.{coefIn, boundIn}
 use Rattle.derivation.specs.Offsets.{Offsets}
 use Rattle.derivation.specs.Inner.{circuitOf}
@@ -38,7 +38,13 @@ free p form bounds s = occurs (coefIn form) s && eqb (boundIn p bounds s) (p - 1
 unfoldable pub involves : Constraint → ℕ → Bool
 involves K s = names (K .a) s || names (K .b) s || names (K .c) s
 
--- what was kept of the constraints that involve the signal is forgotten
+-- no step by the constraint turns on the signal: the reduced form doesn't have it, or no form of one that isn't linear names it
+pub record Apart (p : ℕ) (K : Constraint) (s : ℕ) : Type 0 where
+  pub absent : linear K ≡ true → reduced p K s ≡ 0
+  pub unnamed : linear K ≡ false → involves K s ≡ false
+
+-- what was kept is forgotten, but for constraints that the signal is apart from
 pub record Forgotten (C : Circuit) (signal : ℕ) (before later : List ℕ) : Type 0 where
   pub top : getD later 0 0 ≡ getD before 0 0
-  pub each : (k : ℕ) → 1 ≤ k → k ≤ C .m → getD later k 0 ≡ cond (involves (constraintAt C k) signal) 0 (getD before k 0)
+  pub each : (k : ℕ) → 1 ≤ k → k ≤ C .m
+      → (getD later k 0 ≡ 0) ⊎ ((getD later k 0 ≡ getD before k 0) × Apart (C .p) (constraintAt C k) signal)

@@ -3,7 +3,10 @@
 pub mod answer;
 mod bounds;
 pub mod call;
+mod floor;
 mod marks;
 mod memo;
 mod output;
+mod references;
+mod rows;
 mod search;

@@ -1,34 +1,28 @@
 // The marks phase: the lowest unmarked target that some step marks, by the lowest kind, constraint and reference, until none is left.
 
+use crate::floor::raise_floors;
 use crate::memo::forget;
-use crate::memo::least;
 use crate::output::put_step;
-use crate::search::unmarked_in;
-use circuit::reader::after_form;
+use crate::rows::row_of;
 use derivation::offsets::part_of;
 use rules::constraint::is_linear;
 use rules::constraint::product_met;
 use rules::digits::separated;
-use rules::form::reduced_form;
 use rules::standing::Kind;
 ghost use mathlib.Core.Path.{_≡_};
-ghost use mathlib.Core.Bool.{true, false};
+ghost use mathlib.Core.Bool.{false};
 ghost use mathlib.Core.Option.{Option, some};
 ghost use Prim.Native.Nat.{ℕ, _+_, _*_, _≤_, _<_};
 ghost use lib.ListN.{length};
 ghost use Rattle.laws.specs.Standing.{start};
-ghost use Rattle.laws.specs.Rules as rules;
-ghost use Rattle.laws.specs.Rules.{live, occurs};
 ghost use Rattle.laws.specs.Step.{Step, Product, Digits, replay};
 ghost use Rattle.laws.specs.Solver.{step, kindNumber, firstProduct, firstDigits, firstMark, boundSteps};
-ghost use Rattle.rules.specs.View.{coefIn, markIn, viewOf};
+ghost use Rattle.rules.specs.View.{markIn, viewOf};
 ghost use Rattle.rules.specs.Promise.{kindOf};
 ghost use Rattle.derivation.specs.Inner.{circuitOf};
-ghost use Rattle.solver.specs.Marks.{withMarks, IsFloor, Floors, Crowded, FirstLive, found, choiceOf, StandingOf, Marked};
+ghost use Rattle.solver.specs.Marks.{withMarks, Floors, AtMost, found, choiceOf, StandingOf, Marked};
+ghost use Rattle.solver.specs.Rows.{Rows};
 ghost use Rattle.solver.specs.Search.{Prepared};
-
-// A floor above all signals: the constraint marks nothing.
-const NONE: u64 = 0xffff_ffff_ffff_ffff;
 
 // A step that marks an unmarked signal, if there is one.
 pub(crate) enum Choice {
@@ -45,135 +39,6 @@ pub(crate) enum Choice {
 struct Place {
     constraint: u32,
     reference: u32,
-}
-
-// Whether s is an unmarked signal of the form.
-fn is_live(form: &[u32], marks: &[bool], s: u32) -> bool
-    requires { ⌜ (1 ≤ s) × (s < length (now form)) × (s < length (now marks)) ⌝ }
-    ensures { λ r. ⌜ ((b : ℕ → ℕ) → r ≡ live (coefIn (now (form .entry))) (withMarks b (now (marks .entry))) s) ⌝ }
-{
-    let at = s as usize;
-    if form[at] == 0 {
-        return false;
-    }
-    !marks[at]
-}
-
-// The lowest unmarked signal of the form, 0 where it has none.
-fn first_live(form: &[u32], marks: &[bool], n: u32) -> u32
-    requires { ⌜ (n < length (now form)) × (n < length (now marks)) ⌝ }
-    ensures { λ r. ⌜ ((b : ℕ → ℕ) → FirstLive (coefIn (now (form .entry))) (withMarks b (now (marks .entry))) n r) ⌝ }
-{
-    let mut s: u32 = 0;
-    while s < n {
-        s = s + 1;
-        if is_live(form, marks, s) {
-            return s;
-        }
-    }
-    0
-}
-
-// Whether two unmarked signals of the form have bound p - 1.
-fn is_crowded<'a>(form: &[u32], bounds: &'a [u32], marks: &'a [bool], n: u32, p: u32) -> bool
-    requires { ⌜ (n < length (now form)) × (n < length (now bounds)) × (n < length (now marks)) × (0 < p) ⌝ }
-    ensures { λ r. ⌜ (r ≡ true → Crowded p n (coefIn (now (form .entry))) (viewOf p (now (bounds .entry)) (now (marks .entry)))) ⌝ }
-{
-    let mut found: u32 = 0;
-    let mut s: u32 = 0;
-    while s < n {
-        s = s + 1;
-        if is_live(form, marks, s) {
-            if bounds[s as usize] == p - 1 {
-                if found != 0 {
-                    return true;
-                }
-                found = s;
-            }
-        }
-    }
-    false
-}
-
-// Whether some signal of the form may be the reference of a digits step.
-fn has_reference<'a>(form: &[u32], bounds: &'a [u32], marks: &'a [bool], n: u32, p: u32) -> bool
-    requires { ⌜ (n < length (now form)) × (n ≤ 256) ⌝ }
-    ensures { λ b. ⌜ (b ≡ false → (r : ℕ) → 1 ≤ r → r ≤ n → occurs (coefIn (now (form .entry))) r ≡ true
-        → rules.separated p n (coefIn (now (form .entry))) (viewOf p (now (bounds .entry)) (now (marks .entry))) r ≡ false) ⌝ }
-{
-    let mut r: u32 = 0;
-    while r < n {
-        r = r + 1;
-        if form[r as usize] != 0 {
-            if separated(form, bounds, marks, n, p, r) {
-                return true;
-            }
-        }
-    }
-    false
-}
-
-// The lowest unmarked signal that a step by constraint k marks.
-fn floor_of<'a>(
-    circuit: &[u8],
-    table: &[u32; 513],
-    bounds: &'a [u32],
-    marks: &'a [bool],
-    p: u32,
-    n: u32,
-    k: u32,
-) -> u64
-    requires { ⌜ StandingOf (now circuit) (now table) (now bounds) (now marks) p n × (1 ≤ k) × (k ≤ circuitOf (now circuit) .m) ⌝ }
-    ensures { λ r. ⌜ IsFloor (circuitOf (now (circuit .entry))) (viewOf p (now (bounds .entry)) (now (marks .entry))) k r ⌝ }
-{
-    let part = part_of(circuit, table, k);
-    if !is_linear(part) {
-        let b = after_form(part);
-        let t = unmarked_in(after_form(b), marks);
-        if t == 0 {
-            return NONE;
-        }
-        if !product_met(part, marks, t) {
-            return NONE;
-        }
-        return t as u64;
-    }
-    let form = reduced_form(part, p);
-    let t = first_live(&form, marks, n);
-    if t == 0 {
-        return NONE;
-    }
-    if is_crowded(&form, bounds, marks, n, p) {
-        return NONE;
-    }
-    if !has_reference(&form, bounds, marks, n, p) {
-        return NONE;
-    }
-    t as u64
-}
-
-// Finds the floors that are not known.
-fn raise_floors<'a>(
-    circuit: &[u8],
-    table: &[u32; 513],
-    bounds: &'a [u32],
-    marks: &'a [bool],
-    floors: &mut [u64],
-    p: u32,
-    n: u32,
-    m: u32,
-)
-    requires { ⌜ StandingOf (now circuit) (now table) (now bounds) (now marks) p n × (m ≡ circuitOf (now circuit) .m) × (m < length (now floors))
-        × Floors (circuitOf (now circuit)) (viewOf p (now bounds) (now marks)) (now floors) ⌝ }
-    ensures { λ r. ⌜ Floors (circuitOf (now (circuit .entry))) (viewOf p (now (bounds .entry)) (now (marks .entry))) (now (floors .exit)) ⌝ }
-{
-    let mut k: u32 = 0;
-    while k < m {
-        k = k + 1;
-        if floors[k as usize] == 0 {
-            floors[k as usize] = floor_of(circuit, table, bounds, marks, p, n, k);
-        }
-    }
 }
 
 // The lowest constraint by which a product step marks t, 0 where there is none.
@@ -207,6 +72,7 @@ fn product_for(
 fn digits_for<'a>(
     circuit: &[u8],
     table: &[u32; 513],
+    rows: &[u32],
     bounds: &'a [u32],
     marks: &'a [bool],
     floors: &[u64],
@@ -217,7 +83,8 @@ fn digits_for<'a>(
 ) -> Place
     requires { ⌜ StandingOf (now circuit) (now table) (now bounds) (now marks) p n × (m ≡ circuitOf (now circuit) .m) × (m < length (now floors))
         × (1 ≤ t) × (t ≤ n) × (markIn (now marks) t ≡ false)
-        × Floors (circuitOf (now circuit)) (viewOf p (now bounds) (now marks)) (now floors) ⌝ }
+        × Floors (circuitOf (now circuit)) (viewOf p (now bounds) (now marks)) (now floors)
+        × Rows (circuitOf (now circuit)) (now rows) ⌝ }
     ensures { λ r. ⌜ (r .constraint ≤ m) × (r .reference ≤ n) × ((later : Option Step)
         → firstDigits (circuitOf (now (circuit .entry))) (viewOf p (now (bounds .entry)) (now (marks .entry))) t 0 m later
         ≡ found (r .constraint) (step Digits t (r .constraint) (r .reference)) later) ⌝ }
@@ -228,15 +95,14 @@ fn digits_for<'a>(
     'search: while k < m {
         k = k + 1;
         if floors[k as usize] <= t as u64 {
-            let part = part_of(circuit, table, k);
-            if is_linear(part) {
-                let form = reduced_form(part, p);
+            if is_linear(part_of(circuit, table, k)) {
+                let form = row_of(rows, n, k);
                 if form[t as usize] != 0 {
                     let mut r: u32 = 0;
                     while r < n {
                         r = r + 1;
                         if form[r as usize] != 0 {
-                            if separated(&form, bounds, marks, n, p, r) {
+                            if separated(form, bounds, marks, n, p, r) {
                                 constraint = k;
                                 reference = r;
                                 break 'search;
@@ -264,22 +130,25 @@ fn taken(kind: Kind, target: u32, constraint: u32, reference: u32) -> Choice
     }
 }
 
-// The step that the marks phase takes: the lowest unmarked target that some step marks, by zero, product or digits.
+// The step that the marks phase takes: the lowest unmarked target that some step marks, by zero, product or digits. Below `lowest` only
+// a zero step does.
 fn next_mark<'a>(
     circuit: &[u8],
     table: &[u32; 513],
+    rows: &[u32],
     bounds: &'a [u32],
     marks: &'a [bool],
     floors: &[u64],
     p: u32,
     n: u32,
     m: u32,
+    lowest: u64,
 ) -> Choice
     requires { ⌜ StandingOf (now circuit) (now table) (now bounds) (now marks) p n × (m ≡ circuitOf (now circuit) .m) × (m < length (now floors))
-        × Floors (circuitOf (now circuit)) (viewOf p (now bounds) (now marks)) (now floors) ⌝ }
+        × Floors (circuitOf (now circuit)) (viewOf p (now bounds) (now marks)) (now floors) × AtMost (now floors) m lowest
+        × Rows (circuitOf (now circuit)) (now rows) ⌝ }
     ensures { λ r. ⌜ choiceOf r ≡ firstMark (circuitOf (now (circuit .entry))) (viewOf p (now (bounds .entry)) (now (marks .entry))) ⌝ }
 {
-    let lowest = floors[least(floors, m) as usize];
     let mut t: u32 = 0;
     while t < n {
         t = t + 1;
@@ -292,7 +161,7 @@ fn next_mark<'a>(
                 if k != 0 {
                     return taken(Kind::Product, t, k, 0);
                 }
-                let place = digits_for(circuit, table, bounds, marks, floors, p, n, m, t);
+                let place = digits_for(circuit, table, rows, bounds, marks, floors, p, n, m, t);
                 if place.constraint != 0 {
                     return taken(Kind::Digits, t, place.constraint, place.reference);
                 }
@@ -319,6 +188,7 @@ fn number_of(kind: Kind) -> u32
 pub(crate) fn add_marks(
     circuit: &[u8],
     table: &[u32; 513],
+    rows: &[u32],
     bounds: &[u32],
     marks: &mut [bool],
     output: &mut [u8],
@@ -330,15 +200,37 @@ pub(crate) fn add_marks(
     requires { ⌜ StandingOf (now circuit) (now table) (now bounds) (now marks) p n × (m ≡ circuitOf (now circuit) .m)
         × (viewOf p (now bounds) (now marks)
         ≡ replay (circuitOf (now circuit)) (start (circuitOf (now circuit))) (boundSteps (circuitOf (now circuit))))
-        × (base ≤ n) × (7 + 14 * n ≤ length (now output)) ⌝ }
+        × (base ≤ n) × (7 + 14 * n ≤ length (now output)) × Rows (circuitOf (now circuit)) (now rows) ⌝ }
     ensures { λ r. ⌜ Marked (now (circuit .entry)) (now (bounds .entry)) (now (marks .exit)) (now (output .entry)) (now (output .exit)) base r ⌝ }
 {
     let mut floors = [0u64; 513];
-    floors[0] = NONE;
+    let mut loose = [false; 513];
     let mut count: u32 = 0;
     while count < n {
-        raise_floors(circuit, table, bounds, marks, &mut floors, p, n, m);
-        let choice = next_mark(circuit, table, bounds, marks, &floors, p, n, m);
+        let lowest = raise_floors(
+            circuit,
+            table,
+            rows,
+            bounds,
+            marks,
+            &mut floors,
+            &mut loose,
+            p,
+            n,
+            m,
+        );
+        let choice = next_mark(
+            circuit,
+            table,
+            rows,
+            bounds,
+            marks,
+            &floors,
+            p,
+            n,
+            m,
+            lowest,
+        );
         let Choice::Taken {
             kind,
             target,
@@ -357,7 +249,7 @@ pub(crate) fn add_marks(
             reference,
         );
         marks[target as usize] = true;
-        forget(circuit, table, &mut floors, m, target);
+        forget(rows, &mut floors, n, m, target);
         count = count + 1;
     }
     base + count

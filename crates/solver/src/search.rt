@@ -1,32 +1,17 @@
-// Signals in forms: whether a constraint involves one, an unmarked one, and the only one whose bound is still p - 1.
+// Signals in forms: an unmarked one, and the only one whose bound is still p - 1.
 
 use circuit::bytes::byte_at;
 use circuit::bytes::u16_at;
-use circuit::reader::after_form;
-use rules::form::names_signal;
 ghost use mathlib.Core.Path.{_≡_};
 ghost use mathlib.Core.Bool.{not, _&&_};
-ghost use Prim.Native.Nat.{_<_};
+ghost use mathlib.Core.List.{List};
+ghost use Prim.Native.Nat.{ℕ, _<_};
 ghost use lib.ListN.{length};
 ghost use lib.Dec.{ltb, leb};
-ghost use Rattle.circuit.specs.Reader.{formIn, constraintIn};
-ghost use Rattle.rules.specs.View.{markIn};
-ghost use Rattle.solver.specs.Search as search;
+ghost use Rattle.circuit.specs.Reader.{formIn};
+ghost use Rattle.rules.specs.View.{coefIn, markIn};
+ghost use Rattle.solver.specs.Rows.{SignalsOf, Below};
 ghost use Rattle.solver.specs.Search.{SomeUnmarked, Only, free};
-
-// Whether one of the three forms names the signal.
-pub(crate) fn involves(part: &[u8], signal: u32) -> bool
-    ensures { λ r. ⌜ r ≡ search.involves (constraintIn (now (part .entry))) signal ⌝ }
-{
-    if names_signal(part, signal) {
-        return true;
-    }
-    let b = after_form(part);
-    if names_signal(b, signal) {
-        return true;
-    }
-    names_signal(after_form(b), signal)
-}
 
 // An unmarked signal of the form at the start of the part, 0 where it has none.
 pub(crate) fn unmarked_in(part: &[u8], marks: &[bool]) -> u32
@@ -59,23 +44,22 @@ fn is_unmarked(marks: &[bool], signal: u32) -> bool
     if at < marks.len() { !marks[at] } else { true }
 }
 
-// The only signal of the form whose bound is still p - 1; 0 where there is none or several.
-pub(crate) fn only_free(form: &[u32], bounds: &[u32], n: u32, p: u32) -> u32
-    requires { ⌜ (n < length (now form)) × (n < length (now bounds)) × (0 < p) ⌝ }
-    ensures { λ r. ⌜ Only (free p (now (form .entry)) (now (bounds .entry))) n r ⌝ }
+// The only one of the signals of a form whose bound is still p - 1; 0 where there is none or several.
+pub(crate) fn only_free(signals: &[u32], bounds: &[u32], p: u32) -> u32
+    requires { ⌜ Below (now signals) (length (now bounds)) × (0 < p) ⌝ }
+    ensures { λ r. ⌜ ((form : List ℕ) (n : ℕ) → SignalsOf (coefIn form) n (now (signals .entry))
+        → Only (free p form (now (bounds .entry))) n r) ⌝ }
 {
     let mut found: u32 = 0;
-    let mut s: u32 = 0;
-    while s < n {
-        s = s + 1;
-        let at = s as usize;
-        if form[at] != 0 {
-            if bounds[at] == p - 1 {
-                if found != 0 {
-                    return 0;
-                }
-                found = s;
+    let mut i: usize = 0;
+    while i < signals.len() {
+        let s = signals[i];
+        i = i + 1;
+        if bounds[s as usize] == p - 1 {
+            if found != 0 {
+                return 0;
             }
+            found = s;
         }
     }
     found

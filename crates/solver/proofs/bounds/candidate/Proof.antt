@@ -1,8 +1,11 @@
 -- `solver::bounds::candidate`: each way out is one law.
+use mathlib.Core.Path.{refl}
 use native.Mathlib.Omega.{arith}
 use borrow.Author.Needs.{needs}
 use borrow.Author.Tests.{not-true, not-false}
 use Rattle.rules.proofs.ViewLaws.{mark-none}
+use Rattle.solver.proofs.ListLaws.{below}
+use Rattle.solver.proofs.RowLaws.{row-inside, row-few, row-signals}
 use Rattle.solver.proofs.CandidateLaws as laws
 use Rattle.solver.proofs.bounds.candidate.Statement.{statement}
 use Rattle.solver.proofs.bounds.candidate.Tie as tie
@@ -12,7 +15,8 @@ use Rattle.derivation.proofs.offsets.part_of.Reads as part-of-reads
 use Rattle.rules.proofs.constraint.is_linear.Reads as is-linear-reads
 use Rattle.rules.proofs.constraint.root_bound.Reads as root-bound-reads
 use Rattle.rules.proofs.constraint.root_met.Reads as root-met-reads
-use Rattle.rules.proofs.form.reduced_form.Reads as reduced-form-reads
+use Rattle.solver.proofs.rows.row_of.Reads as row-of-reads
+use Rattle.solver.proofs.rows.signals_of.Reads as signals-of-reads
 use Rattle.rules.proofs.sums.sum_bound.Reads as sum-bound-reads
 use Rattle.solver.proofs.bounds.key_of.Reads as key-of-reads
 use Rattle.solver.proofs.search.only_free.Reads as only-free-reads
@@ -35,7 +39,7 @@ returns c =
     let at-if1 = c .before .before .before in
     let at-is-linear = at-if1 .before in
     let at-part-of = at-is-linear .before in
-    let entry = at-part-of .before .before .before .before in
+    let entry = at-part-of .before .before .before .before .before in
     laws.root-unnamed _ _ _ _ _ _ (entry .pre .0) (entry .pre .1) (entry .pre .2) _ (at-part-of .part-of .ensures) _
     (at-is-linear .is-linear .ensures) (not-true _ (at-if1 .if1 .taken)) _ (mark-none 1) _ (c .before .unmarked-in .ensures) (c .if2 .taken)
 
@@ -48,7 +52,7 @@ returns-2 c =
     let at-if1 = at-unmarked-in .before .before in
     let at-is-linear = at-if1 .before in
     let at-part-of = at-is-linear .before in
-    let entry = at-part-of .before .before .before .before in
+    let entry = at-part-of .before .before .before .before .before in
     laws.root-unmet _ _ _ _ _ _ (entry .pre .0) (entry .pre .1) (entry .pre .2) _ (at-part-of .part-of .ensures) _
     (at-is-linear .is-linear .ensures) (not-true _ (at-if1 .if1 .taken)) _ (mark-none 1) _ (at-unmarked-in .unmarked-in .ensures) _
     (c .before .root-met .ensures) (not-true _ (c .if3 .taken))
@@ -68,7 +72,7 @@ shared-slice-read-if4 c =
     let at-if1 = at-unmarked-in .before .before in
     let at-is-linear = at-if1 .before in
     let at-part-of = at-is-linear .before in
-    let entry = at-part-of .before .before .before .before in
+    let entry = at-part-of .before .before .before .before .before in
     omega (
       arith,
       entry .pre .0 .sized,
@@ -85,7 +89,7 @@ returns-3 c =
     let at-if1 = at-unmarked-in .before .before in
     let at-is-linear = at-if1 .before in
     let at-part-of = at-is-linear .before in
-    let entry = at-part-of .before .before .before .before in
+    let entry = at-part-of .before .before .before .before .before in
     laws.root-high _ _ _ _ _ _ (entry .pre .0) (entry .pre .1) (entry .pre .2) _ (at-part-of .part-of .ensures) _
     (at-is-linear .is-linear .ensures) (not-true _ (at-if1 .if1 .taken)) _ (mark-none 1) _ (at-unmarked-in .unmarked-in .ensures) _
     (at-root-met .root-met .ensures) _ (at-root-bound .root-bound .ensures) (c .if4 .taken)
@@ -96,7 +100,7 @@ key-of-requires c κs =
     let at-if1 = at-unmarked-in .before .before in
     let at-is-linear = at-if1 .before in
     let at-part-of = at-is-linear .before in
-    let entry = at-part-of .before .before .before .before in (
+    let entry = at-part-of .before .before .before .before .before in (
       omega (
         arith,
         laws.root-small _ _ _ _ _ _ (entry .pre .0) (entry .pre .1) (entry .pre .2) _ (at-part-of .part-of .ensures) _
@@ -115,38 +119,41 @@ returns-4 c =
     let at-if1 = at-unmarked-in .before .before in
     let at-is-linear = at-if1 .before in
     let at-part-of = at-is-linear .before in
-    let entry = at-part-of .before .before .before .before in
+    let entry = at-part-of .before .before .before .before .before in
     laws.root-key _ _ _ _ _ _ (entry .pre .0) (entry .pre .1) (entry .pre .2) _ (at-part-of .part-of .ensures) _
     (at-is-linear .is-linear .ensures) (not-true _ (at-if1 .if1 .taken)) _ (mark-none 1) _ (at-unmarked-in .unmarked-in .ensures) _
     (at-root-met .root-met .ensures) _ (at-root-bound .root-bound .ensures) (at-if2 .if2 .left) (not-false _ (at-if3 .if3 .left))
     (c .before .if4 .left) _ (c .key-of .ensures)
 
-reduced-form-requires : tie.Need-reduced-form-requires
-reduced-form-requires c κs = search needs
-
-slice-aggregate-only-free : tie.Need-slice-aggregate-only-free
-slice-aggregate-only-free c = search needs
+signals-of-requires : tie.Need-signals-of-requires
+signals-of-requires c κs =
+    let entry = c .before .before .before .before .before .before .before in (
+      row-inside _ _ (entry .pre .3) _ _ (entry .pre .0 .is-n) (entry .pre .2),
+      row-few _ _ (entry .pre .3) _ _ (entry .pre .0 .is-n) (entry .pre .2) (entry .pre .1),
+    )
 
 only-free-requires : tie.Need-only-free-requires
 only-free-requires c κs =
     let entry = c .before .before .before .before .before .before .before .before in
     let s = laws.sizes (entry .pre .0) in
-    let l = c .before .reduced-form .ok in
-    (omega arith, omega (arith, entry .pre .0 .sized), omega arith)
+    let L = row-signals _ _ (entry .pre .3) _ _ (entry .pre .0 .is-n) (entry .pre .2) (entry .pre .1) _ refl _ (c .signals-of .ensures) in
+    (below _ _ _ L _ (omega (arith, entry .pre .0 .sized)), omega arith)
 
 returns-5 : tie.Need-returns-5
 returns-5 c =
-    let at-reduced-form = c .before .before .before in
-    let at-if1 = at-reduced-form .before in
-    let at-is-linear = at-if1 .before in
+    let at-is-linear = c .before .before .before .before in
     let at-part-of = at-is-linear .before in
-    let entry = at-part-of .before .before .before .before in
+    let entry = at-part-of .before .before .before .before .before in
+    let L = row-signals _ _ (entry .pre .3) _ _ (entry .pre .0 .is-n) (entry .pre .2) (entry .pre .1) _ refl _
+    (c .before .before .signals-of .ensures) in
     laws.sum-none _ _ _ _ _ _ (entry .pre .0) (entry .pre .1) (entry .pre .2) _ (at-part-of .part-of .ensures) _
-    (at-is-linear .is-linear .ensures) (not-false _ (at-if1 .if1 .left)) _ (at-reduced-form .reduced-form .ensures) _
-    (c .before .only-free .ensures) (c .if5 .taken)
+    (at-is-linear .is-linear .ensures) (not-false _ (c .before .before .before .if1 .left)) _ (entry .pre .3) _ refl _
+    (c .before .only-free .ensures _ _ L) (c .if5 .taken)
 
-slice-aggregate-sum-bound : tie.Need-slice-aggregate-sum-bound
-slice-aggregate-sum-bound c = search needs
+row-of-requires : tie.Need-row-of-requires
+row-of-requires c κs =
+    let entry = c .before .before .before .before .before .before .before .before .before .before in
+    row-inside _ _ (entry .pre .3) _ _ (entry .pre .0 .is-n) (entry .pre .2)
 
 sum-bound-requires : tie.Need-sum-bound-requires
 sum-bound-requires c κs = search needs
@@ -158,15 +165,18 @@ sub-if6 c =
 
 returns-6 : tie.Need-returns-6
 returns-6 c =
-    let at-only-free = c .before .before .before .before in
-    let at-reduced-form = at-only-free .before .before in
-    let at-if1 = at-reduced-form .before in
+    let at-row-of = c .before .before in
+    let at-only-free = at-row-of .before .before in
+    let at-signals-of = at-only-free .before in
+    let at-if1 = at-signals-of .before in
     let at-is-linear = at-if1 .before in
     let at-part-of = at-is-linear .before in
-    let entry = at-part-of .before .before .before .before in
+    let entry = at-part-of .before .before .before .before .before in
+    let L = row-signals _ _ (entry .pre .3) _ _ (entry .pre .0 .is-n) (entry .pre .2) (entry .pre .1) _ (at-row-of .row-of .ensures) _
+    (at-signals-of .signals-of .ensures) in
     laws.sum-high _ _ _ _ _ _ (entry .pre .0) (entry .pre .1) (entry .pre .2) _ (at-part-of .part-of .ensures) _
-    (at-is-linear .is-linear .ensures) (not-false _ (at-if1 .if1 .left)) _ (at-reduced-form .reduced-form .ensures) _
-    (at-only-free .only-free .ensures) _ (c .before .sum-bound .ensures) (c .if6 .taken)
+    (at-is-linear .is-linear .ensures) (not-false _ (at-if1 .if1 .left)) _ (entry .pre .3) _ (at-row-of .row-of .ensures) _
+    (at-only-free .only-free .ensures _ _ L) _ (c .before .sum-bound .ensures) (c .if6 .taken)
 
 cast-key-of : tie.Need-cast-key-of
 cast-key-of c =
@@ -176,33 +186,36 @@ cast-key-of c =
 key-of-requires-2 : tie.Need-key-of-requires-2
 key-of-requires-2 c κs =
     let at-only-free = c .before .before .before .before in
-    let at-reduced-form = at-only-free .before .before in
-    let at-if1 = at-reduced-form .before in
+    let at-signals-of = at-only-free .before in
+    let at-if1 = at-signals-of .before in
     let at-is-linear = at-if1 .before in
     let at-part-of = at-is-linear .before in
-    let entry = at-part-of .before .before .before .before in (
+    let entry = at-part-of .before .before .before .before .before in
+    let L = row-signals _ _ (entry .pre .3) _ _ (entry .pre .0 .is-n) (entry .pre .2) (entry .pre .1) _ refl _
+    (at-signals-of .signals-of .ensures) in (
       omega (
         arith,
         laws.sum-small _ _ _ _ _ _ (entry .pre .0) (entry .pre .1) (entry .pre .2) _ (at-part-of .part-of .ensures) _
-            (at-is-linear .is-linear .ensures) (not-false _ (at-if1 .if1 .left)) _ (at-reduced-form .reduced-form .ensures) _
-            (at-only-free .only-free .ensures),
+            (at-is-linear .is-linear .ensures) (not-false _ (at-if1 .if1 .left)) _ (entry .pre .3) _ refl _ (at-only-free .only-free .ensures _ _ L),
       ),
       omega arith,
     )
 
 returns-7 : tie.Need-returns-7
 returns-7 c =
-    let at-sum-bound = c .before .before in
-    let at-if5 = at-sum-bound .before .before in
+    let at-row-of = c .before .before .before in
+    let at-if5 = at-row-of .before in
     let at-only-free = at-if5 .before in
-    let at-reduced-form = at-only-free .before .before in
-    let at-if1 = at-reduced-form .before in
+    let at-signals-of = at-only-free .before in
+    let at-if1 = at-signals-of .before in
     let at-is-linear = at-if1 .before in
     let at-part-of = at-is-linear .before in
-    let entry = at-part-of .before .before .before .before in
+    let entry = at-part-of .before .before .before .before .before in
+    let L = row-signals _ _ (entry .pre .3) _ _ (entry .pre .0 .is-n) (entry .pre .2) (entry .pre .1) _ (at-row-of .row-of .ensures) _
+    (at-signals-of .signals-of .ensures) in
     laws.sum-key _ _ _ _ _ _ (entry .pre .0) (entry .pre .1) (entry .pre .2) _ (at-part-of .part-of .ensures) _ (at-is-linear .is-linear .ensures)
-    (not-false _ (at-if1 .if1 .left)) _ (at-reduced-form .reduced-form .ensures) _ (at-only-free .only-free .ensures) _
-    (at-sum-bound .sum-bound .ensures) (at-if5 .if5 .left) (c .before .if6 .left) _ (c .key-of2 .ensures)
+    (not-false _ (at-if1 .if1 .left)) _ (entry .pre .3) _ (at-row-of .row-of .ensures) _ (at-only-free .only-free .ensures _ _ L) _
+    (c .before .before .sum-bound .ensures) (at-if5 .if5 .left) (c .before .if6 .left) _ (c .key-of2 .ensures)
 
 pub candidate-spec : {M : Type 1} → statement M
 candidate-spec =
@@ -222,11 +235,10 @@ candidate-spec =
     returns-3
     key-of-requires
     returns-4
-    reduced-form-requires
-    slice-aggregate-only-free
+    signals-of-requires
     only-free-requires
     returns-5
-    slice-aggregate-sum-bound
+    row-of-requires
     sum-bound-requires
     sub-if6
     returns-6

@@ -1,16 +1,13 @@
 -- `solver::bounds::lower_bounds`: at each turn the steps so far, what is known of keys, and the bytes written.
-use Prim.Native.Nat.{_+_, _-_, _≤_}
+use Prim.Native.Nat.{_-_, _≤_}
 use mathlib.Core.Path.{_≡_, refl, sym, _∙_}
 use native.Mathlib.Omega.{arith}
 use borrow.Author.Needs.{needs}
 use lib.ListN.{length, length-set}
-use Rattle.solver.specs.Bounds.{withBounds}
-use Rattle.derivation.specs.Inner.{circuitOf}
 use Rattle.solver.proofs.CandidateLaws.{sizes, few-constraints}
 use Rattle.solver.proofs.BoundsPhase.{no-keys}
+use Rattle.solver.proofs.RowLaws.{row-inside}
 use Rattle.solver.proofs.BoundsTurn as laws
-use mathlib.Core.Path.{_≡_, refl, _∙_}
-use Rattle.solver.proofs.CandidateLaws.{sizes}
 use Rattle.solver.proofs.bounds.lower_bounds.Statement.{statement}
 use Rattle.solver.proofs.bounds.lower_bounds.Tie as tie
 use Rattle.solver.proofs.bounds.lower_bounds.Reads as reads
@@ -21,19 +18,19 @@ use Rattle.solver.proofs.memo.least.Reads as least-reads
 use Rattle.solver.proofs.output.put_step.Reads as put-step-reads
 
 abbrev Inv-loop : tie.InvT-loop
-Inv-loop circuit table bounds₀ output₀ p n m keys₀ count₀ bounds output keys count =
+Inv-loop circuit table rows bounds₀ output₀ p n m keys₀ count₀ bounds output keys count =
     (count ≤ n) × (length bounds ≡ 257) × (length keys ≡ 513) × (length output ≡ length output₀)
     × laws.Turning circuit bounds keys output₀ output count
 
 abbrev μ-loop : tie.MeasureT-loop
-μ-loop circuit table bounds₀ output₀ p n m keys₀ count₀ bounds output keys count = n - count
+μ-loop circuit table rows bounds₀ output₀ p n m keys₀ count₀ bounds output keys count = n - count
 
 array-write-keys : tie.Need-array-write-keys Inv-loop μ-loop
 array-write-keys c = search needs
 
 loop-holds : tie.Need-loop-holds Inv-loop μ-loop
 loop-holds c =
-    let a = c .before .before .before in (
+    let a = c .before .before .before .before in (
       omega arith,
       a .pre .0 .sized,
       search needs,
@@ -47,7 +44,7 @@ slice-aggregate-refresh c = search needs
 refresh-requires : tie.Need-refresh-requires Inv-loop μ-loop
 refresh-requires c κs =
     let at-loop = c .before .before .before in
-    let a = c .before .before .before .before .before .before .before in
+    let a = at-loop .before .before .before .before .before in
     let l = at-loop .loop in (
       record {
         prepared = a .pre .0 .prepared;
@@ -59,6 +56,7 @@ refresh-requires c κs =
       a .pre .1,
       omega (arith, a .pre .1, few-constraints (a .pre .0 .prepared), l .inv .2),
       l .inv .4 .keyed,
+      a .pre .4,
     )
 
 slice-aggregate-least : tie.Need-slice-aggregate-least Inv-loop μ-loop
@@ -68,13 +66,13 @@ least-requires : tie.Need-least-requires Inv-loop μ-loop
 least-requires c κs =
     let at-refresh = c .before .before in
     let at-loop = at-refresh .before .before .before .before in
-    let a = c .before .before .before .before .before .before .before .before .before .before in
-    omega (arith, a .pre .1, few-constraints (a .pre .0 .prepared), at-loop .loop .inv .2, at-refresh .refresh .kept .1 .1 .1 .0)
+    let a = at-loop .before .before .before .before .before in
+    omega (arith, a .pre .1, few-constraints (a .pre .0 .prepared), at-loop .loop .inv .2, at-refresh .refresh .kept .1 .1 .1 .1 .0)
 
 same-length : tie.Need-same-length Inv-loop μ-loop
 same-length c =
     let at-loop = c .before .before .before .before .before .before .before .before in
-    let entry = at-loop .before .before .before .before in
+    let entry = at-loop .before .before .before .before .before in
     at-loop .loop .inv .1 ∙ sym (entry .pre .0 .sized)
 
 same-length-2 : tie.Need-same-length-2 Inv-loop μ-loop
@@ -84,7 +82,7 @@ returns : tie.Need-returns Inv-loop μ-loop
 returns c =
     let at-refresh = c .before .before .before .before in
     let at-loop = at-refresh .before .before .before .before in
-    let entry = at-loop .before .before .before .before in
+    let entry = at-loop .before .before .before .before .before in
     laws.turning-none _ _ (entry .pre .0 .prepared) _ _ _ _ _ (at-loop .loop .inv .4) _ (at-refresh .refresh .ensures) _ _ (entry .pre .1)
     (c .before .least .ensures) (c .if1 .taken)
 
@@ -96,7 +94,7 @@ mul-key c = search needs
 
 array-read-key : tie.Need-array-read-key Inv-loop μ-loop
 array-read-key c =
-    let a = c .before .before .before .before .before .before .before .before .before .before .before .before in
+    let a = c .before .before .before .before .before .before .before .before .before .before .before .before .before in
     omega (arith, a .pre .1, few-constraints (a .pre .0 .prepared), c .before .least .ensures .within)
 
 cast-target : tie.Need-cast-target Inv-loop μ-loop
@@ -111,7 +109,7 @@ put-step-requires c κs =
     let at-refresh = at-least .before .before .before in
     let at-loop-test = at-refresh .before .before .before in
     let at-loop = at-loop-test .before in
-    let entry = at-loop .before .before .before .before in
+    let entry = at-loop .before .before .before .before .before in
     let a = entry in
     let l = at-loop .loop in
     let s = sizes (a .pre .0) in
@@ -130,7 +128,7 @@ cast-bounds c =
     let at-least = at-if1 .before in
     let at-refresh = at-least .before .before .before in
     let at-loop = at-refresh .before .before .before .before in
-    let entry = at-loop .before .before .before .before in
+    let entry = at-loop .before .before .before .before .before in
     let a = entry in
     let s = sizes (a .pre .0) in
     let h = laws.bound-small _ _ (entry .pre .0 .prepared) _ _ _ _ _ (at-loop .loop .inv .4) _ (at-refresh .refresh .ensures) _ _ (entry .pre .1)
@@ -149,7 +147,7 @@ slice-write-bounds c =
     let at-least = at-if1 .before in
     let at-refresh = at-least .before .before .before in
     let at-loop = at-refresh .before .before .before .before in
-    let entry = at-loop .before .before .before .before in
+    let entry = at-loop .before .before .before .before .before in
     let h = laws.target-small _ _ (entry .pre .0 .prepared) _ _ _ _ _ (at-loop .loop .inv .4) _ (at-refresh .refresh .ensures) _ _ (entry .pre .1)
     (at-least .least .ensures) (at-if1 .if1 .left) in
     omega (arith, h .1, at-loop .loop .inv .1)
@@ -159,14 +157,16 @@ slice-aggregate-forget c = search needs
 
 forget-requires : tie.Need-forget-requires Inv-loop μ-loop
 forget-requires c κs =
-    let at-refresh = c .before .before .before .before .before .before .before .before .before in
+    let at-if1 = c .before .before .before .before .before in
+    let at-least = at-if1 .before in
+    let at-refresh = at-least .before .before .before in
     let at-loop = at-refresh .before .before .before .before in
-    let
-    a = c .before .before .before .before .before .before .before .before .before .before .before .before .before .before .before .before .before
-    in (
-      a .pre .0 .prepared,
-      a .pre .1,
-      omega (arith, a .pre .1, few-constraints (a .pre .0 .prepared), at-loop .loop .inv .2, at-refresh .refresh .kept .1 .1 .1 .0),
+    let entry = at-loop .before .before .before .before .before in
+    let h = laws.target-small _ _ (entry .pre .0 .prepared) _ _ _ _ _ (at-loop .loop .inv .4) _ (at-refresh .refresh .ensures) _ _ (entry .pre .1)
+    (at-least .least .ensures) (at-if1 .if1 .left) in (
+      row-inside _ _ (entry .pre .4) _ _ (entry .pre .0 .is-n) (omega (arith, entry .pre .1)),
+      omega (arith, entry .pre .1, few-constraints (entry .pre .0 .prepared), at-loop .loop .inv .2, at-refresh .refresh .kept .1 .1 .1 .1 .0),
+      omega (arith, h .2, entry .pre .0 .is-n),
     )
 
 add-count : tie.Need-add-count Inv-loop μ-loop
@@ -183,25 +183,25 @@ loop-again c =
     let at-refresh = at-least .before .before .before in
     let at-loop-test = at-refresh .before .before .before in
     let at-loop = at-loop-test .before in
-    let entry = at-loop .before .before .before .before in (
+    let entry = at-loop .before .before .before .before .before in (
       omega (arith, at-loop-test .loop-test .taken),
       simp length-set (at-loop .loop .inv .1),
-      c .before .forget .kept .1 .1 .0 ∙ at-refresh .refresh .kept .1 .1 .1 .0 ∙ at-loop .loop .inv .2,
+      c .before .forget .kept .1 .0 ∙ at-refresh .refresh .kept .1 .1 .1 .1 .0 ∙ at-loop .loop .inv .2,
       at-put-step .put-step .kept .0 ∙ at-loop .loop .inv .3,
       laws.turning-next _ _ (entry .pre .0 .prepared) _ _ _ _ _ (at-loop .loop .inv .4) _ (at-refresh .refresh .ensures) _ _ (entry .pre .1)
           (at-least .least .ensures) (at-if1 .if1 .left) (at-loop .loop .inv .1) (omega (arith, entry .pre .0 .is-n, at-loop-test .loop-test .taken))
-          _ _ (at-put-step .put-step .ensures) (c .before .forget .ensures),
+          _ _ (at-put-step .put-step .ensures) (c .before .forget .ensures _ (entry .pre .4) (entry .pre .0 .is-n) (entry .pre .1)),
     )
 
 same-length-3 : tie.Need-same-length-3 Inv-loop μ-loop
-same-length-3 c = c .before .loop .inv .1 ∙ sym (c .before .before .before .before .before .pre .0 .sized)
+same-length-3 c = c .before .loop .inv .1 ∙ sym (c .before .before .before .before .before .before .pre .0 .sized)
 
 same-length-4 : tie.Need-same-length-4 Inv-loop μ-loop
 same-length-4 c = c .before .loop .inv .3
 
 returns-2 : tie.Need-returns-2 Inv-loop μ-loop
 returns-2 c =
-    let entry = c .before .before .before .before .before in
+    let entry = c .before .before .before .before .before .before in
     laws.turning-all _ _ (entry .pre .0 .prepared) _ _ _ _ _ (c .before .loop .inv .4) (omega (arith, entry .pre .0 .is-n))
 
 pub lower-bounds-spec : {M : Type 1} → statement M

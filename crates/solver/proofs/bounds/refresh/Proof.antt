@@ -14,14 +14,14 @@ use Rattle.solver.proofs.bounds.refresh.Lts as lts
 use Rattle.solver.proofs.bounds.candidate.Reads as candidate-reads
 
 abbrev Inv-loop : tie.InvT-loop
-Inv-loop circuit table bounds keys₀ p n m k₀ keys k =
+Inv-loop circuit table rows bounds keys₀ p n m k₀ keys k =
     (k ≤ m) × (length keys ≡ length keys₀) × laws.Refreshing (circuitOf circuit) (withBounds (circuitOf circuit) bounds) k keys
 
 abbrev μ-loop : tie.MeasureT-loop
-μ-loop circuit table bounds keys₀ p n m k₀ keys k = m - k
+μ-loop circuit table rows bounds keys₀ p n m k₀ keys k = m - k
 
 loop-holds : tie.Need-loop-holds Inv-loop μ-loop
-loop-holds c = (omega arith, refl, laws.refreshing-start _ _ _ (c .before .before .before .pre .3))
+loop-holds c = (omega arith, refl, laws.refreshing-start _ _ _ (c .before .before .before .before .pre .3))
 
 add-k : tie.Need-add-k Inv-loop μ-loop
 add-k c = search needs
@@ -37,8 +37,8 @@ slice-read-if1 c = search needs
 
 candidate-requires : tie.Need-candidate-requires Inv-loop μ-loop
 candidate-requires c κs =
-    let entry = c .before .before .before .before .before .before .before in
-    (entry .pre .0, omega arith, omega (arith, entry .pre .1))
+    let entry = c .before .before .before .before .before .before .before .before in
+    (entry .pre .0, omega arith, omega (arith, entry .pre .1), entry .pre .4)
 
 cast-keys : tie.Need-cast-keys Inv-loop μ-loop
 cast-keys c = search needs
@@ -55,7 +55,7 @@ loop-less c = search needs
 loop-again : tie.Need-loop-again Inv-loop μ-loop
 loop-again c =
     let at-loop = c .before .before .before .before in
-    let a = c .before .before .before .before .before .before .before .before in
+    let a = at-loop .before .before .before .before .before in
     let l = at-loop .loop in (
       omega arith,
       length-set (l .keys) (l .k + 1) (c .candidate .result) ∙ l .inv .1,
@@ -68,14 +68,14 @@ loop-less-2 c = search needs
 loop-again-2 : tie.Need-loop-again-2 Inv-loop μ-loop
 loop-again-2 c =
     let at-loop = c .before .before .before in
-    let entry = at-loop .before .before .before .before in
+    let entry = at-loop .before .before .before .before .before in
     (omega arith, at-loop .loop .inv .1, laws.refreshing-on _ _ _ _ (at-loop .loop .inv .2) (omega (arith, entry .pre .1)) (c .if1 .left))
 
 same-length : tie.Need-same-length Inv-loop μ-loop
 same-length c = search needs
 
 returns : tie.Need-returns Inv-loop μ-loop
-returns c = laws.refreshing-end _ _ _ _ (c .before .loop .inv .2) (omega (arith, c .before .before .before .before .before .pre .1))
+returns c = laws.refreshing-end _ _ _ _ (c .before .loop .inv .2) (omega (arith, c .before .before .before .before .before .before .pre .1))
 
 pub refresh-spec : {M : Type 1} → statement M
 refresh-spec =

@@ -1,27 +1,12 @@
--- `solver::call::solve_on`: the two phases one after the other, then the header and the answer.
-use Prim.Native.Nat.{_+_, _*_, _≤_}
-use mathlib.Core.Path.{_≡_, refl, _∙_}
+-- `solver::call::solve_on`: a table that is large enough.
 use native.Mathlib.Omega.{arith}
-use borrow.Author.Needs.{needs}
-use lib.ListN.{length}
 use Rattle.solver.proofs.SolveLaws as laws
+use borrow.Author.Needs.{needs}
 use Rattle.solver.proofs.call.solve_on.Statement.{statement}
 use Rattle.solver.proofs.call.solve_on.Tie as tie
 use Rattle.solver.proofs.call.solve_on.Reads as reads
 use Rattle.solver.proofs.call.solve_on.Lts as lts
-use Rattle.derivation.proofs.marks.verdict_of.Reads as verdict-of-reads
-use Rattle.derivation.proofs.offsets.offsets.Reads as offsets-reads
-use Rattle.rules.proofs.standing.Standing.start.Reads as start-reads
-use Rattle.solver.proofs.bounds.lower_bounds.Reads as lower-bounds-reads
-use Rattle.solver.proofs.call.count_marks.Reads as count-marks-reads
-use Rattle.solver.proofs.marks.add_marks.Reads as add-marks-reads
-use Rattle.solver.proofs.output.put_header.Reads as put-header-reads
-
-sized-bounds : (c : tie.After-start) → length (c .start .result .bounds) ≡ 257
-sized-bounds c = search needs
-
-sized-marks : (c : tie.After-start) → length (c .start .result .marks) ≡ 257
-sized-marks c = search needs
+use Rattle.solver.proofs.call.solve_with.Reads as solve-with-reads
 
 mul-if1 : tie.Need-mul-if1
 mul-if1 c = search needs
@@ -34,115 +19,51 @@ returns c =
     let entry = c .before .before .before in
     laws.room-short _ _ _ _ _ _ (entry .pre .0) (entry .pre .1) (entry .pre .2) _ (c .if1 .taken)
 
-offsets-requires : tie.Need-offsets-requires
-offsets-requires c κs = search needs
+add-if2 : tie.Need-add-if2
+add-if2 c = search needs
 
-start-requires : tie.Need-start-requires
-start-requires c κs = search needs
+add-if2-2 : tie.Need-add-if2-2
+add-if2-2 c = search needs
 
-slice-aggregate-lower-bounds : tie.Need-slice-aggregate-lower-bounds
-slice-aggregate-lower-bounds c = search needs
+mul-if2 : tie.Need-mul-if2
+mul-if2 c = search needs
 
-lower-bounds-requires : tie.Need-lower-bounds-requires
-lower-bounds-requires c κs =
-    let at-start = c .before .before .before .before .before in
-    let at-offsets = at-start .before in
-    let at-if1 = at-offsets .before in
-    let entry = at-if1 .before .before .before in (
-      laws.bounds-of _ _ _ _ _ _ (entry .pre .0) (entry .pre .1) (entry .pre .2) _ (at-offsets .offsets .ensures) _ _ (at-start .start .ensures)
-          (sized-bounds (at-start)),
-      entry .pre .0 .is-m,
-      laws.start-bounds _ _ _ _ _ _ (entry .pre .0) (entry .pre .1) (entry .pre .2) _ (at-offsets .offsets .ensures) _ _
-          (at-start .start .ensures) (sized-bounds (at-start)),
-      at-if1 .if1 .left,
-    )
+mul-if2-2 : tie.Need-mul-if2-2
+mul-if2-2 c =
+    let entry = c .before .before .before in
+    omega (arith, laws.rows-fit _ _ _ _ _ _ (entry .pre .0) (entry .pre .1) (entry .pre .2))
 
-slice-aggregate-add-marks : tie.Need-slice-aggregate-add-marks
-slice-aggregate-add-marks c = search needs
+slice-aggregate-solve-with : tie.Need-slice-aggregate-solve-with
+slice-aggregate-solve-with c = search needs
 
-slice-aggregate-add-marks-2 : tie.Need-slice-aggregate-add-marks-2
-slice-aggregate-add-marks-2 c = search needs
-
-add-marks-requires : tie.Need-add-marks-requires
-add-marks-requires c κs =
-    let at-lower-bounds = c .before .before .before .before .before .before .before in
-    let at-start = at-lower-bounds .before .before .before .before .before .before in
-    let at-offsets = at-start .before in
-    let at-if1 = at-offsets .before in
-    let entry = at-if1 .before .before .before in (
-      laws.standing-of _ _ _ _ _ _ (entry .pre .0) (entry .pre .1) (entry .pre .2) _ (at-offsets .offsets .ensures) _ _ (at-start .start .ensures)
-          (sized-bounds (at-start)) _ (at-if1 .if1 .left) _ _ _ (at-lower-bounds .lower-bounds .ensures)
-          (at-lower-bounds .lower-bounds .kept .1 .1 .0 ∙ sized-bounds (at-start)) (sized-marks (at-start)),
-      entry .pre .0 .is-m,
-      laws.bounded-view _ _ _ _ _ _ (entry .pre .0) (entry .pre .1) (entry .pre .2) _ (at-offsets .offsets .ensures) _ _
-          (at-start .start .ensures) (sized-bounds (at-start)) _ (at-if1 .if1 .left) _ _ _ (at-lower-bounds .lower-bounds .ensures)
-          (at-lower-bounds .lower-bounds .kept .1 .1 .0 ∙ sized-bounds (at-start)) (sized-marks (at-start)),
-      laws.base-small _ _ _ _ _ _ (entry .pre .0) (entry .pre .1) (entry .pre .2) _ (at-offsets .offsets .ensures) _ _ (at-start .start .ensures)
-          (sized-bounds (at-start)) _ (at-if1 .if1 .left) _ _ _ (at-lower-bounds .lower-bounds .ensures)
-          (at-lower-bounds .lower-bounds .kept .1 .1 .0 ∙ sized-bounds (at-start)) (sized-marks (at-start)),
-      omega (arith, at-if1 .if1 .left, at-lower-bounds .lower-bounds .kept .1 .1 .1 .0),
-    )
-
-put-header-requires : tie.Need-put-header-requires
-put-header-requires c κs =
-    let at-add-marks = c .before .before .before .before in
-    let at-lower-bounds = at-add-marks .before .before .before .before .before .before .before .before in
-    let at-start = at-lower-bounds .before .before .before .before .before .before in
-    let at-offsets = at-start .before in
-    let at-if1 = at-offsets .before in
-    let entry = at-if1 .before .before .before in
-    let few = laws.steps-small _ _ _ _ _ _ (entry .pre .0) (entry .pre .1) (entry .pre .2) _ (at-offsets .offsets .ensures) _ _
-    (at-start .start .ensures) (sized-bounds (at-start)) _ (at-if1 .if1 .left) _ _ _ (at-lower-bounds .lower-bounds .ensures)
-    (at-lower-bounds .lower-bounds .kept .1 .1 .0 ∙ sized-bounds (at-start)) (sized-marks (at-start)) _ _ _ (at-add-marks .add-marks .ensures) in
-    (omega (arith, at-if1 .if1 .left, at-lower-bounds .lower-bounds .kept .1 .1 .1 .0, at-add-marks .add-marks .kept .1 .1 .1 .1 .0), omega arith)
-
-slice-aggregate-count-marks : tie.Need-slice-aggregate-count-marks
-slice-aggregate-count-marks c = search needs
-
-count-marks-requires : tie.Need-count-marks-requires
-count-marks-requires c κs = search needs
-
-slice-aggregate-verdict-of : tie.Need-slice-aggregate-verdict-of
-slice-aggregate-verdict-of c = search needs
-
-verdict-of-requires : tie.Need-verdict-of-requires
-verdict-of-requires c κs = search needs
-
-cast-t14 : tie.Need-cast-t14
-cast-t14 c = search needs
-
-mul-t15 : tie.Need-mul-t15
-mul-t15 c = search needs
-
-add-t16 : tie.Need-add-t16
-add-t16 c = search needs
+solve-with-requires : tie.Need-solve-with-requires
+solve-with-requires c κs = search needs
 
 same-length : tie.Need-same-length
-same-length c =
-    let at-put-header = c .before .before .before .before .before .before in
-    let at-add-marks = at-put-header .before .before .before .before .before in
-    let at-lower-bounds = at-add-marks .before .before .before .before .before .before .before .before in
-    at-put-header .put-header .kept .0 ∙ at-add-marks .add-marks .kept .1 .1 .1 .1 .0 ∙ at-lower-bounds .lower-bounds .kept .1 .1 .1 .0
+same-length c = search needs
 
 returns-2 : tie.Need-returns-2
-returns-2 c =
-    let at-count-marks = c .before .before in
-    let at-put-header = at-count-marks .before .before .before .before in
-    let at-add-marks = at-put-header .before .before .before .before .before in
-    let at-lower-bounds = at-add-marks .before .before .before .before .before .before .before .before in
-    let at-start = at-lower-bounds .before .before .before .before .before .before in
-    let at-offsets = at-start .before in
-    let at-if1 = at-offsets .before in
+returns-2 c = search needs
+
+slice-aggregate-solve-with-2 : tie.Need-slice-aggregate-solve-with-2
+slice-aggregate-solve-with-2 c = search needs
+
+solve-with-requires-2 : tie.Need-solve-with-requires-2
+solve-with-requires-2 c κs =
+    let at-if1 = c .before .before .before in
     let entry = at-if1 .before .before .before in (
-      laws.solved-answer _ _ _ _ _ _ (entry .pre .0) (entry .pre .1) (entry .pre .2) _ (at-offsets .offsets .ensures) _ _
-          (at-start .start .ensures) (sized-bounds (at-start)) _ (at-if1 .if1 .left) _ _ _ (at-lower-bounds .lower-bounds .ensures)
-          (at-lower-bounds .lower-bounds .kept .1 .1 .0 ∙ sized-bounds (at-start)) (sized-marks (at-start)) _ _ _ (at-add-marks .add-marks .ensures) _
-          _ _ (at-count-marks .count-marks .ensures) (c .verdict-of .ensures) refl,
-      laws.solved-output _ _ _ _ _ _ (entry .pre .0) (entry .pre .1) (entry .pre .2) _ (at-offsets .offsets .ensures) _ _
-          (at-start .start .ensures) (sized-bounds (at-start)) _ (at-if1 .if1 .left) _ _ _ (at-lower-bounds .lower-bounds .ensures)
-          (at-lower-bounds .lower-bounds .kept .1 .1 .0 ∙ sized-bounds (at-start)) (sized-marks (at-start)) _ _ _ (at-add-marks .add-marks .ensures) _
-          (at-put-header .put-header .ensures),
+      entry .pre .0,
+      entry .pre .1,
+      entry .pre .2,
+      at-if1 .if1 .left,
+      laws.rows-fit _ _ _ _ _ _ (entry .pre .0) (entry .pre .1) (entry .pre .2),
     )
+
+same-length-2 : tie.Need-same-length-2
+same-length-2 c = search needs
+
+returns-3 : tie.Need-returns-3
+returns-3 c = search needs
 
 pub solve-on-spec : {M : Type 1} → statement M
 solve-on-spec =
@@ -151,20 +72,15 @@ solve-on-spec =
     mul-if1
     add-if1
     returns
-    offsets-requires
-    start-requires
-    slice-aggregate-lower-bounds
-    lower-bounds-requires
-    slice-aggregate-add-marks
-    slice-aggregate-add-marks-2
-    add-marks-requires
-    put-header-requires
-    slice-aggregate-count-marks
-    count-marks-requires
-    slice-aggregate-verdict-of
-    verdict-of-requires
-    cast-t14
-    mul-t15
-    add-t16
+    add-if2
+    add-if2-2
+    mul-if2
+    mul-if2-2
+    slice-aggregate-solve-with
+    solve-with-requires
     same-length
-    returns-2)
+    returns-2
+    slice-aggregate-solve-with-2
+    solve-with-requires-2
+    same-length-2
+    returns-3)

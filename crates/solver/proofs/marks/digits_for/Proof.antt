@@ -1,10 +1,12 @@
 -- `solver::marks::digits_for`: what is left of the search is what it has still to find.
-use Prim.Native.Nat.{_+_, _-_, _≤_}
+use Prim.Native.Nat.{_-_, _≤_}
 use mathlib.Core.Path.{_≡_, refl}
 use native.Mathlib.Omega.{arith}
 use borrow.Author.Needs.{needs}
 use Rattle.rules.specs.View.{viewOf}
 use Rattle.derivation.specs.Inner.{circuitOf}
+use Rattle.solver.proofs.RowLaws.{row-inside, row-sized}
+use Rattle.solver.proofs.FormLaws.{view-marked}
 use Rattle.solver.proofs.MarkLaws as laws
 use Rattle.solver.proofs.MarkSearch as left
 use Rattle.solver.proofs.marks.digits_for.Statement.{statement}
@@ -14,21 +16,21 @@ use Rattle.solver.proofs.marks.digits_for.Lts as lts
 use Rattle.derivation.proofs.offsets.part_of.Reads as part-of-reads
 use Rattle.rules.proofs.constraint.is_linear.Reads as is-linear-reads
 use Rattle.rules.proofs.digits.separated.Reads as separated-reads
-use Rattle.rules.proofs.form.reduced_form.Reads as reduced-form-reads
+use Rattle.solver.proofs.rows.row_of.Reads as row-of-reads
 
 abbrev Inv-loop : tie.InvT-loop
-Inv-loop circuit table bounds marks floors p n m t constraint₀ reference₀ k form r₀ constraint reference r =
+Inv-loop circuit table rows bounds marks floors p n m t constraint₀ reference₀ k form r₀ constraint reference r =
     (r ≤ n) × (constraint ≡ 0) × (reference ≡ 0) × left.ReferenceFrom (circuitOf circuit) (viewOf p bounds marks) t m k r
 
 abbrev μ-loop : tie.MeasureT-loop
-μ-loop circuit table bounds marks floors p n m t constraint₀ reference₀ k form r₀ constraint reference r = n - r
+μ-loop circuit table rows bounds marks floors p n m t constraint₀ reference₀ k form r₀ constraint reference r = n - r
 
 abbrev Inv-search : tie.InvT-search
-Inv-search circuit table bounds marks floors p n m t constraint₀ reference₀ k₀ constraint reference k =
+Inv-search circuit table rows bounds marks floors p n m t constraint₀ reference₀ k₀ constraint reference k =
     (k ≤ m) × (constraint ≡ 0) × (reference ≡ 0) × left.DigitsFrom (circuitOf circuit) (viewOf p bounds marks) t m k
 
 abbrev μ-search : tie.MeasureT-search
-μ-search circuit table bounds marks floors p n m t constraint₀ reference₀ k₀ constraint reference k = m - k
+μ-search circuit table rows bounds marks floors p n m t constraint₀ reference₀ k₀ constraint reference k = m - k
 
 search-holds : tie.Need-search-holds Inv-loop μ-loop Inv-search μ-search
 search-holds c = (omega arith, refl, refl, left.digits-start _ _ _ _)
@@ -51,21 +53,30 @@ part-of-requires c κs = search needs
 is-linear-requires : tie.Need-is-linear-requires Inv-loop μ-loop Inv-search μ-search
 is-linear-requires c κs = search needs
 
-reduced-form-requires : tie.Need-reduced-form-requires Inv-loop μ-loop Inv-search μ-search
-reduced-form-requires c κs = search needs
+row-of-requires : tie.Need-row-of-requires Inv-loop μ-loop Inv-search μ-search
+row-of-requires c κs =
+    let pre = c .before .before .before .before .before .before .before .before .before .before .before .before .before .pre in
+    row-inside _ _ (pre .7) _ _ (pre .0 .is-n) (omega (arith, pre .1))
 
 mul-if3 : tie.Need-mul-if3 Inv-loop μ-loop Inv-search μ-search
 mul-if3 c = search needs
 
-array-read-if3 : tie.Need-array-read-if3 Inv-loop μ-loop Inv-search μ-search
-array-read-if3 c =
-    let entry = c .before .before .before .before .before .before .before .before .before .before .before .before .before in
-    let s = laws.sizes (entry .pre .0) in omega (arith, entry .pre .4)
+shared-slice-read-if3 : tie.Need-shared-slice-read-if3 Inv-loop μ-loop Inv-search μ-search
+shared-slice-read-if3 c =
+    let at-row-of = c .before in
+    let pre = at-row-of .before .before .before .before .before .before .before .before .before .before .before .before .before .before .pre in
+    let l = row-sized _ _ (pre .7) _ _ (pre .0 .is-n) (omega (arith, pre .1)) _ (at-row-of .row-of .ensures) in
+    omega (arith, pre .4)
 
 loop-holds : tie.Need-loop-holds Inv-loop μ-loop Inv-search μ-search
 loop-holds c =
-    let at-search-test = c .before .before .before .before .before .before .before .before in
-    let at-search = at-search-test .before in (
+    let at-row-of = c .before .before in
+    let at-if2 = at-row-of .before in
+    let at-is-linear = at-if2 .before in
+    let at-part-of = at-is-linear .before in
+    let at-search-test = at-part-of .before .before .before .before in
+    let at-search = at-search-test .before in
+    let entry = at-search .before .before .before .before .before .before in (
       omega arith,
       at-search .search .inv .1,
       at-search .search .inv .2,
@@ -77,8 +88,8 @@ search-less c = search needs
 
 search-again : tie.Need-search-again Inv-loop μ-loop Inv-search μ-search
 search-again c =
-    let past = c .before .before .before .before .before .before .before .before .before .before in
-    let entry = past .before .before .before .before .before .before in (
+    let at-row-of = c .before .before .before .before in
+    let entry = at-row-of .before .before .before .before .before .before .before .before .before .before .before .before .before .before in (
       omega arith,
       c .before .loop .inv .1,
       c .before .loop .inv .2,
@@ -94,14 +105,14 @@ cast-if4 c = search needs
 mul-if4 : tie.Need-mul-if4 Inv-loop μ-loop Inv-search μ-search
 mul-if4 c = search needs
 
-array-read-if4 : tie.Need-array-read-if4 Inv-loop μ-loop Inv-search μ-search
-array-read-if4 c =
-    let past = c .before .before .before .before .before .before .before .before .before .before in
-    let entry = past .before .before .before .before .before .before in
-    let s = laws.sizes (entry .pre .0) in omega arith
-
-slice-aggregate-separated : tie.Need-slice-aggregate-separated Inv-loop μ-loop Inv-search μ-search
-slice-aggregate-separated c = search needs
+shared-slice-read-if4 : tie.Need-shared-slice-read-if4 Inv-loop μ-loop Inv-search μ-search
+shared-slice-read-if4 c =
+    let at-loop-test = c .before in
+    let at-row-of = at-loop-test .before .before .before .before in
+    let at-search-test = at-row-of .before .before .before .before .before .before .before in
+    let pre = at-search-test .before .before .before .before .before .before .before .pre in
+    let l = row-sized _ _ (pre .7) _ _ (pre .0 .is-n) (omega (arith, pre .1, at-search-test .search-test .taken)) _ (at-row-of .row-of .ensures) in
+    omega (arith, at-loop-test .loop-test .taken)
 
 separated-requires : tie.Need-separated-requires Inv-loop μ-loop Inv-search μ-search
 separated-requires c κs = search needs
@@ -113,19 +124,19 @@ loop-again : tie.Need-loop-again Inv-loop μ-loop Inv-search μ-search
 loop-again c =
     let at-loop-test = c .before .before .before .before in
     let at-loop = at-loop-test .before in
-    let at-reduced-form = at-loop .before .before in
-    let at-if2 = at-reduced-form .before in
+    let at-row-of = at-loop .before .before .before in
+    let at-if2 = at-row-of .before in
     let at-is-linear = at-if2 .before in
     let at-part-of = at-is-linear .before in
     let at-search-test = at-part-of .before .before .before .before in
-    let entry = at-search-test .before .before .before .before .before .before in (
+    let entry = at-search-test .before .before .before .before .before .before .before in (
       omega (arith, at-loop-test .loop-test .taken),
       at-loop .loop .inv .1,
       at-loop .loop .inv .2,
       left.reference-on _ _ _ _ _ _ (at-loop .loop .inv .3) (omega (arith, entry .pre .0 .is-n, at-loop-test .loop-test .taken))
-          (laws.reference-unmet _ _ _ _ _ _ _ (entry .pre .0) (omega arith) (omega (arith, entry .pre .1, at-search-test .search-test .taken)) _
-          (at-part-of .part-of .ensures) _ (at-is-linear .is-linear .ensures) (at-if2 .if2 .taken) _ (at-reduced-form .reduced-form .ensures) _ _ _
-          (c .before .separated .ensures) (c .if5 .left)),
+          (laws.reference-unmet _ _ (entry .pre .0 .prepared) _ (omega arith) (omega (arith, entry .pre .1, at-search-test .search-test .taken)) _
+          (at-part-of .part-of .ensures) _ (at-is-linear .is-linear .ensures) _ (at-if2 .if2 .taken) _ (entry .pre .7) _ (entry .pre .0 .is-n) _
+          (at-row-of .row-of .ensures) _ (entry .pre .0 .is-p) _ _ _ (c .before .separated .ensures) (c .if5 .left)),
     )
 
 loop-less-2 : tie.Need-loop-less-2 Inv-loop μ-loop Inv-search μ-search
@@ -133,20 +144,21 @@ loop-less-2 c = search needs
 
 loop-again-2 : tie.Need-loop-again-2 Inv-loop μ-loop Inv-search μ-search
 loop-again-2 c =
-    let at-loop = c .before .before in
-    let at-reduced-form = at-loop .before .before in
-    let at-if2 = at-reduced-form .before in
+    let at-loop-test = c .before .before in
+    let at-loop = at-loop-test .before in
+    let at-row-of = at-loop .before .before .before in
+    let at-if2 = at-row-of .before in
     let at-is-linear = at-if2 .before in
     let at-part-of = at-is-linear .before in
     let at-search-test = at-part-of .before .before .before .before in
-    let entry = at-search-test .before .before .before .before .before .before in (
-      omega (arith, c .before .loop-test .taken),
+    let entry = at-search-test .before .before .before .before .before .before .before in (
+      omega (arith, at-loop-test .loop-test .taken),
       at-loop .loop .inv .1,
       at-loop .loop .inv .2,
-      left.reference-on _ _ _ _ _ _ (at-loop .loop .inv .3) (omega (arith, entry .pre .0 .is-n, c .before .loop-test .taken))
-          (laws.reference-absent _ _ _ _ _ _ _ (entry .pre .0) (omega arith) (omega (arith, entry .pre .1, at-search-test .search-test .taken)) _
-          (at-part-of .part-of .ensures) _ (at-is-linear .is-linear .ensures) (at-if2 .if2 .taken) _ (at-reduced-form .reduced-form .ensures) _ _
-          (c .if4 .left)),
+      left.reference-on _ _ _ _ _ _ (at-loop .loop .inv .3) (omega (arith, entry .pre .0 .is-n, at-loop-test .loop-test .taken))
+          (laws.reference-absent _ _ (entry .pre .0 .prepared) _ (omega arith) (omega (arith, entry .pre .1, at-search-test .search-test .taken)) _
+          (at-part-of .part-of .ensures) _ (at-is-linear .is-linear .ensures) _ (at-if2 .if2 .taken) _ (entry .pre .7) _ (entry .pre .0 .is-n) _
+          (at-row-of .row-of .ensures) _ _ (c .if4 .left)),
     )
 
 search-less-2 : tie.Need-search-less-2 Inv-loop μ-loop Inv-search μ-search
@@ -154,19 +166,21 @@ search-less-2 c = search needs
 
 search-again-2 : tie.Need-search-again-2 Inv-loop μ-loop Inv-search μ-search
 search-again-2 c =
-    let at-if2 = c .before .before in
+    let at-row-of = c .before .before in
+    let at-if2 = at-row-of .before in
     let at-is-linear = at-if2 .before in
     let at-part-of = at-is-linear .before in
     let at-search-test = at-part-of .before .before .before .before in
     let at-search = at-search-test .before in
-    let entry = at-search .before .before .before .before .before in (
+    let entry = at-search .before .before .before .before .before .before in (
       omega arith,
       at-search .search .inv .1,
       at-search .search .inv .2,
-      left.digits-on _ _ _ _ _ (at-search .search .inv .3) (omega (arith, at-search-test .search-test .taken))
-          (λ u l h. laws.target-absent _ _ _ _ _ _ _ (entry .pre .0) (omega arith) (omega (arith, entry .pre .1, at-search-test .search-test .taken))
-          _ (at-part-of .part-of .ensures) _ (at-is-linear .is-linear .ensures) (at-if2 .if2 .taken) _ (c .before .reduced-form .ensures) _
-          (c .if3 .left) u),
+      left.digits-on _ _ _ _ _ (at-search .search .inv .3) (at-search-test .search-test .taken)
+          (λ u l h. laws.target-absent _ _ (entry .pre .0 .prepared) _ (omega arith)
+          (omega (arith, entry .pre .1, at-search-test .search-test .taken)) _ (at-part-of .part-of .ensures) _
+          (at-is-linear .is-linear .ensures) _ (at-if2 .if2 .taken) _ (entry .pre .7) _ (entry .pre .0 .is-n) _
+          (at-row-of .row-of .ensures) _ (c .if3 .left) u),
     )
 
 search-less-3 : tie.Need-search-less-3 Inv-loop μ-loop Inv-search μ-search
@@ -177,14 +191,14 @@ search-again-3 c =
     let at-part-of = c .before .before in
     let at-search-test = at-part-of .before .before .before .before in
     let at-search = at-search-test .before in
-    let entry = at-search .before .before .before .before .before in (
+    let entry = at-search .before .before .before .before .before .before in (
       omega arith,
       at-search .search .inv .1,
       at-search .search .inv .2,
-      left.digits-on _ _ _ _ _ (at-search .search .inv .3) (omega (arith, at-search-test .search-test .taken))
-          (λ u l h. laws.nonlinear-unmet _ _ _ _ _ _ _ (entry .pre .0) (omega arith)
-          (omega (arith, entry .pre .1, at-search-test .search-test .taken)) _ (at-part-of .part-of .ensures) _ (c .before .is-linear .ensures)
-          (c .if2 .left) _ u),
+      left.digits-on _ _ _ _ _ (at-search .search .inv .3) (at-search-test .search-test .taken)
+          (λ u l h. laws.nonlinear-unmet _ _ (entry .pre .0 .prepared) _ (omega arith)
+          (omega (arith, entry .pre .1, at-search-test .search-test .taken)) _ (at-part-of .part-of .ensures) _
+          (c .before .is-linear .ensures) _ (c .if2 .left) _ u),
     )
 
 search-less-4 : tie.Need-search-less-4 Inv-loop μ-loop Inv-search μ-search
@@ -194,13 +208,13 @@ search-again-4 : tie.Need-search-again-4 Inv-loop μ-loop Inv-search μ-search
 search-again-4 c =
     let at-search-test = c .before .before in
     let at-search = at-search-test .before in
-    let a = c .before .before .before .before .before .before .before .before in (
+    let pre = at-search .before .before .before .before .before .before .pre in (
       omega arith,
       at-search .search .inv .1,
       at-search .search .inv .2,
-      left.digits-on _ _ _ _ _ (at-search .search .inv .3) (omega (arith, at-search-test .search-test .taken))
-          (λ u l h. laws.below-digits _ _ _ (a .pre .6) _ _ (omega arith) (omega (arith, a .pre .1)) (a .pre .3)
-          (laws.view-marked _ _ _ _ (a .pre .5)) (c .if1 .left) u l h),
+      left.digits-on _ _ _ _ _ (at-search .search .inv .3) (at-search-test .search-test .taken)
+          (λ u l h. laws.below-digits _ _ _ (pre .6) _ _ (omega arith) (omega (arith, pre .1)) (pre .3) (view-marked _ _ _ _ (pre .5))
+          (c .if1 .left) u l h),
     )
 
 returns : tie.Need-returns Inv-loop μ-loop Inv-search μ-search
@@ -213,23 +227,22 @@ returns c =
 
 returns-2 : tie.Need-returns-2 Inv-loop μ-loop Inv-search μ-search
 returns-2 c =
-    let at-if4 = c .before .before .before in
-    let at-loop-test = at-if4 .before in
+    let at-loop-test = c .before .before .before .before in
     let at-loop = at-loop-test .before in
-    let at-if3 = at-loop .before in
-    let at-reduced-form = at-if3 .before in
-    let at-if2 = at-reduced-form .before in
+    let at-row-of = at-loop .before .before .before in
+    let at-if2 = at-row-of .before in
     let at-is-linear = at-if2 .before in
     let at-part-of = at-is-linear .before in
     let at-search-test = at-part-of .before .before .before .before in
-    let entry = at-search-test .before .before .before .before .before .before in (
+    let entry = at-search-test .before .before .before .before .before .before .before in (
       omega (arith, at-search-test .search-test .taken),
       omega (arith, at-loop-test .loop-test .taken),
       λ later.
           left.reference-hit _ _ _ _ _ _ (at-loop .loop .inv .3) (omega arith) (omega (arith, entry .pre .0 .is-n, at-loop-test .loop-test .taken))
-          (laws.reference-met _ _ _ _ _ _ _ (entry .pre .0) (omega arith) (omega (arith, entry .pre .1, at-search-test .search-test .taken)) _
-          (at-part-of .part-of .ensures) _ (at-is-linear .is-linear .ensures) (at-if2 .if2 .taken) _ (at-reduced-form .reduced-form .ensures) _ _
-          _ (c .before .separated .ensures) (at-if3 .if3 .taken) (at-if4 .if4 .taken) (c .if5 .taken)) later,
+          (laws.reference-met _ _ (entry .pre .0 .prepared) _ (omega arith) (omega (arith, entry .pre .1, at-search-test .search-test .taken)) _
+          (at-part-of .part-of .ensures) _ (at-is-linear .is-linear .ensures) _ (at-if2 .if2 .taken) _ (entry .pre .7) _ (entry .pre .0 .is-n) _
+          (at-row-of .row-of .ensures) _ (entry .pre .0 .is-p) _ _ _ (c .before .separated .ensures)
+          (at-loop .before .if3 .taken) (c .before .before .if4 .taken) (c .if5 .taken)) later,
     )
 
 pub digits-for-spec : {M : Type 1} → statement M
@@ -247,17 +260,16 @@ digits-for-spec =
     shared-slice-read-if1
     part-of-requires
     is-linear-requires
-    reduced-form-requires
+    row-of-requires
     mul-if3
-    array-read-if3
+    shared-slice-read-if3
     loop-holds
     search-less
     search-again
     add-r
     cast-if4
     mul-if4
-    array-read-if4
-    slice-aggregate-separated
+    shared-slice-read-if4
     separated-requires
     loop-less
     loop-again

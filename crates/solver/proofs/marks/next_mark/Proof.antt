@@ -15,25 +15,12 @@ use Rattle.solver.proofs.marks.next_mark.Lts as lts
 use Rattle.solver.proofs.marks.digits_for.Reads as digits-for-reads
 use Rattle.solver.proofs.marks.product_for.Reads as product-for-reads
 use Rattle.solver.proofs.marks.taken.Reads as taken-reads
-use Rattle.solver.proofs.memo.least.Reads as least-reads
 
 abbrev Inv-loop : tie.InvT-loop
-Inv-loop circuit table bounds marks floors p n m lowest t₀ t = (t ≤ n) × TargetFrom (circuitOf circuit) (viewOf p bounds marks) t
+Inv-loop circuit table rows bounds marks floors p n m lowest t₀ t = (t ≤ n) × TargetFrom (circuitOf circuit) (viewOf p bounds marks) t
 
 abbrev μ-loop : tie.MeasureT-loop
-μ-loop circuit table bounds marks floors p n m lowest t₀ t = n - t
-
-least-requires : tie.Need-least-requires Inv-loop μ-loop
-least-requires c κs = search needs
-
-cast-lowest : tie.Need-cast-lowest Inv-loop μ-loop
-cast-lowest c = search needs
-
-mul-lowest : tie.Need-mul-lowest Inv-loop μ-loop
-mul-lowest c = search needs
-
-shared-slice-read-lowest : tie.Need-shared-slice-read-lowest Inv-loop μ-loop
-shared-slice-read-lowest c = omega (arith, c .before .least .ensures .within)
+μ-loop circuit table rows bounds marks floors p n m lowest t₀ t = n - t
 
 loop-holds : tie.Need-loop-holds Inv-loop μ-loop
 loop-holds c = (omega arith, target-start _ _)
@@ -46,7 +33,7 @@ cast-if1 c = search needs
 
 shared-slice-read-if1 : tie.Need-shared-slice-read-if1 Inv-loop μ-loop
 shared-slice-read-if1 c =
-    let entry = c .before .before .before .before .before .before .before .before .before in
+    let entry = c .before .before .before .before .before .before .before .before in
     let s = sizes (entry .pre .0) in omega (arith, entry .pre .0 .marks-sized)
 
 cast-if2 : tie.Need-cast-if2 Inv-loop μ-loop
@@ -57,7 +44,7 @@ mul-if2 c = search needs
 
 shared-slice-read-if2 : tie.Need-shared-slice-read-if2 Inv-loop μ-loop
 shared-slice-read-if2 c =
-    let entry = c .before .before .before .before .before .before .before .before .before .before .before in
+    let entry = c .before .before .before .before .before .before .before .before .before .before in
     let s = sizes (entry .pre .0) in omega (arith, entry .pre .0 .bounds-sized)
 
 taken-requires : tie.Need-taken-requires Inv-loop μ-loop
@@ -68,7 +55,7 @@ returns c =
     let at-if1 = c .before .before .before in
     let at-loop-test = at-if1 .before .before in
     let at-loop = at-loop-test .before in
-    let entry = at-loop .before .before .before .before .before .before .before in
+    let entry = at-loop .before .before .before .before .before .before in
     c .taken .ensures ∙ laws.next-zero _ _ _ _ _ _ _ (entry .pre .0) (entry .pre .1) _ (entry .pre .3) _ (at-loop .loop .inv .1)
     (at-loop-test .loop-test .taken) (at-if1 .if1 .taken) (c .before .if2 .taken)
 
@@ -80,7 +67,7 @@ product-for-requires c κs =
     let at-if1 = c .before .before .before in
     let at-loop-test = at-if1 .before .before in
     let at-loop = at-loop-test .before in
-    let entry = at-loop .before .before .before .before .before .before .before in (
+    let entry = at-loop .before .before .before .before .before .before in (
       entry .pre .0 .prepared,
       entry .pre .1,
       entry .pre .2,
@@ -99,7 +86,7 @@ returns-2 c =
     let at-if1 = at-if2 .before .before in
     let at-loop-test = at-if1 .before .before in
     let at-loop = at-loop-test .before in
-    let entry = at-loop .before .before .before .before .before .before .before in
+    let entry = at-loop .before .before .before .before .before .before in
     c .taken2 .ensures ∙ laws.next-product _ _ _ _ _ _ _ (entry .pre .0) (entry .pre .1) _ (entry .pre .3) _ (at-loop .loop .inv .1)
     (at-loop-test .loop-test .taken) (at-if1 .if1 .taken) (at-if2 .if2 .left) _ (at-product-for .product-for .ensures .1) (c .before .if4 .taken)
 
@@ -108,7 +95,7 @@ digits-for-requires c κs =
     let at-if1 = c .before .before .before .before .before in
     let at-loop-test = at-if1 .before .before in
     let at-loop = at-loop-test .before in
-    let entry = at-loop .before .before .before .before .before .before .before in (
+    let entry = at-loop .before .before .before .before .before .before in (
       entry .pre .0,
       entry .pre .1,
       entry .pre .2,
@@ -117,6 +104,7 @@ digits-for-requires c κs =
       laws.unmarked _ _ _ _ _ _ _ (entry .pre .0) (entry .pre .1) _
           (entry .pre .3) _ (at-loop .loop .inv .1) (at-loop-test .loop-test .taken) (at-if1 .if1 .taken),
       entry .pre .3,
+      entry .pre .5,
     )
 
 taken-requires-3 : tie.Need-taken-requires-3 Inv-loop μ-loop
@@ -131,7 +119,7 @@ returns-3 c =
     let at-if1 = at-if2 .before .before in
     let at-loop-test = at-if1 .before .before in
     let at-loop = at-loop-test .before in
-    let entry = at-loop .before .before .before .before .before .before .before in
+    let entry = at-loop .before .before .before .before .before .before in
     c .taken3 .ensures ∙ laws.next-digits _ _ _ _ _ _ _ (entry .pre .0) (entry .pre .1) _ (entry .pre .3) _ (at-loop .loop .inv .1)
     (at-loop-test .loop-test .taken) (at-if1 .if1 .taken) (at-if2 .if2 .left) _ (at-product-for .product-for .ensures .1) (at-if4 .if4 .left) _ _
     (at-digits-for .digits-for .ensures .2) (c .before .if5 .taken)
@@ -148,11 +136,11 @@ loop-again c =
     let at-if1 = at-if2 .before .before in
     let at-loop-test = at-if1 .before .before in
     let at-loop = at-loop-test .before in
-    let entry = at-loop .before .before .before .before .before .before .before in (
+    let entry = at-loop .before .before .before .before .before .before in (
       omega arith,
       laws.next-on _ _ _ _ _ _ _ (entry .pre .0) (entry .pre .1) _ (entry .pre .3) _ (at-loop .loop .inv .1)
-          (at-loop-test .loop-test .taken) (at-if1 .if1 .taken) (at-if2 .if2 .left) _ (at-product-for .product-for .ensures .1) (at-if4 .if4 .left) _ _
-          (at-digits-for .digits-for .ensures .2) (c .if5 .left),
+          (at-loop-test .loop-test .taken) (at-if1 .if1 .taken) (at-if2 .if2 .left) _ (at-product-for .product-for .ensures .1)
+          (at-if4 .if4 .left) _ _ (at-digits-for .digits-for .ensures .2) (c .if5 .left),
     )
 
 loop-less-2 : tie.Need-loop-less-2 Inv-loop μ-loop
@@ -163,11 +151,10 @@ loop-again-2 c =
     let at-if1 = c .before .before .before in
     let at-loop-test = at-if1 .before .before in
     let at-loop = at-loop-test .before in
-    let at-least = at-loop .before .before in
-    let entry = at-least .before .before .before .before .before in (
+    let entry = at-loop .before .before .before .before .before .before in (
       omega arith,
       laws.next-below _ _ _ _ _ _ _ (entry .pre .0) (entry .pre .1) _ (entry .pre .3) _ (at-loop .loop .inv .1)
-          (at-loop-test .loop-test .taken) (at-if1 .if1 .taken) (c .before .if2 .left) _ (at-least .least .ensures) (c .if3 .left),
+          (at-loop-test .loop-test .taken) (at-if1 .if1 .taken) (c .before .if2 .left) _ (entry .pre .4) (c .if3 .left),
     )
 
 loop-less-3 : tie.Need-loop-less-3 Inv-loop μ-loop
@@ -177,7 +164,7 @@ loop-again-3 : tie.Need-loop-again-3 Inv-loop μ-loop
 loop-again-3 c =
     let at-loop-test = c .before .before in
     let at-loop = at-loop-test .before in
-    let entry = at-loop .before .before .before .before .before .before .before in (
+    let entry = at-loop .before .before .before .before .before .before in (
       omega arith,
       laws.next-marked _ _ _ _ _ _ _ (entry .pre .0) (entry .pre .1) _ (entry .pre .3) _ (at-loop .loop .inv .1)
           (at-loop-test .loop-test .taken) (c .if1 .left),
@@ -185,7 +172,7 @@ loop-again-3 c =
 
 returns-4 : tie.Need-returns-4 Inv-loop μ-loop
 returns-4 c =
-    let entry = c .before .before .before .before .before .before .before .before in
+    let entry = c .before .before .before .before .before .before .before in
     laws.next-end _ _ _ _ _ _ _ (entry .pre .0) (entry .pre .1) _ (entry .pre .3) _ (c .before .loop .inv .1) (c .loop-test .left)
 
 pub next-mark-spec : {M : Type 1} → statement M
@@ -194,10 +181,6 @@ next-mark-spec =
     (tie.spec
     Inv-loop
     μ-loop
-    least-requires
-    cast-lowest
-    mul-lowest
-    shared-slice-read-lowest
     loop-holds
     add-t
     cast-if1

@@ -1,45 +1,50 @@
 -- `solver::memo::forget`: after k turns the first k constraints are done.
-use Prim.Native.Nat.{_+_, _-_, _≤_}
+use Prim.Native.Nat.{_+_, _*_, _-_, _≤_}
 use mathlib.Core.Path.{_≡_, refl, _∙_}
 use native.Mathlib.Omega.{arith}
-use borrow.Author.Needs.{needs}
 use lib.ListN.{length, length-set}
-use Rattle.circuit.specs.Circuit.{constraintAt}
-use Rattle.derivation.specs.Inner.{circuitOf}
-use Rattle.solver.specs.Search.{involves}
-use Rattle.solver.proofs.SearchLaws as laws
+use Rattle.solver.proofs.RowLaws as laws
+use borrow.Author.Needs.{needs}
 use Rattle.solver.proofs.memo.forget.Statement.{statement}
 use Rattle.solver.proofs.memo.forget.Tie as tie
 use Rattle.solver.proofs.memo.forget.Reads as reads
 use Rattle.solver.proofs.memo.forget.Lts as lts
-use Rattle.derivation.proofs.offsets.part_of.Reads as part-of-reads
-use Rattle.solver.proofs.search.involves.Reads as involves-reads
 
 abbrev Inv-loop : tie.InvT-loop
-Inv-loop circuit table entries₀ m signal k₀ entries k =
-    (k ≤ m) × (length entries ≡ length entries₀) × laws.Forgetting (circuitOf circuit) signal k entries₀ entries
+Inv-loop rows entries₀ n m signal width at₀ k₀ entries at k =
+    (k ≤ m) × (at ≡ k * (2 * (n + 1)) + signal) × (length entries ≡ length entries₀) × laws.Forgetting rows n signal k entries₀ entries
 
 abbrev μ-loop : tie.MeasureT-loop
-μ-loop circuit table entries₀ m signal k₀ entries k = m - k
+μ-loop rows entries₀ n m signal width at₀ k₀ entries at k = m - k
 
-involved : (c : tie.After-involves Inv-loop μ-loop)
-    → c .involves .result ≡ involves (constraintAt (circuitOf (c .before .before .before .before .before .before .before .args .circuit .now))
-    (c .before .before .before .before .loop .k + 1)) (c .before .before .before .before .before .before .before .args .signal)
-involved c =
-    laws.involved-part _ _ (c .before .before .before .before .before .before .before .pre .0) _ (omega arith) (omega arith) _
-    (c .before .part-of .ensures) _ _ (c .involves .ensures)
+add-width : tie.Need-add-width Inv-loop μ-loop
+add-width c = search needs
+
+mul-width : tie.Need-mul-width Inv-loop μ-loop
+mul-width c = search needs
 
 loop-holds : tie.Need-loop-holds Inv-loop μ-loop
-loop-holds c = (omega arith, refl, laws.forgetting-start _ _ _)
+loop-holds c = (omega arith, omega arith, refl, laws.forgetting-start _ _ _ _)
 
 add-k : tie.Need-add-k Inv-loop μ-loop
 add-k c = search needs
 
-part-of-requires : tie.Need-part-of-requires Inv-loop μ-loop
-part-of-requires c κs = search needs
+add-at : tie.Need-add-at Inv-loop μ-loop
+add-at c =
+    let entry = c .before .before in
+    omega (arith, c .before .loop .inv .1, laws.next-inside _ _ _ _ (c .loop-test .taken) (entry .pre .0))
 
-involves-requires : tie.Need-involves-requires Inv-loop μ-loop
-involves-requires c κs = search needs
+mul-if1 : tie.Need-mul-if1 Inv-loop μ-loop
+mul-if1 c =
+    let l = c .before .loop in
+    let entry = c .before .before in
+    omega (arith, l .inv .1, entry .pre .2, laws.next-inside _ _ _ _ (c .loop-test .taken) (entry .pre .0))
+
+shared-slice-read-if1 : tie.Need-shared-slice-read-if1 Inv-loop μ-loop
+shared-slice-read-if1 c =
+    let l = c .before .before .loop in
+    let entry = c .before .before .before in
+    omega (arith, l .inv .1, entry .pre .2, laws.next-inside _ _ _ _ (c .before .loop-test .taken) (entry .pre .0))
 
 cast-entries : tie.Need-cast-entries Inv-loop μ-loop
 cast-entries c = search needs
@@ -55,26 +60,23 @@ loop-less c = search needs
 
 loop-again : tie.Need-loop-again Inv-loop μ-loop
 loop-again c =
-    let at-loop = c .before .before .before .before .before in
-    let l = at-loop .loop in (
-      omega arith,
-      length-set (l .entries) (l .k + 1) 0 ∙ l .inv .1,
-      laws.forgetting-set _ _ _ _ _ (l .inv .2) _ (involved (c .before)) (omega arith) (c .if1 .taken),
-    )
+    let l = c .before .before .before .loop in
+    (omega arith, omega arith, length-set (l .entries) (l .k + 1) 0 ∙ l .inv .2, laws.forgetting-set _ _ _ _ _ _ (l .inv .3) (omega arith))
 
 loop-less-2 : tie.Need-loop-less-2 Inv-loop μ-loop
 loop-less-2 c = search needs
 
 loop-again-2 : tie.Need-loop-again-2 Inv-loop μ-loop
 loop-again-2 c =
-    let at-loop = c .before .before .before .before .before in
-    (omega arith, at-loop .loop .inv .1, laws.forgetting-on _ _ _ _ _ (at-loop .loop .inv .2) _ (involved (c .before)) (c .if1 .left))
+    let l = c .before .before .before .loop in
+    (omega arith, omega arith, l .inv .2, laws.forgetting-on _ _ _ _ _ _ (l .inv .3) _ (l .inv .1) (c .if1 .left))
 
 same-length : tie.Need-same-length Inv-loop μ-loop
 same-length c = search needs
 
 returns : tie.Need-returns Inv-loop μ-loop
-returns c = laws.forgetting-end _ _ _ _ _ (c .before .loop .inv .2) (omega arith)
+returns c =
+    laws.forgetting-end _ _ _ _ _ _ _ (c .before .loop .inv .3) (c .loop-test .left) (c .before .before .pre .2)
 
 pub forget-spec : {M : Type 1} → statement M
 forget-spec =
@@ -82,10 +84,13 @@ forget-spec =
     (tie.spec
     Inv-loop
     μ-loop
+    add-width
+    mul-width
     loop-holds
     add-k
-    part-of-requires
-    involves-requires
+    add-at
+    mul-if1
+    shared-slice-read-if1
     cast-entries
     mul-entries
     slice-write-entries

@@ -1,65 +1,75 @@
--- `solver::search::only_free`: after s turns the only one of the signals 1 to s.
-use Prim.Native.Nat.{_+_, _-_, _≤_}
-use mathlib.Core.Path.{_≡_}
+-- `solver::search::only_free`: after i turns the only one of the signals passed.
+use Prim.Native.Nat.{ℕ, _-_, _≤_}
+use mathlib.Core.List.{List}
 use native.Mathlib.Omega.{arith}
-use borrow.Author.Needs.{needs}
+use lib.ListN.{length}
+use Rattle.rules.specs.View.{coefIn}
+use Rattle.solver.specs.Rows.{reach, SignalsOf}
 use Rattle.solver.specs.Search.{free}
+use Rattle.solver.proofs.ListLaws.{next}
 use Rattle.solver.proofs.SearchLaws as laws
+use borrow.Author.Needs.{needs}
 use Rattle.solver.proofs.search.only_free.Statement.{statement}
 use Rattle.solver.proofs.search.only_free.Tie as tie
 use Rattle.solver.proofs.search.only_free.Reads as reads
 use Rattle.solver.proofs.search.only_free.Lts as lts
 
 abbrev Inv-loop : tie.InvT-loop
-Inv-loop form bounds n p found₀ s₀ found s = (s ≤ n) × laws.Sole (free p form bounds) s found
+Inv-loop signals bounds p found₀ i₀ found i =
+    (i ≤ length signals)
+    × ((form : List ℕ) (n : ℕ) → SignalsOf (coefIn form) n signals → laws.Sole (free p form bounds) (reach (coefIn signals) i) found)
 
 abbrev μ-loop : tie.MeasureT-loop
-μ-loop form bounds n p found₀ s₀ found s = n - s
+μ-loop signals bounds p found₀ i₀ found i = length signals - i
 
 loop-holds : tie.Need-loop-holds Inv-loop μ-loop
-loop-holds c = (omega arith, laws.sole-start _)
+loop-holds c =
+    (omega arith, λ form n L. laws.sole-start _ _)
 
-add-s : tie.Need-add-s Inv-loop μ-loop
-add-s c = search needs
+mul-s : tie.Need-mul-s Inv-loop μ-loop
+mul-s c = search needs
 
-cast-at : tie.Need-cast-at Inv-loop μ-loop
-cast-at c = search needs
+shared-slice-read-s : tie.Need-shared-slice-read-s Inv-loop μ-loop
+shared-slice-read-s c = search needs
+
+add-i : tie.Need-add-i Inv-loop μ-loop
+add-i c = search needs
+
+cast-if1 : tie.Need-cast-if1 Inv-loop μ-loop
+cast-if1 c =
+    record { fits = omega (arith, c .before .before .before .pre .0 .each _ (c .before .loop-test .taken)) }
 
 mul-if1 : tie.Need-mul-if1 Inv-loop μ-loop
-mul-if1 c = search needs
+mul-if1 c =
+    omega (arith, c .before .before .before .pre .0 .each _ (c .before .loop-test .taken))
 
 shared-slice-read-if1 : tie.Need-shared-slice-read-if1 Inv-loop μ-loop
-shared-slice-read-if1 c = search needs
+shared-slice-read-if1 c =
+    let entry = c .before .before .before .before in
+    entry .pre .0 .each _ (c .before .before .loop-test .taken)
 
-mul-if2 : tie.Need-mul-if2 Inv-loop μ-loop
-mul-if2 c = search needs
-
-shared-slice-read-if2 : tie.Need-shared-slice-read-if2 Inv-loop μ-loop
-shared-slice-read-if2 c = search needs
-
-sub-if2 : tie.Need-sub-if2 Inv-loop μ-loop
-sub-if2 c = search needs
+sub-if1 : tie.Need-sub-if1 Inv-loop μ-loop
+sub-if1 c = search needs
 
 returns : tie.Need-returns Inv-loop μ-loop
 returns c =
-    let at-if1 = c .before .before .before in
-    let at-loop-test = at-if1 .before .before in
+    let at-loop-test = c .before .before .before .before in
     let at-loop = at-loop-test .before in
-    let l = at-loop .loop in
-    laws.sole-several _ _ _ _ (l .inv .1) (at-loop-test .loop-test .taken)
-    (laws.free-holds _ _ _ _ (omega arith) (at-if1 .if1 .taken) (c .before .if2 .taken)) (c .if3 .taken)
+    let entry = at-loop .before in
+    λ form n L. laws.sole-several _ _ _ _ _ _ _ _ (next _ _ _ L _ (at-loop-test .loop-test .taken)) (at-loop .loop .inv .1 form n L)
+    (entry .pre .0 .each _ (at-loop-test .loop-test .taken)) (c .before .if1 .taken) (c .if2 .taken)
 
 loop-less : tie.Need-loop-less Inv-loop μ-loop
 loop-less c = search needs
 
 loop-again : tie.Need-loop-again Inv-loop μ-loop
 loop-again c =
-    let at-if1 = c .before .before .before in
-    let at-loop-test = at-if1 .before .before in
-    let at-loop = at-loop-test .before in (
-      omega arith,
-      laws.sole-found _ _ _ _ (at-loop .loop .inv .1) (at-loop-test .loop-test .taken)
-          (laws.free-holds _ _ _ _ (omega arith) (at-if1 .if1 .taken) (c .before .if2 .taken)) (c .if3 .left),
+    let at-loop-test = c .before .before .before .before in
+    let at-loop = at-loop-test .before in
+    let entry = at-loop .before in (
+      omega (arith, at-loop-test .loop-test .taken),
+      λ form n L. laws.sole-found _ _ _ _ _ _ _ _ (next _ _ _ L _ (at-loop-test .loop-test .taken)) (at-loop .loop .inv .1 form n L)
+          (entry .pre .0 .each _ (at-loop-test .loop-test .taken)) (c .before .if1 .taken) (c .if2 .left),
     )
 
 loop-less-2 : tie.Need-loop-less-2 Inv-loop μ-loop
@@ -67,24 +77,18 @@ loop-less-2 c = search needs
 
 loop-again-2 : tie.Need-loop-again-2 Inv-loop μ-loop
 loop-again-2 c =
-    let at-loop-test = c .before .before .before .before in
-    let at-loop = at-loop-test .before in (
-      omega arith,
-      laws.sole-on _ _ _ _ (at-loop .loop .inv .1) (at-loop-test .loop-test .taken)
-          (laws.free-lower _ _ _ _ (omega arith) (c .if2 .left)),
+    let at-loop-test = c .before .before .before in
+    let at-loop = at-loop-test .before in
+    let entry = at-loop .before in (
+      omega (arith, at-loop-test .loop-test .taken),
+      λ form n L. laws.sole-on _ _ _ _ _ _ _ _ (next _ _ _ L _ (at-loop-test .loop-test .taken)) (at-loop .loop .inv .1 form n L)
+          (entry .pre .0 .each _ (at-loop-test .loop-test .taken)) (c .if1 .left),
     )
 
-loop-less-3 : tie.Need-loop-less-3 Inv-loop μ-loop
-loop-less-3 c = search needs
-
-loop-again-3 : tie.Need-loop-again-3 Inv-loop μ-loop
-loop-again-3 c =
-    let at-loop-test = c .before .before in
-    let at-loop = at-loop-test .before in
-    (omega arith, laws.sole-on _ _ _ _ (at-loop .loop .inv .1) (at-loop-test .loop-test .taken) (laws.free-absent _ _ _ _ (c .if1 .left)))
-
 returns-2 : tie.Need-returns-2 Inv-loop μ-loop
-returns-2 c = laws.sole-end _ _ _ _ (c .before .loop .inv .1) (omega arith) (omega arith)
+returns-2 c =
+    let at-loop = c .before in
+    λ form n L. laws.sole-end _ _ _ _ _ L _ (c .loop-test .left) (at-loop .loop .inv .0) _ (at-loop .loop .inv .1 form n L)
 
 pub only-free-spec : {M : Type 1} → statement M
 only-free-spec =
@@ -93,18 +97,16 @@ only-free-spec =
     Inv-loop
     μ-loop
     loop-holds
-    add-s
-    cast-at
+    mul-s
+    shared-slice-read-s
+    add-i
+    cast-if1
     mul-if1
     shared-slice-read-if1
-    mul-if2
-    shared-slice-read-if2
-    sub-if2
+    sub-if1
     returns
     loop-less
     loop-again
     loop-less-2
     loop-again-2
-    loop-less-3
-    loop-again-3
     returns-2)
