@@ -13,6 +13,7 @@ pub fn all() -> Vec<(&'static str, Vec<u8>)> {
         ("bits_and_long_sum", bits_and_long_sum(30)),
         ("bits_behind_decoys", bits_behind_decoys()),
         ("equal_weights", equal_weights()),
+        ("different_weights", different_weights()),
         ("sum_chain", sum_chain()),
         ("mark_chain_backward", mark_chain_backward()),
         ("digit_chain_backward", digit_chain_backward()),
@@ -70,6 +71,25 @@ pub fn equal_weights() -> Vec<u8> {
     for number in 0..264u16 {
         let mut terms: Terms = vec![(1 + number % 8, -1)];
         terms.extend((0..31).map(|index| (9 + (number * 5 + index * 13) % 248, 1)));
+        equation(&mut draft, &terms);
+    }
+    draft.bytes()
+}
+
+/// 6 inputs and the 30 bits of each, behind 126 sums of 62 bits with random weights, half of them in C: as bits are marked one by one, every signal of
+/// every sum is tried as a reference again and again, and none will do. Fixed.
+pub fn different_weights() -> Vec<u8> {
+    let (mut draft, mut rng) = (Draft::new(P, 186, 6, 180), Random::new(1));
+    for sum in 0..126u16 {
+        let mut half =
+            |from: u16| -> Terms { (from..from + 31).map(|index| (7 + (sum * 7 + index * 7) % 180, rng.range(1, P as usize - 1) as i64)).collect() };
+        let (b, c) = (half(0), half(31));
+        draft.add(&[(0, 1)], &b, &c);
+    }
+    (7..=186).for_each(|signal| bit(&mut draft, signal));
+    for input in 0..6u16 {
+        let mut terms: Terms = vec![(input + 1, -1)];
+        terms.extend((0..30).map(|index| (7 + input * 30 + index, 1i64 << index)));
         equation(&mut draft, &terms);
     }
     draft.bytes()
