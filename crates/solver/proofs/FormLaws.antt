@@ -216,36 +216,6 @@ module _ (S : Standing) (s : ℕ) (Z : Nonzero S s) where
   pub zero-none : (n : ℕ) → s ≤ n → n ≤ s → FirstZero S n (n + 1)
   zero-none n a b = record { found = inl refl; lowest = λ u l m x y. below-zero (n + 1) u (omega arith) l x y }
 
--- References
-
--- no signal 1 to r of the form is a reference
-pub record Unreferred (p n : ℕ) (R : ℕ → ℕ) (S : Standing) (r : ℕ) : Type 0 where
-  pub fails : (u : ℕ) → 1 ≤ u → u ≤ r → occurs R u ≡ true → separated p n R S u ≡ false
-
-pub unreferred-start : (p n : ℕ) (R : ℕ → ℕ) (S : Standing) (list : ℕ → ℕ) → Unreferred p n R S (reach list 0)
-unfolding reach
-unreferred-start p n R S list = record { fails = λ u l m e. absurd (omega arith) }
-
-unreferred-absent : (p n : ℕ) (R : ℕ → ℕ) (S : Standing) (u : ℕ) → R u ≡ 0 → occurs R u ≡ true → separated p n R S u ≡ false
-unfolding occurs
-unreferred-absent p n R S u z e = true-or-false (occurs R u) e (rw z refl)
-
-pub unreferred-on : (p n : ℕ) (R : ℕ → ℕ) (S : Standing) (s t r : ℕ) → Next R n s t r → Unreferred p n R S s → separated p n R S t ≡ false
-    → Unreferred p n R S r
-unreferred-on p n R S s t r N U h =
-    record {
-      fails = passing N (λ (u : ℕ). occurs R u ≡ true → separated p n R S u ≡ false) (U .fails) (λ u l z. unreferred-absent p n R S u z) (λ e. h);
-    }
-
-pub unreferred-end : (p n : ℕ) (R : ℕ → ℕ) (S : Standing) (list : List ℕ) → SignalsOf R n list → (i : ℕ) → length list ≤ i → i ≤ length list
-    → Unreferred p n R S (reach (coefIn list) i) → Unreferred p n R S n
-unreferred-end p n R S list L i h g U =
-    record {
-      fails =
-          walked R n list L (λ (u : ℕ). occurs R u ≡ true → separated p n R S u ≡ false) i h g (U .fails)
-          (λ u l z. unreferred-absent p n R S u z);
-    }
-
 -- The sum over the unmarked signals
 
 -- a total is at most what those of 1 to s add, scaled so that k has weight 1
@@ -290,6 +260,36 @@ module _ (p : ℕ) (R : ℕ → ℕ) (S : Standing) (n s t r : ℕ) (N : Next R 
         (λ f.
         let below : sum (suc n) (liveTerm p R S k) < p = ltb-true _ _ (and-right (all (suc n) (separate p n R S k)) _ f) in
         omega (arith, sum-new, sum-grows (suc t) (suc n) (liveTerm p R S k) (omega (arith, N .within))))
+
+-- References
+
+-- no signal 1 to r of the form is a reference
+pub record Unreferred (p n : ℕ) (R : ℕ → ℕ) (S : Standing) (r : ℕ) : Type 0 where
+  pub fails : (u : ℕ) → 1 ≤ u → u ≤ r → occurs R u ≡ true → separated p n R S u ≡ false
+
+pub unreferred-start : (p n : ℕ) (R : ℕ → ℕ) (S : Standing) (list : ℕ → ℕ) → Unreferred p n R S (reach list 0)
+unfolding reach
+unreferred-start p n R S list = record { fails = λ u l m e. absurd (omega arith) }
+
+unreferred-absent : (p n : ℕ) (R : ℕ → ℕ) (S : Standing) (u : ℕ) → R u ≡ 0 → occurs R u ≡ true → separated p n R S u ≡ false
+unfolding occurs
+unreferred-absent p n R S u z e = true-or-false (occurs R u) e (rw z refl)
+
+pub unreferred-on : (p n : ℕ) (R : ℕ → ℕ) (S : Standing) (s t r : ℕ) → Next R n s t r → Unreferred p n R S s → separated p n R S t ≡ false
+    → Unreferred p n R S r
+unreferred-on p n R S s t r N U h =
+    record {
+      fails = passing N (λ (u : ℕ). occurs R u ≡ true → separated p n R S u ≡ false) (U .fails) (λ u l z. unreferred-absent p n R S u z) (λ e. h);
+    }
+
+pub unreferred-end : (p n : ℕ) (R : ℕ → ℕ) (S : Standing) (list : List ℕ) → SignalsOf R n list → (i : ℕ) → length list ≤ i → i ≤ length list
+    → Unreferred p n R S (reach (coefIn list) i) → Unreferred p n R S n
+unreferred-end p n R S list L i h g U =
+    record {
+      fails =
+          walked R n list L (λ (u : ℕ). occurs R u ≡ true → separated p n R S u ≡ false) i h g (U .fails)
+          (λ u l z. unreferred-absent p n R S u z);
+    }
 
 pub absent : (form : List ℕ) (s : ℕ) → getD form s 0 ≡ 0 → occurs (coefIn form) s ≡ false
 unfolding occurs coefIn

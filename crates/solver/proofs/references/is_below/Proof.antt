@@ -93,7 +93,8 @@ returns c =
     let entry = at-loop .before .before .before .before .before .before .before in
     λ e n L. laws.added-over _ _ _ _ _ _ _ (next _ _ _ L _ (at-loop-test .loop-test .taken)) _ _ (at-loop .loop .inv .2 n L)
     (laws.view-marked _ _ _ _ (laws.mark-read _ _ (not-true _ (c .before .before .before .before .if1 .taken)))) _
-    (laws.term-read _ _ _ _ _ _ _ _ (entry .pre .1 .each _ (at-loop-test .loop-test .taken)) (at-loop .before .inverse .ensures) (c .before .weighed .ensures .0)) (c .if2 .taken)
+    (laws.term-read _ _ _ _ _ _ _ _ (entry .pre .1 .each _ (at-loop-test .loop-test .taken)) (at-loop .before .inverse .ensures)
+    (c .before .weighed .ensures .0)) (c .if2 .taken)
 
 loop-less : tie.Need-loop-less Inv-loop μ-loop
 loop-less c = search needs
@@ -107,7 +108,8 @@ loop-again c =
       omega (arith, c .if2 .left),
       λ n L. laws.added-new _ _ _ _ _ _ _ (next _ _ _ L _ (at-loop-test .loop-test .taken)) _ _ (at-loop .loop .inv .2 n L)
           (laws.view-marked _ _ _ _ (laws.mark-read _ _ (not-true _ (c .before .before .before .before .if1 .taken)))) _
-          (laws.term-read _ _ _ _ _ _ _ _ (entry .pre .1 .each _ (at-loop-test .loop-test .taken)) (at-loop .before .inverse .ensures) (c .before .weighed .ensures .0)),
+          (laws.term-read _ _ _ _ _ _ _ _ (entry .pre .1 .each _ (at-loop-test .loop-test .taken)) (at-loop .before .inverse .ensures)
+          (c .before .weighed .ensures .0)),
     )
 
 loop-less-2 : tie.Need-loop-less-2 Inv-loop μ-loop
