@@ -1,5 +1,5 @@
 -- Laws of the searches in one form: unmarked signals, signals that nothing separates, and references.
-use Prim.Native.Nat.{ℕ, zero, suc, _+_, _-_, _≤_, _<_, min}
+use Prim.Native.Nat.{ℕ, zero, suc, _+_, _-_, _*_, _%_, _≤_, _<_, min}
 use mathlib.Core.Path.{_≡_, refl, sym, ap, _∙_}
 use mathlib.Core.Bool.{Bool, true, false}
 use mathlib.Core.List.{List}
@@ -8,10 +8,13 @@ use native.Mathlib.Omega.{arith}
 use native.Mathlib.Decide.{ℕ-discrete, decLe}
 use lib.ListN.{length, getD, set}
 use lib.Seq.{getD-set-same, getD-set-other}
-use borrow.Author.Tests.{ne-eqb, not-true}
+use borrow.Author.Tests.{ne-eqb, not-true, ltb-true}
+use Rattle.field.specs.Inverse.{inverse}
+use Rattle.laws.specs.Sum.{sum, all}
 use Rattle.laws.specs.Standing.{Standing}
-use Rattle.laws.specs.Rules.{occurs, live, separated}
-use Rattle.laws.proofs.Sum.{and-right, true-or-false, false-by}
+use Rattle.laws.specs.Rules.{occurs, weight, live, separate, liveTerm, separated}
+use Rattle.laws.proofs.Sum.{and-right, true-or-false, false-by, keep-true, sum-last}
+use Rattle.rules.proofs.SumLaws.{sum-grows}
 use Rattle.rules.specs.View.{coefIn, boundIn, markIn, viewOf}
 use Rattle.rules.proofs.ViewLaws.{bound-within}
 use Rattle.solver.specs.Marks.{withMarks, Crowded, Equals, Among, FirstLive, FirstZero}
@@ -212,6 +215,51 @@ module _ (S : Standing) (s : ℕ) (Z : Nonzero S s) where
 
   pub zero-none : (n : ℕ) → s ≤ n → n ≤ s → FirstZero S n (n + 1)
   zero-none n a b = record { found = inl refl; lowest = λ u l m x y. below-zero (n + 1) u (omega arith) l x y }
+
+-- The sum over the unmarked signals
+
+-- a total is at most what those of 1 to s add, scaled so that k has weight 1
+pub record Added (p : ℕ) (R : ℕ → ℕ) (S : Standing) (k s total : ℕ) : Type 0 where
+  pub most : total ≤ sum (suc s) (liveTerm p R S k)
+
+pub added-start : (p : ℕ) (R : ℕ → ℕ) (S : Standing) (k s : ℕ) → Added p R S k s 0
+added-start p R S k s = record { most = omega arith }
+
+live-term : (p : ℕ) (R : ℕ → ℕ) (S : Standing) (k t : ℕ) → live R S t ≡ true → liveTerm p R S k t ≡ weight p R k t * S .bound t
+unfolding liveTerm
+live-term p R S k t e = keep-true _ _ e
+
+-- the term that the code makes
+pub term-read : (p : ℕ) (form bounds : List ℕ) (marks : List Bool) (k t scale x : ℕ) → t < length bounds → scale ≡ inverse p (getD form k 0)
+    → x ≡ getD form t 0 * scale % p * getD bounds t 0 → x ≡ weight p (coefIn form) k t * viewOf p bounds marks .bound t
+unfolding weight coefIn
+term-read p form bounds marks k t scale x h scale-is x-is = x-is ∙ rw (scale-is, bound-read p bounds marks t _ h refl) refl
+
+module _ (p : ℕ) (R : ℕ → ℕ) (S : Standing) (n s t r : ℕ) (N : Next R n s t r) (k total : ℕ) (A : Added p R S k s total) where
+  pub added-on : Added p R S k r total
+  added-on = record { most = omega (arith, A .most, sum-grows (suc s) (suc r) (liveTerm p R S k) (omega (arith, N .above, N .is))) }
+
+  module _ (e : S .marked t ≡ false) (x : ℕ) (x-is : x ≡ weight p R k t * S .bound t) where
+    sum-new : total + x ≤ sum (suc t) (liveTerm p R S k)
+    sum-new =
+        omega (
+          arith,
+          A .most,
+          sum-grows (suc s) t (liveTerm p R S k) (omega (arith, N .above)),
+          sum-last t (liveTerm p R S k),
+          live-term p R S k t (live-unmarked R S n s t r N e),
+        )
+
+    pub added-new : Added p R S k r (total + x)
+    added-new = record { most = rw (N .is) sum-new }
+
+    pub added-over : p ≤ total + x → separated p n R S k ≡ false
+    unfolding separated
+    added-over over =
+        false-by _
+        (λ f.
+        let below : sum (suc n) (liveTerm p R S k) < p = ltb-true _ _ (and-right (all (suc n) (separate p n R S k)) _ f) in
+        omega (arith, sum-new, sum-grows (suc t) (suc n) (liveTerm p R S k) (omega (arith, N .within))))
 
 -- References
 

@@ -1,9 +1,10 @@
 // Searches in the signals of one form for the digits rule: the lowest unmarked one, those that nothing separates, whether one is a reference.
 
+use field::modular::inverse;
 use rules::digits::separated;
 ghost use mathlib.Core.Path.{_≡_};
 ghost use mathlib.Core.Bool.{true, false};
-ghost use Prim.Native.Nat.{ℕ, _≤_, _<_};
+ghost use Prim.Native.Nat.{ℕ, _*_, _%_, _≤_, _<_};
 ghost use lib.ListN.{length};
 ghost use Rattle.laws.specs.Rules as rules;
 ghost use Rattle.laws.specs.Rules.{occurs};
@@ -90,6 +91,45 @@ pub(crate) fn has_equals(form: &[u32], signals: &[u32], marks: &[bool]) -> bool
     false
 }
 
+// Weight times bound, the weight being the coefficient times the scale modulo p. It leaves room for a 32-bit number more.
+fn weighed(coef: u32, scale: u32, bound: u32, p: u32) -> u64
+    requires { ⌜ 0 < p ⌝ }
+    ensures { λ r. ⌜ (r ≡ coef * scale % p * bound) × (r ≤ 18446744065119617025) ⌝ }
+{
+    coef as u64 * scale as u64 % p as u64 * bound as u64
+}
+
+// Whether weight times bound over the unmarked ones of the signals, scaled so that r has weight 1, adds up to less than p. A cheap test
+// before that of the rule.
+fn is_below<'a>(
+    form: &[u32],
+    signals: &[u32],
+    bounds: &'a [u32],
+    marks: &'a [bool],
+    p: u32,
+    r: u32,
+) -> bool
+    requires { ⌜ Below (now signals) (length (now form)) × Below (now signals) (length (now bounds))
+        × Below (now signals) (length (now marks)) × (0 < p) × (r < length (now form)) ⌝ }
+    ensures { λ b. ⌜ (b ≡ false → (n : ℕ) → SignalsOf (coefIn (now (form .entry))) n (now (signals .entry))
+        → rules.separated p n (coefIn (now (form .entry))) (viewOf p (now (bounds .entry)) (now (marks .entry))) r ≡ false) ⌝ }
+{
+    let scale = inverse(p, form[r as usize]);
+    let mut total: u64 = 0;
+    let mut i: usize = 0;
+    while i < signals.len() {
+        let s = signals[i] as usize;
+        i = i + 1;
+        if !marks[s] {
+            total = total + weighed(form[s], scale, bounds[s], p);
+            if p as u64 <= total {
+                return false;
+            }
+        }
+    }
+    true
+}
+
 // Whether one of the signals may be the reference of a digits step.
 pub(crate) fn has_reference<'a>(
     form: &[u32],
@@ -99,7 +139,8 @@ pub(crate) fn has_reference<'a>(
     n: u32,
     p: u32,
 ) -> bool
-    requires { ⌜ SignalsOf (coefIn (now form)) n (now signals) × (n ≤ 256) ⌝ }
+    requires { ⌜ SignalsOf (coefIn (now form)) n (now signals) × (n ≤ 256) × (n < length (now form)) × (n < length (now bounds))
+        × (n < length (now marks)) × (0 < p) ⌝ }
     ensures { λ b. ⌜ (b ≡ false → (r : ℕ) → 1 ≤ r → r ≤ n → occurs (coefIn (now (form .entry))) r ≡ true
         → rules.separated p n (coefIn (now (form .entry))) (viewOf p (now (bounds .entry)) (now (marks .entry))) r ≡ false) ⌝ }
 {
@@ -107,8 +148,10 @@ pub(crate) fn has_reference<'a>(
     while i < signals.len() {
         let r = signals[i];
         i = i + 1;
-        if separated(form, bounds, marks, n, p, r) {
-            return true;
+        if is_below(form, signals, bounds, marks, p, r) {
+            if separated(form, bounds, marks, n, p, r) {
+                return true;
+            }
         }
     }
     false

@@ -90,9 +90,16 @@ has-reference-requires c κs =
     let at-signals-of = c .before .before .before .before .before in
     let entry = at-signals-of .before .before .before .before .before .before .before .before .before .before in
     let s = laws.sizes (entry .pre .0) in
+    let size = row-sized _ _ (entry .pre .4) _ _ (entry .pre .0 .is-n) (entry .pre .2) _ (c .before .before .row-of .ensures) in
     let L = row-signals _ _ (entry .pre .4) _ _ (entry .pre .0 .is-n) (entry .pre .2) (entry .pre .1) _ (c .before .before .row-of .ensures) _
-    (at-signals-of .signals-of .ensures) in
-    (L, omega arith)
+    (at-signals-of .signals-of .ensures) in (
+      L,
+      omega arith,
+      omega arith,
+      omega (arith, entry .pre .0 .bounds-sized),
+      omega (arith, entry .pre .0 .marks-sized),
+      omega arith,
+    )
 
 returns-5 : tie.Need-returns-5
 returns-5 c =

@@ -7,7 +7,7 @@ use lib.ListN.{length}
 use Rattle.rules.specs.View.{coefIn, viewOf}
 use Rattle.solver.specs.Rows.{reach}
 use Rattle.laws.proofs.Sum.{true-or-false}
-use Rattle.solver.proofs.ListLaws.{next}
+use Rattle.solver.proofs.ListLaws.{next, below}
 use Rattle.solver.proofs.FormLaws as laws
 use borrow.Author.Needs.{needs}
 use Rattle.solver.proofs.references.has_reference.Statement.{statement}
@@ -15,6 +15,7 @@ use Rattle.solver.proofs.references.has_reference.Tie as tie
 use Rattle.solver.proofs.references.has_reference.Reads as reads
 use Rattle.solver.proofs.references.has_reference.Lts as lts
 use Rattle.rules.proofs.digits.separated.Reads as separated-reads
+use Rattle.solver.proofs.references.is_below.Reads as is-below-reads
 
 abbrev Inv-loop : tie.InvT-loop
 Inv-loop form signals bounds marks n p i₀ i =
@@ -36,6 +37,18 @@ shared-slice-read-r c = search needs
 add-i : tie.Need-add-i Inv-loop μ-loop
 add-i c = search needs
 
+is-below-requires : tie.Need-is-below-requires Inv-loop μ-loop
+is-below-requires c κs =
+    let at-loop-test = c .before in
+    let entry = at-loop-test .before .before .before .before .before .before in
+    let L = entry .pre .0 in (
+      below _ _ _ L _ (entry .pre .2),
+      below _ _ _ L _ (entry .pre .3),
+      below _ _ _ L _ (entry .pre .4),
+      entry .pre .5,
+      below _ _ _ L _ (entry .pre .2) .each _ (at-loop-test .loop-test .taken),
+    )
+
 separated-requires : tie.Need-separated-requires Inv-loop μ-loop
 separated-requires c κs = search needs
 
@@ -48,12 +61,25 @@ loop-less c = search needs
 
 loop-again : tie.Need-loop-again Inv-loop μ-loop
 loop-again c =
+    let at-loop-test = c .before .before .before .before .before in
+    let at-loop = at-loop-test .before in
+    let entry = at-loop .before .before .before .before .before in (
+      omega (arith, at-loop-test .loop-test .taken),
+      laws.unreferred-on _ _ _ _ _ _ _ (next _ _ _ (entry .pre .0) _ (at-loop-test .loop-test .taken)) (at-loop .loop .inv .1)
+          (sym (laws.tested _ _ _ _ _ _ (entry .pre .1) (c .before .separated .ensures)) ∙ c .if2 .left),
+    )
+
+loop-less-2 : tie.Need-loop-less-2 Inv-loop μ-loop
+loop-less-2 c = search needs
+
+loop-again-2 : tie.Need-loop-again-2 Inv-loop μ-loop
+loop-again-2 c =
     let at-loop-test = c .before .before .before in
     let at-loop = at-loop-test .before in
     let entry = at-loop .before .before .before .before .before in (
       omega (arith, at-loop-test .loop-test .taken),
       laws.unreferred-on _ _ _ _ _ _ _ (next _ _ _ (entry .pre .0) _ (at-loop-test .loop-test .taken)) (at-loop .loop .inv .1)
-          (sym (laws.tested _ _ _ _ _ _ (entry .pre .1) (c .before .separated .ensures)) ∙ c .if1 .left),
+          (c .before .is-below .ensures (c .if1 .left) _ (entry .pre .0)),
     )
 
 returns-2 : tie.Need-returns-2 Inv-loop μ-loop
@@ -72,8 +98,11 @@ has-reference-spec =
     mul-r
     shared-slice-read-r
     add-i
+    is-below-requires
     separated-requires
     returns
     loop-less
     loop-again
+    loop-less-2
+    loop-again-2
     returns-2)
