@@ -7,10 +7,9 @@ use crate::writer::{Draft, Terms};
 /// The largest prime.
 const P: u32 = 2_147_483_647;
 
-/// Every circuit of this module with its name.
+/// The large circuits of this module with their names.
 pub fn all() -> Vec<(&'static str, Vec<u8>)> {
     vec![
-        ("bits_and_long_sum", bits_and_long_sum(30)),
         ("bits_behind_decoys", bits_behind_decoys()),
         ("equal_weights", equal_weights()),
         ("different_weights", different_weights()),
