@@ -23,7 +23,7 @@ uint32_t yolqushek_mark(const uint8_t *circuit, size_t circuit_length, const uin
 uint32_t yolqushek_pair(const uint8_t *circuit, size_t circuit_length, const uint8_t *pair, size_t pair_length, uint64_t answer[5]);
 
 /* Solves a circuit and writes its derivation to output. answer: how many are marked, 1 for fixed and 0 for open, the derivation's length, 0, 0.
- * The call needs 1.1 MB of stack. */
+ * The call needs 1.2 MB of stack. */
 uint32_t yolqushek_solve(const uint8_t *circuit, size_t circuit_length, uint8_t *output, size_t output_length, uint64_t answer[5]);
 
 #ifdef __cplusplus

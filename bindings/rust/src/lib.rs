@@ -76,7 +76,7 @@ pub fn check_pair(circuit: &[u8], pair: &[u8]) -> Result<u32, Refusal> {
     Ok(result(number, answer)?[0] as u32)
 }
 
-/// Solves a circuit, writes its derivation to `output`, and answers the derivation's length too: refusals 1 to 10 and 25. Needs 1.1 MB of stack;
+/// Solves a circuit, writes its derivation to `output`, and answers the derivation's length too: refusals 1 to 10 and 25. Needs 1.2 MB of stack;
 /// a thread has 2 MB unless told otherwise.
 pub fn solve(circuit: &[u8], output: &mut [u8]) -> Result<(Marked, usize), Refusal> {
     let mut answer = [0; 5];
