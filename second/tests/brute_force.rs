@@ -4,6 +4,7 @@ mod literal;
 
 use literal::Literal;
 use second::brute::{is_small, pairs, satisfying_runs};
+use second::compose::{compose, USUAL_SIZE};
 use second::edge::{any_edge, tied};
 use second::generate::{any, small, tiny, PRIMES};
 use second::grow::grown;
@@ -15,6 +16,7 @@ use second::random::Random;
 use second::reader::Circuit;
 use second::rules::{Rules, Standing, Step};
 use second::solver::derive;
+use second::vectors::{DERIVATION, SOLVE};
 use second::{check_derivation, check_pair, read_circuit, solve, worst};
 
 fn same(literal: &literal::Standing, standing: &Standing, circuit: &Circuit) -> bool {
@@ -217,4 +219,27 @@ fn the_largest_circuit() {
         assert_eq!((read.signals, read.constraints.len()), (256, 512));
         assert_eq!(check_pair(&circuit, &write_pair(q, &first, &second)), Ok(q));
     }
+}
+
+/// The stored vectors' own circuits, where they are small: the solver's marks and bounds, and the marks of every accepted derivation.
+#[test]
+fn vectors_of_small_circuits_agree_with_all_runs() {
+    let mut held = 0;
+    for record in compose(1, USUAL_SIZE).iter().filter(|record| record.answer.number == 0 && [DERIVATION, SOLVE].contains(&record.kind)) {
+        let circuit = read_circuit(&record.circuit).unwrap();
+        if !is_small(&circuit) {
+            continue;
+        }
+        let runs = satisfying_runs(&circuit);
+        assert_sound(&circuit, &derive(&circuit).1, &runs);
+        if record.kind == DERIVATION {
+            let inputs = usize::from(circuit.inputs);
+            for two in runs.windows(2).filter(|two| two[0][..inputs] == two[1][..inputs]) {
+                let marks = record.answer.written.iter().enumerate();
+                assert!(marks.filter(|&(_, &mark)| mark == 1).all(|(at, _)| two[0][at] == two[1][at]), "{circuit:?}");
+            }
+        }
+        held += 1;
+    }
+    assert!(held > 500, "{held}");
 }
