@@ -6,28 +6,6 @@ use Rattle.pair.specs.Answer.{paperOf}
 use Rattle.exports.specs.Answers.{pairNumbers}
 use Rattle.exports.proofs.yolqushek_pair.Statement.{statement}
 use Rattle.exports.proofs.yolqushek_pair.Tie as tie
-use Rattle.exports.proofs.yolqushek_pair.Reads as reads
-use Rattle.exports.proofs.yolqushek_pair.Lts as lts
-use Rattle.exports.proofs.fill.Reads as fill-reads
-use Rattle.pair.proofs.check_pair.Reads as check-pair-reads
-
-check-pair-requires : tie.Need-check-pair-requires
-check-pair-requires c κs = search needs
-
-enum-known-result : tie.Need-enum-known-result
-enum-known-result c = search needs
-
-fill-requires : tie.Need-fill-requires
-fill-requires c κs = search needs
-
-enum-known-result-2 : tie.Need-enum-known-result-2
-enum-known-result-2 c = search needs
-
-cast-fill : tie.Need-cast-fill
-cast-fill c = search needs
-
-fill-requires-2 : tie.Need-fill-requires-2
-fill-requires-2 c κs = search needs
 
 returns : tie.Need-returns
 returns c =
@@ -45,11 +23,6 @@ pub yolqushek-pair-spec : {M : Type 1} → statement M
 yolqushek-pair-spec =
     tie.close
     (tie.spec
-    check-pair-requires
-    enum-known-result
-    fill-requires
-    enum-known-result-2
-    cast-fill
-    fill-requires-2
+    (λ c κs. search needs) (λ c. search needs) (λ c κs. search needs) (λ c. search needs) (λ c. search needs) (λ c κs. search needs)
     returns
     returns-2)

@@ -13,8 +13,5 @@ mul-result c =
     let v : c .args .v ≤ 4294967295 = omega arith in
     omega (arith, mul-le-mul p v)
 
-returns : tie.Need-returns
-returns c = search needs
-
 pub at-most-spec : {M : Type 1} → statement M
-at-most-spec = tie.close (tie.spec mul-result returns)
+at-most-spec = tie.close (tie.spec mul-result (λ c. search needs))

@@ -9,36 +9,19 @@ use Rattle.field.proofs.Prime.{high-not}
 use Rattle.field.proofs.is_odd_prime.Statement.{statement}
 use Rattle.field.proofs.is_odd_prime.Tie as tie
 
-slice-aggregate-odd-prime-by : tie.Need-slice-aggregate-odd-prime-by
-slice-aggregate-odd-prime-by c = search needs
-
-slice-aggregate-odd-prime-by-2 : tie.Need-slice-aggregate-odd-prime-by-2
-slice-aggregate-odd-prime-by-2 c = search needs
-
 odd-prime-by-requires : tie.Need-odd-prime-by-requires
 unfolding complete noDivisor trial paired
 odd-prime-by-requires c κs = (omega arith, record { count = 514; all = refl; past = omega arith }, refl)
 
-returns : tie.Need-returns
-returns c = search needs
-
 returns-2 : tie.Need-returns-2
 returns-2 c = sym (high-not _ (omega arith) (c .if2 .taken))
-
-large-odd-prime-requires : tie.Need-large-odd-prime-requires
-large-odd-prime-requires c κs = search needs
-
-returns-3 : tie.Need-returns-3
-returns-3 c = search needs
 
 pub is-odd-prime-spec : {M : Type 1} → statement M
 is-odd-prime-spec =
     tie.close
     (tie.spec
-    slice-aggregate-odd-prime-by
-    slice-aggregate-odd-prime-by-2
+    (λ c. search needs) (λ c. search needs)
     odd-prime-by-requires
-    returns
+    (λ c. search needs)
     returns-2
-    large-odd-prime-requires
-    returns-3)
+    (λ c κs. search needs) (λ c. search needs))

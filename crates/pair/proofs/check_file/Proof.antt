@@ -9,15 +9,9 @@ use Rattle.pair.proofs.check_file.Tie as tie
 returns : tie.Need-returns
 returns c = laws.file-short _ _ _ _ _ (c .if1 .taken)
 
-has-mark-requires : tie.Need-has-mark-requires
-has-mark-requires c κs = search needs
-
 returns-2 : tie.Need-returns-2
 returns-2 c =
     laws.file-mark _ _ _ _ _ (c .before .before .if1 .left) (sym (c .before .has-mark .ensures) ∙ not-true _ (c .if2 .taken))
-
-u16-at-requires : tie.Need-u16-at-requires
-u16-at-requires c κs = search needs
 
 returns-3 : tie.Need-returns-3
 returns-3 c =
@@ -25,21 +19,12 @@ returns-3 c =
     laws.file-version _ _ _ _ _ (h .before .before .if1 .left) (sym (h .before .has-mark .ensures) ∙ not-false _ (h .if2 .left))
     (λ e. c .if3 .taken (c .before .u16-at .ensures .0 ∙ e))
 
-mul-if4 : tie.Need-mul-if4
-mul-if4 c = search needs
-
-add-if4 : tie.Need-add-if4
-add-if4 c = search needs
-
 returns-4 : tie.Need-returns-4
 returns-4 c =
     let v = c .before in
     laws.file-length _ _ _ _ _ (v .before .before .before .before .if1 .left)
     (sym (v .before .before .before .has-mark .ensures) ∙ not-false _ (v .before .before .if2 .left))
     (sym (v .before .u16-at .ensures .0) ∙ v .if3 .left) (c .if4 .taken)
-
-u16-at-requires-2 : tie.Need-u16-at-requires-2
-u16-at-requires-2 c κs = search needs
 
 returns-5 : tie.Need-returns-5
 returns-5 c =
@@ -49,9 +34,6 @@ returns-5 c =
     (sym (v .before .u16-at .ensures .0) ∙ v .if3 .left)
     (c .before .before .if4 .left) _ (c .before .u16-at2 .ensures .0) (c .if5 .taken)
 
-add-if6 : tie.Need-add-if6
-add-if6 c = search needs
-
 returns-6 : tie.Need-returns-6
 returns-6 c =
     let v = c .before .before .before .before in
@@ -59,12 +41,6 @@ returns-6 c =
     (sym (v .before .before .before .has-mark .ensures) ∙ not-false _ (v .before .before .if2 .left))
     (sym (v .before .u16-at .ensures .0) ∙ v .if3 .left)
     (c .before .before .before .if4 .left) _ (c .before .before .u16-at2 .ensures .0) (c .before .if5 .left) (c .if6 .taken)
-
-mul-first-large : tie.Need-mul-first-large
-mul-first-large c = search needs
-
-first-large-requires : tie.Need-first-large-requires
-first-large-requires c κs = search needs
 
 returns-7 : tie.Need-returns-7
 returns-7 c =
@@ -91,18 +67,16 @@ check-file-spec =
     tie.close
     (tie.spec
     returns
-    has-mark-requires
+    (λ c κs. search needs)
     returns-2
-    u16-at-requires
+    (λ c κs. search needs)
     returns-3
-    mul-if4
-    add-if4
+    (λ c. search needs) (λ c. search needs)
     returns-4
-    u16-at-requires-2
+    (λ c κs. search needs)
     returns-5
-    add-if6
+    (λ c. search needs)
     returns-6
-    mul-first-large
-    first-large-requires
+    (λ c. search needs) (λ c κs. search needs)
     returns-7
     returns-8)

@@ -10,26 +10,11 @@ use Rattle.pair.proofs.Exact.{exactly}
 use Rattle.pair.proofs.check_pair.Statement.{statement}
 use Rattle.pair.proofs.check_pair.Tie as tie
 
-check-circuit-requires : tie.Need-check-circuit-requires
-check-circuit-requires c κs = search needs
-
-enum-known-sizes : tie.Need-enum-known-sizes
-enum-known-sizes c = search needs
-
-enum-known-sizes-2 : tie.Need-enum-known-sizes-2
-enum-known-sizes-2 c = search needs
-
 check-file-requires : tie.Need-check-file-requires
 check-file-requires c κs =
     let z = c .before in
     let known = laws.read-sizes _ _ _ _ _ _ _ (ap circuit.paperOf (z .sizes2 .given .1)) (z .before .before .check-circuit .ensures) in
     (known .n-most, known .fits)
-
-enum-known-file : tie.Need-enum-known-file
-enum-known-file c = search needs
-
-enum-told : tie.Need-enum-told
-enum-told c = search needs
 
 returns : tie.Need-returns
 returns c =
@@ -49,9 +34,6 @@ part-check-runs-start c =
     let z = c .before .before .before .before .before in
     let known = laws.read-sizes _ _ _ _ _ _ _ (ap circuit.paperOf (z .sizes2 .given .1)) (z .before .before .check-circuit .ensures) in
     known .long
-
-part-check-runs-end : tie.Need-part-check-runs-end
-part-check-runs-end c = search needs
 
 check-runs-requires : tie.Need-check-runs-requires
 check-runs-requires c κs =
@@ -82,16 +64,13 @@ pub check-pair-spec : {M : Type 1} → statement M
 check-pair-spec =
     tie.close
     (tie.spec
-    check-circuit-requires
-    enum-known-sizes
-    enum-known-sizes-2
+    (λ c κs. search needs) (λ c. search needs) (λ c. search needs)
     check-file-requires
-    enum-known-file
-    enum-told
+    (λ c. search needs) (λ c. search needs)
     returns
     sub-check-runs
     part-check-runs-start
-    part-check-runs-end
+    (λ c. search needs)
     check-runs-requires
     returns-2
     returns-3)

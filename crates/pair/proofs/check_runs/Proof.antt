@@ -6,31 +6,10 @@ use Rattle.pair.proofs.CallLaws as laws
 use Rattle.pair.proofs.check_runs.Statement.{statement}
 use Rattle.pair.proofs.check_runs.Tie as tie
 
-copy-run-requires : tie.Need-copy-run-requires
-copy-run-requires c κs = search needs
-
-copy-run-requires-2 : tie.Need-copy-run-requires-2
-copy-run-requires-2 c κs = search needs
-
-slice-aggregate-first-unsatisfied : tie.Need-slice-aggregate-first-unsatisfied
-slice-aggregate-first-unsatisfied c = search needs
-
-first-unsatisfied-requires : tie.Need-first-unsatisfied-requires
-first-unsatisfied-requires c κs = search needs
-
 returns : tie.Need-returns
 returns c =
     laws.runs-first _ _ _ _ _ _ _ _ (c .before .first-unsatisfied .ensures .0) (c .if1 .taken)
     ∙ laws.runs-known _ _ _ _ _ _ _ _ _ (c .before .before .before .before .copy-run .ensures) (c .before .before .before .copy-run2 .ensures)
-
-slice-aggregate-first-unsatisfied-2 : tie.Need-slice-aggregate-first-unsatisfied-2
-slice-aggregate-first-unsatisfied-2 c = search needs
-
-first-unsatisfied-requires-2 : tie.Need-first-unsatisfied-requires-2
-first-unsatisfied-requires-2 c κs = search needs
-
-add-t23 : tie.Need-add-t23
-add-t23 c = search needs
 
 returns-2 : tie.Need-returns-2
 returns-2 c =
@@ -39,9 +18,6 @@ returns-2 c =
     _ (c .before .first-unsatisfied2 .ensures .0) (c .if2 .taken)
     ∙ laws.runs-known _ _ _ _ _ _ _ _ _ (v .before .before .before .before .copy-run .ensures) (v .before .before .before .copy-run2 .ensures)
 
-first-difference-requires : tie.Need-first-difference-requires
-first-difference-requires c κs = search needs
-
 returns-3 : tie.Need-returns-3
 returns-3 c =
     let w = c .before .before .before .before in
@@ -49,18 +25,6 @@ returns-3 c =
     laws.runs-input _ _ _ _ _ _ _ (sym (v .before .first-unsatisfied .ensures .0) ∙ v .if1 .left)
     (sym (w .before .first-unsatisfied2 .ensures .0) ∙ w .if2 .left) _ (c .before .first-difference .ensures) (c .if3 .taken)
     ∙ laws.runs-known _ _ _ _ _ _ _ _ _ (v .before .before .before .before .copy-run .ensures) (v .before .before .before .copy-run2 .ensures)
-
-mul-if4 : tie.Need-mul-if4
-mul-if4 c = search needs
-
-array-read-if4 : tie.Need-array-read-if4
-array-read-if4 c = search needs
-
-mul-if4-2 : tie.Need-mul-if4-2
-mul-if4-2 c = search needs
-
-array-read-if4-2 : tie.Need-array-read-if4-2
-array-read-if4-2 c = search needs
 
 returns-4 : tie.Need-returns-4
 unfolding valuesIn
@@ -86,20 +50,12 @@ pub check-runs-spec : {M : Type 1} → statement M
 check-runs-spec =
     tie.close
     (tie.spec
-    copy-run-requires
-    copy-run-requires-2
-    slice-aggregate-first-unsatisfied
-    first-unsatisfied-requires
+    (λ c κs. search needs) (λ c κs. search needs) (λ c. search needs) (λ c κs. search needs)
     returns
-    slice-aggregate-first-unsatisfied-2
-    first-unsatisfied-requires-2
-    add-t23
+    (λ c. search needs) (λ c κs. search needs) (λ c. search needs)
     returns-2
-    first-difference-requires
+    (λ c κs. search needs)
     returns-3
-    mul-if4
-    array-read-if4
-    mul-if4-2
-    array-read-if4-2
+    (λ c. search needs) (λ c. search needs) (λ c. search needs) (λ c. search needs)
     returns-4
     returns-5)

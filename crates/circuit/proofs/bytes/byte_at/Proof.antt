@@ -5,12 +5,6 @@ use Rattle.circuit.specs.Bytes.{byteAt}
 use Rattle.circuit.proofs.ByteLaws.{byte-past}
 use Rattle.circuit.proofs.bytes.byte_at.Statement.{statement}
 use Rattle.circuit.proofs.bytes.byte_at.Tie as tie
-use Rattle.circuit.proofs.bytes.byte_at.Reads as reads
-use Rattle.circuit.proofs.bytes.byte_at.Lts as lts
-
--- src/bytes.rt:10:23
-shared-slice-read-result : tie.Need-shared-slice-read-result
-shared-slice-read-result c = search needs
 
 -- src/bytes.rt:10:23
 cast-result : tie.Need-cast-result
@@ -26,4 +20,4 @@ returns-2 : tie.Need-returns-2
 returns-2 c = (sym (byte-past _ _ (c .if1 .left)), omega arith)
 
 pub byte-at-spec : {M : Type 1} → statement M
-byte-at-spec = tie.close (tie.spec shared-slice-read-result cast-result returns returns-2)
+byte-at-spec = tie.close (tie.spec (λ c. search needs) cast-result returns returns-2)

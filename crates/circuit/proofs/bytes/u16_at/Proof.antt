@@ -6,33 +6,10 @@ use Rattle.circuit.specs.Bytes.{u16At}
 use Rattle.circuit.proofs.ByteLaws.{u16-past}
 use Rattle.circuit.proofs.bytes.u16_at.Statement.{statement}
 use Rattle.circuit.proofs.bytes.u16_at.Tie as tie
-use Rattle.circuit.proofs.bytes.u16_at.Reads as reads
-use Rattle.circuit.proofs.bytes.u16_at.Lts as lts
-use Rattle.circuit.proofs.bytes.byte_at.Reads as byte-at-reads
 
 -- src/bytes.rt:17:9
 returns : tie.Need-returns
 returns c = (sym (u16-past _ _ (c .if1 .taken)), omega arith)
-
--- src/bytes.rt:19:5
-byte-at-requires : tie.Need-byte-at-requires
-byte-at-requires c κs = search needs
-
--- src/bytes.rt:19:39
-add-byte-at : tie.Need-add-byte-at
-add-byte-at c = search needs
-
--- src/bytes.rt:19:28
-byte-at-requires-2 : tie.Need-byte-at-requires-2
-byte-at-requires-2 c κs = search needs
-
--- src/bytes.rt:19:22
-mul-result : tie.Need-mul-result
-mul-result c = search needs
-
--- src/bytes.rt:19:5
-add-result : tie.Need-add-result
-add-result c = search needs
 
 -- src/bytes.rt:13:1
 returns-2 : tie.Need-returns-2
@@ -44,9 +21,5 @@ u16-at-spec =
     tie.close
     (tie.spec
     returns
-    byte-at-requires
-    add-byte-at
-    byte-at-requires-2
-    mul-result
-    add-result
+    (λ c κs. search needs) (λ c. search needs) (λ c κs. search needs) (λ c. search needs) (λ c. search needs)
     returns-2)

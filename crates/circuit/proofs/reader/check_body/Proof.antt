@@ -11,11 +11,6 @@ use Rattle.circuit.proofs.ReaderLaws as laws
 use Rattle.circuit.proofs.BodyLaws as body
 use Rattle.circuit.proofs.reader.check_body.Statement.{statement}
 use Rattle.circuit.proofs.reader.check_body.Tie as tie
-use Rattle.circuit.proofs.reader.check_body.Reads as reads
-use Rattle.circuit.proofs.reader.check_body.Lts as lts
-use Rattle.circuit.proofs.reader.after_constraint.Reads as after-constraint-reads
-use Rattle.circuit.proofs.reader.check_constraint.Reads as check-constraint-reads
-use Rattle.circuit.proofs.reader.shifted.Reads as shifted-reads
 
 abbrev Inv-loop : tie.InvT-loop
 Inv-loop s n p m rest₀ at₀ left₀ rest at left =
@@ -24,20 +19,8 @@ Inv-loop s n p m rest₀ at₀ left₀ rest at left =
 abbrev μ-loop : tie.MeasureT-loop
 μ-loop s n p m rest₀ at₀ left₀ rest at left = left
 
-sub-rest : tie.Need-sub-rest Inv-loop μ-loop
-sub-rest c = search needs
-
-part-rest-start : tie.Need-part-rest-start Inv-loop μ-loop
-part-rest-start c = search needs
-
-part-rest-end : tie.Need-part-rest-end Inv-loop μ-loop
-part-rest-end c = search needs
-
 loop-holds : tie.Need-loop-holds Inv-loop μ-loop
 loop-holds c = (c .before .before .pre, laws.part-drop (c .before .before .args .s .now) 17 (c .before .before .pre), body.body-start _ _ _ _)
-
-check-constraint-requires : tie.Need-check-constraint-requires Inv-loop μ-loop
-check-constraint-requires c κs = search needs
 
 shifted-requires : tie.Need-shifted-requires Inv-loop μ-loop
 shifted-requires c κs =
@@ -47,12 +30,6 @@ shifted-requires c κs =
     (foundOf (c .check-constraint .result)) (c .check-constraint .ensures)
     in
     omega (arith, near)
-
-enum-known-found : tie.Need-enum-known-found Inv-loop μ-loop
-enum-known-found c = search needs
-
-enum-told : tie.Need-enum-told Inv-loop μ-loop
-enum-told c = search needs
 
 returns : tie.Need-returns Inv-loop μ-loop
 returns c =
@@ -64,12 +41,6 @@ returns c =
     ∙ body.body-fault _ _ _ _ _ _ (c5 .loop .inv .2) (c4 .loop-test .taken) _ _
     (body.rest-read _ _ _ _ (c5 .loop .inv .0) _ (c5 .loop .inv .1) _ _ (c3 .check-constraint .ensures)
     (sym told ∙ c .before .before .shifted .ensures))
-
-after-constraint-requires : tie.Need-after-constraint-requires Inv-loop μ-loop
-after-constraint-requires c κs = search needs
-
-sub-left : tie.Need-sub-left Inv-loop μ-loop
-sub-left c = search needs
 
 loop-less : tie.Need-loop-less Inv-loop μ-loop
 loop-less c = omega arith
@@ -108,17 +79,13 @@ check-body-spec =
     (tie.spec
     Inv-loop
     μ-loop
-    sub-rest
-    part-rest-start
-    part-rest-end
+    (λ c. search needs) (λ c. search needs) (λ c. search needs)
     loop-holds
-    check-constraint-requires
+    (λ c κs. search needs)
     shifted-requires
-    enum-known-found
-    enum-told
+    (λ c. search needs) (λ c. search needs)
     returns
-    after-constraint-requires
-    sub-left
+    (λ c κs. search needs) (λ c. search needs)
     loop-less
     loop-again
     returns-2

@@ -8,14 +8,6 @@ use Rattle.circuit.specs.Answer.{foundOf}
 use Rattle.circuit.proofs.HeaderLaws as laws
 use Rattle.circuit.proofs.reader.check_circuit.Statement.{statement}
 use Rattle.circuit.proofs.reader.check_circuit.Tie as tie
-use Rattle.circuit.proofs.reader.check_circuit.Reads as reads
-use Rattle.circuit.proofs.reader.check_circuit.Lts as lts
-use Rattle.circuit.proofs.bytes.u16_at.Reads as u16-at-reads
-use Rattle.circuit.proofs.bytes.u32_at.Reads as u32-at-reads
-use Rattle.circuit.proofs.reader.check_body.Reads as check-body-reads
-use Rattle.circuit.proofs.reader.fits.Reads as fits-reads
-use Rattle.circuit.proofs.reader.has_mark.Reads as has-mark-reads
-use Rattle.field.proofs.is_odd_prime.Reads as is-odd-prime-reads
 
 returns : tie.Need-returns
 returns c = laws.call-short _ (c .if1 .taken)
@@ -35,16 +27,10 @@ headed c =
       prime = sym (c .before .is-odd-prime .ensures ∙ ap oddPrime (c .before .before .u32-at .ensures)) ∙ not-false _ (c .if5 .left);
     }
 
-has-mark-requires : tie.Need-has-mark-requires
-has-mark-requires c κs = search needs
-
 returns-3 : tie.Need-returns-3
 returns-3 c =
     laws.call-mark _ (c .before .before .before .if1 .left) (c .before .before .if2 .left)
     (sym (c .before .has-mark .ensures) ∙ not-true _ (c .if3 .taken))
-
-u16-at-requires : tie.Need-u16-at-requires
-u16-at-requires c κs = search needs
 
 returns-4 : tie.Need-returns-4
 returns-4 c =
@@ -54,12 +40,6 @@ returns-4 c =
     (sym (h .has-mark .ensures) ∙ not-false _ (c .before .before .if3 .left))
     (λ e. c .if4 .taken (c .before .u16-at .ensures .0 ∙ e))
 
-u32-at-requires : tie.Need-u32-at-requires
-u32-at-requires c κs = search needs
-
-is-odd-prime-requires : tie.Need-is-odd-prime-requires
-is-odd-prime-requires c κs = search needs
-
 returns-5 : tie.Need-returns-5
 returns-5 c =
     let h = c .before .before .before .before .before .before in
@@ -67,21 +47,6 @@ returns-5 c =
     (sym (h .has-mark .ensures) ∙ not-false _ (c .before .before .before .before .before .if3 .left))
     (sym (c .before .before .before .before .u16-at .ensures .0) ∙ c .before .before .before .if4 .left)
     (sym (c .before .is-odd-prime .ensures ∙ ap oddPrime (c .before .before .u32-at .ensures)) ∙ not-true _ (c .if5 .taken))
-
-u16-at-requires-2 : tie.Need-u16-at-requires-2
-u16-at-requires-2 c κs = search needs
-
-u16-at-requires-3 : tie.Need-u16-at-requires-3
-u16-at-requires-3 c κs = search needs
-
-u16-at-requires-4 : tie.Need-u16-at-requires-4
-u16-at-requires-4 c κs = search needs
-
-u16-at-requires-5 : tie.Need-u16-at-requires-5
-u16-at-requires-5 c κs = search needs
-
-fits-requires : tie.Need-fits-requires
-fits-requires c κs = search needs
 
 returns-6 : tie.Need-returns-6
 returns-6 c =
@@ -94,15 +59,6 @@ returns-6 c =
       ← (m .u16-at5 .ensures .0),
     )
     (sym (c .before .fits2 .ensures) ∙ not-true _ (c .if6 .taken)))
-
-check-body-requires : tie.Need-check-body-requires
-check-body-requires c κs = search needs
-
-enum-told : tie.Need-enum-told
-enum-told c = search needs
-
-enum-known-body : tie.Need-enum-known-body
-enum-known-body c = search needs
 
 returns-7 : tie.Need-returns-7
 returns-7 c =
@@ -152,21 +108,14 @@ check-circuit-spec =
     (tie.spec
     returns
     returns-2
-    has-mark-requires
+    (λ c κs. search needs)
     returns-3
-    u16-at-requires
+    (λ c κs. search needs)
     returns-4
-    u32-at-requires
-    is-odd-prime-requires
+    (λ c κs. search needs) (λ c κs. search needs)
     returns-5
-    u16-at-requires-2
-    u16-at-requires-3
-    u16-at-requires-4
-    u16-at-requires-5
-    fits-requires
+    (λ c κs. search needs) (λ c κs. search needs) (λ c κs. search needs) (λ c κs. search needs) (λ c κs. search needs)
     returns-6
-    check-body-requires
-    enum-told
-    enum-known-body
+    (λ c κs. search needs) (λ c. search needs) (λ c. search needs)
     returns-7
     returns-8)

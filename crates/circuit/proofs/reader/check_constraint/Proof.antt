@@ -5,18 +5,6 @@ use Rattle.circuit.specs.Answer.{foundOf}
 use Rattle.circuit.proofs.ReaderLaws as laws
 use Rattle.circuit.proofs.reader.check_constraint.Statement.{statement}
 use Rattle.circuit.proofs.reader.check_constraint.Tie as tie
-use Rattle.circuit.proofs.reader.check_constraint.Reads as reads
-use Rattle.circuit.proofs.reader.check_constraint.Lts as lts
-use Rattle.circuit.proofs.reader.check_form_at.Reads as check-form-at-reads
-
-check-form-at-requires : tie.Need-check-form-at-requires
-check-form-at-requires c κs = search needs
-
-enum-known-a : tie.Need-enum-known-a
-enum-known-a c = search needs
-
-enum-told : tie.Need-enum-told
-enum-told c = search needs
 
 returns : tie.Need-returns
 returns c =
@@ -25,12 +13,6 @@ returns c =
 
 check-form-at-requires-2 : tie.Need-check-form-at-requires-2
 check-form-at-requires-2 c κs = rw (ap foundOf (c .before .a .given .1)) at (c .before .before .before .check-form-at .ensures .1)
-
-enum-known-b : tie.Need-enum-known-b
-enum-known-b c = search needs
-
-enum-told-2 : tie.Need-enum-told-2
-enum-told-2 c = search needs
 
 returns-2 : tie.Need-returns-2
 returns-2 c =
@@ -59,13 +41,10 @@ pub check-constraint-spec : {M : Type 1} → statement M
 check-constraint-spec =
     tie.close
     (tie.spec
-    check-form-at-requires
-    enum-known-a
-    enum-told
+    (λ c κs. search needs) (λ c. search needs) (λ c. search needs)
     returns
     check-form-at-requires-2
-    enum-known-b
-    enum-told-2
+    (λ c. search needs) (λ c. search needs)
     returns-2
     check-form-at-requires-3
     returns-3)

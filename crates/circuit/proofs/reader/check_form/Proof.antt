@@ -10,11 +10,6 @@ use Rattle.circuit.specs.Reader.{readForm}
 use Rattle.circuit.proofs.ReaderLaws as laws
 use Rattle.circuit.proofs.reader.check_form.Statement.{statement}
 use Rattle.circuit.proofs.reader.check_form.Tie as tie
-use Rattle.circuit.proofs.reader.check_form.Reads as reads
-use Rattle.circuit.proofs.reader.check_form.Lts as lts
-use Rattle.circuit.proofs.bytes.byte_at.Reads as byte-at-reads
-use Rattle.circuit.proofs.bytes.u16_at.Reads as u16-at-reads
-use Rattle.circuit.proofs.bytes.u32_at.Reads as u32-at-reads
 
 abbrev Inv-loop : tie.InvT-loop
 Inv-loop part n p count left₀ at₀ least₀ left at least =
@@ -26,23 +21,14 @@ abbrev μ-loop : tie.MeasureT-loop
 returns : tie.Need-returns Inv-loop μ-loop
 returns c = laws.form-none _ _ _ (c .if1 .taken)
 
-byte-at-requires : tie.Need-byte-at-requires Inv-loop μ-loop
-byte-at-requires c κs = search needs
-
 returns-2 : tie.Need-returns-2 Inv-loop μ-loop
 returns-2 c = laws.form-long _ _ _ _ (c .before .byte-at .ensures .0) (c .before .before .if1 .left) (c .if2 .taken)
 
 loop-holds : tie.Need-loop-holds Inv-loop μ-loop
 loop-holds c = (omega arith, omega arith, laws.form-open _ _ _ _ (c .before .byte-at .ensures .0) (c .before .before .if1 .left) (c .if2 .left))
 
-sub-if3 : tie.Need-sub-if3 Inv-loop μ-loop
-sub-if3 c = search needs
-
 returns-3 : tie.Need-returns-3 Inv-loop μ-loop
 returns-3 c = laws.term-short _ _ _ _ _ _ _ (c .before .before .loop .inv .2) (c .before .loop-test .taken) (c .if3 .taken)
-
-u16-at-requires : tie.Need-u16-at-requires Inv-loop μ-loop
-u16-at-requires c κs = search needs
 
 returns-4 : tie.Need-returns-4 Inv-loop μ-loop
 returns-4 c =
@@ -57,12 +43,6 @@ returns-5 c =
     let c5 = c4 .before in
     laws.term-unsorted _ _ _ _ _ _ _ (c5 .loop .inv .2) (c4 .loop-test .taken) (c3 .if3 .left) (omega arith) (omega arith)
 
-add-u32-at : tie.Need-add-u32-at Inv-loop μ-loop
-add-u32-at c = search needs
-
-u32-at-requires : tie.Need-u32-at-requires Inv-loop μ-loop
-u32-at-requires c κs = search needs
-
 returns-6 : tie.Need-returns-6 Inv-loop μ-loop
 returns-6 c =
     let c5 = c .before .before .before .before .before in
@@ -76,18 +56,6 @@ returns-7 c =
     let c7 = c6 .before in
     let c8 = c7 .before in
     laws.term-large _ _ _ _ _ _ _ (c8 .loop .inv .2) (c7 .loop-test .taken) (c6 .if3 .left) (omega arith) (omega arith) (omega arith) (omega arith)
-
-add-least : tie.Need-add-least Inv-loop μ-loop
-add-least c = search needs
-
-add-at : tie.Need-add-at Inv-loop μ-loop
-add-at c = search needs
-
-sub-left : tie.Need-sub-left Inv-loop μ-loop
-sub-left c = search needs
-
-loop-less : tie.Need-loop-less Inv-loop μ-loop
-loop-less c = search needs
 
 loop-again : tie.Need-loop-again Inv-loop μ-loop
 loop-again c =
@@ -111,21 +79,17 @@ check-form-spec =
     Inv-loop
     μ-loop
     returns
-    byte-at-requires
+    (λ c κs. search needs)
     returns-2
     loop-holds
-    sub-if3
+    (λ c. search needs)
     returns-3
-    u16-at-requires
+    (λ c κs. search needs)
     returns-4
     returns-5
-    add-u32-at
-    u32-at-requires
+    (λ c. search needs) (λ c κs. search needs)
     returns-6
     returns-7
-    add-least
-    add-at
-    sub-left
-    loop-less
+    (λ c. search needs) (λ c. search needs) (λ c. search needs) (λ c. search needs)
     loop-again
     returns-8)

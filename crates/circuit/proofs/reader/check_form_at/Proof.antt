@@ -7,22 +7,6 @@ use Rattle.circuit.specs.Answer.{foundOf}
 use Rattle.circuit.proofs.ReaderLaws as laws
 use Rattle.circuit.proofs.reader.check_form_at.Statement.{statement}
 use Rattle.circuit.proofs.reader.check_form_at.Tie as tie
-use Rattle.circuit.proofs.reader.check_form_at.Reads as reads
-use Rattle.circuit.proofs.reader.check_form_at.Lts as lts
-use Rattle.circuit.proofs.reader.check_form.Reads as check-form-reads
-use Rattle.circuit.proofs.reader.shifted.Reads as shifted-reads
-
-sub-check-form : tie.Need-sub-check-form
-sub-check-form c = search needs
-
-part-check-form-start : tie.Need-part-check-form-start
-part-check-form-start c = search needs
-
-part-check-form-end : tie.Need-part-check-form-end
-part-check-form-end c = search needs
-
-check-form-requires : tie.Need-check-form-requires
-check-form-requires c κs = search needs
 
 shifted-requires : tie.Need-shifted-requires
 shifted-requires c κs =
@@ -43,9 +27,6 @@ pub check-form-at-spec : {M : Type 1} → statement M
 check-form-at-spec =
     tie.close
     (tie.spec
-    sub-check-form
-    part-check-form-start
-    part-check-form-end
-    check-form-requires
+    (λ c. search needs) (λ c. search needs) (λ c. search needs) (λ c κs. search needs)
     shifted-requires
     returns)

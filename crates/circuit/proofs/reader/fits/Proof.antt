@@ -3,8 +3,6 @@ use borrow.Author.Needs.{needs}
 use Rattle.circuit.proofs.HeaderLaws as laws
 use Rattle.circuit.proofs.reader.fits.Statement.{statement}
 use Rattle.circuit.proofs.reader.fits.Tie as tie
-use Rattle.circuit.proofs.reader.fits.Reads as reads
-use Rattle.circuit.proofs.reader.fits.Lts as lts
 
 returns : tie.Need-returns
 returns c = laws.fit-none _ _ _ _ (c .if1 .taken)
@@ -15,9 +13,6 @@ returns-2 c = laws.fit-many _ _ _ _ (c .before .if1 .left) (c .if2 .taken)
 returns-3 : tie.Need-returns-3
 returns-3 c = laws.fit-outputs _ _ _ _ (c .before .before .if1 .left) (c .before .if2 .left) (c .if3 .taken)
 
-add-if4 : tie.Need-add-if4
-add-if4 c = search needs
-
 returns-4 : tie.Need-returns-4
 returns-4 c = laws.fit-signals _ _ _ _ (c .before .before .before .if1 .left) (c .before .before .if2 .left) (c .before .if3 .left) (c .if4 .taken)
 
@@ -25,4 +20,4 @@ returns-5 : tie.Need-returns-5
 returns-5 c = laws.fit-constraints _ _ _ _ (c .before .before .before .if1 .left) (c .before .before .if2 .left) (c .before .if3 .left) (c .if4 .left)
 
 pub fits-spec : {M : Type 1} → statement M
-fits-spec = tie.close (tie.spec returns returns-2 returns-3 add-if4 returns-4 returns-5)
+fits-spec = tie.close (tie.spec returns returns-2 returns-3 (λ c. search needs) returns-4 returns-5)

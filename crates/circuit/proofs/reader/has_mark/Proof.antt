@@ -3,26 +3,14 @@ use borrow.Author.Needs.{needs}
 use Rattle.circuit.proofs.HeaderLaws as laws
 use Rattle.circuit.proofs.reader.has_mark.Statement.{statement}
 use Rattle.circuit.proofs.reader.has_mark.Tie as tie
-use Rattle.circuit.proofs.reader.has_mark.Reads as reads
-use Rattle.circuit.proofs.reader.has_mark.Lts as lts
-use Rattle.circuit.proofs.bytes.byte_at.Reads as byte-at-reads
-
-byte-at-requires : tie.Need-byte-at-requires
-byte-at-requires c κs = search needs
 
 returns : tie.Need-returns
 returns c = laws.mark-first _ _ _ (c .before .byte-at .ensures .0) (c .if1 .taken)
-
-byte-at-requires-2 : tie.Need-byte-at-requires-2
-byte-at-requires-2 c κs = search needs
 
 returns-2 : tie.Need-returns-2
 returns-2 c =
     let c3 = c .before .before .before in
     laws.mark-second _ _ _ (c3 .byte-at .ensures .0) _ (c .before .byte-at2 .ensures .0) (c .before .before .if1 .left) (c .if2 .taken)
-
-byte-at-requires-3 : tie.Need-byte-at-requires-3
-byte-at-requires-3 c κs = search needs
 
 returns-3 : tie.Need-returns-3
 returns-3 c =
@@ -34,4 +22,4 @@ returns-3 c =
 pub has-mark-spec : {M : Type 1} → statement M
 has-mark-spec =
     tie.close
-    (tie.spec byte-at-requires returns byte-at-requires-2 returns-2 byte-at-requires-3 returns-3)
+    (tie.spec (λ c κs. search needs) returns (λ c κs. search needs) returns-2 (λ c κs. search needs) returns-3)

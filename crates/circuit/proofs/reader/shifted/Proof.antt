@@ -6,17 +6,9 @@ use Rattle.circuit.specs.Reading.{extent, further}
 use Rattle.circuit.specs.Answer.{foundOf}
 use Rattle.circuit.proofs.reader.shifted.Statement.{statement}
 use Rattle.circuit.proofs.reader.shifted.Tie as tie
-use Rattle.circuit.proofs.reader.shifted.Reads as reads
-use Rattle.circuit.proofs.reader.shifted.Lts as lts
-
-enum-known-found : tie.Need-enum-known-found
-enum-known-found c = search needs
 
 add-t7 : tie.Need-add-t7
 add-t7 c = let h = rw (c .before .found .given .1) at (c .before .before .before .pre) in omega (arith, h)
-
-enum-known-found-2 : tie.Need-enum-known-found-2
-enum-known-found-2 c = search needs
 
 add-t8 : tie.Need-add-t8
 add-t8 c = let h = rw (c .before .found2 .given .1) at (c .before .before .before .pre) in omega (arith, h)
@@ -29,4 +21,4 @@ returns-2 c = sym (ap (λ z. further (c .before .before .before .args .at) (foun
 
 pub shifted-spec : {M : Type 1} → statement M
 shifted-spec =
-    tie.close (tie.spec enum-known-found add-t7 enum-known-found-2 add-t8 returns returns-2)
+    tie.close (tie.spec (λ c. search needs) add-t7 (λ c. search needs) add-t8 returns returns-2)

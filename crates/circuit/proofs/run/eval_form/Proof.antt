@@ -19,23 +19,8 @@ abbrev μ-loop : tie.MeasureT-loop
 returns : tie.Need-returns Inv-loop μ-loop
 returns c = laws.sum-zero _ _ _ (c .if1 .taken)
 
-byte-at-requires : tie.Need-byte-at-requires Inv-loop μ-loop
-byte-at-requires c κs = search needs
-
 loop-holds : tie.Need-loop-holds Inv-loop μ-loop
 loop-holds c = (omega arith, omega arith, laws.sum-start _ _ _ _ (c .byte-at .ensures .0) (c .before .if1 .left))
-
-plus-term-requires : tie.Need-plus-term-requires Inv-loop μ-loop
-plus-term-requires c κs = search needs
-
-add-at : tie.Need-add-at Inv-loop μ-loop
-add-at c = search needs
-
-sub-left : tie.Need-sub-left Inv-loop μ-loop
-sub-left c = search needs
-
-loop-less : tie.Need-loop-less Inv-loop μ-loop
-loop-less c = search needs
 
 loop-again : tie.Need-loop-again Inv-loop μ-loop
 loop-again c =
@@ -56,11 +41,8 @@ eval-form-spec =
     Inv-loop
     μ-loop
     returns
-    byte-at-requires
+    (λ c κs. search needs)
     loop-holds
-    plus-term-requires
-    add-at
-    sub-left
-    loop-less
+    (λ c κs. search needs) (λ c. search needs) (λ c. search needs) (λ c. search needs)
     loop-again
     returns-2)

@@ -7,35 +7,14 @@ use Rattle.circuit.proofs.RunLaws as laws
 use Rattle.circuit.proofs.run.plus_term.Statement.{statement}
 use Rattle.circuit.proofs.run.plus_term.Tie as tie
 
-u16-at-requires : tie.Need-u16-at-requires
-u16-at-requires c κs = search needs
-
 returns : tie.Need-returns
 returns c = laws.term-passed _ _ _ _ _ (omega arith)
-
-add-u32-at : tie.Need-add-u32-at
-add-u32-at c = search needs
-
-u32-at-requires : tie.Need-u32-at-requires
-u32-at-requires c κs = search needs
-
-cast-coefficient : tie.Need-cast-coefficient
-cast-coefficient c = search needs
-
-value-at-requires : tie.Need-value-at-requires
-value-at-requires c κs = search needs
-
-cast-value : tie.Need-cast-value
-cast-value c = search needs
 
 mul-result : tie.Need-mul-result
 mul-result c = omega (arith, laws.product-most (c .before .u32-at .result) (c .value-at .result) (omega arith) (omega arith))
 
 add-result : tie.Need-add-result
 add-result c = omega (arith, laws.product-most (c .before .u32-at .result) (c .value-at .result) (omega arith) (omega arith))
-
-rem-result : tie.Need-rem-result
-rem-result c = search needs
 
 cast-result : tie.Need-cast-result
 cast-result c =
@@ -51,15 +30,11 @@ pub plus-term-spec : {M : Type 1} → statement M
 plus-term-spec =
     tie.close
     (tie.spec
-    u16-at-requires
+    (λ c κs. search needs)
     returns
-    add-u32-at
-    u32-at-requires
-    cast-coefficient
-    value-at-requires
-    cast-value
+    (λ c. search needs) (λ c κs. search needs) (λ c. search needs) (λ c κs. search needs) (λ c. search needs)
     mul-result
     add-result
-    rem-result
+    (λ c. search needs)
     cast-result
     returns-2)

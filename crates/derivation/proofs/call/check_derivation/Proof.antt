@@ -6,15 +6,6 @@ use Rattle.derivation.proofs.CallLaws as laws
 use Rattle.derivation.proofs.call.check_derivation.Statement.{statement}
 use Rattle.derivation.proofs.call.check_derivation.Tie as tie
 
-check-circuit-requires : tie.Need-check-circuit-requires
-check-circuit-requires c κs = search needs
-
-enum-known-answer : tie.Need-enum-known-answer
-enum-known-answer c = search needs
-
-enum-known-answer-2 : tie.Need-enum-known-answer-2
-enum-known-answer-2 c = search needs
-
 check-on-requires : tie.Need-check-on-requires
 check-on-requires c κs =
     let told = c .before .before in
@@ -30,9 +21,6 @@ returns c =
     in
     laws.call-keeps (a .circuit .now) (a .derivation .now) (a .marks .now) _ _ (r .0) (r .1)
 
-same-length : tie.Need-same-length
-same-length c = search needs
-
 returns-2 : tie.Need-returns-2
 returns-2 c =
     let r = c .before .before in
@@ -43,10 +31,8 @@ pub check-derivation-spec : {M : Type 1} → statement M
 check-derivation-spec =
     tie.close
     (tie.spec
-    check-circuit-requires
-    enum-known-answer
-    enum-known-answer-2
+    (λ c κs. search needs) (λ c. search needs) (λ c. search needs)
     check-on-requires
     returns
-    same-length
+    (λ c. search needs)
     returns-2)

@@ -7,9 +7,6 @@ use Rattle.derivation.proofs.CallLaws as laws
 use Rattle.derivation.proofs.call.check_header.Statement.{statement}
 use Rattle.derivation.proofs.call.check_header.Tie as tie
 
-refusal-requires : tie.Need-refusal-requires
-refusal-requires c κs = search needs
-
 versioned : (c : tie.Else3) → laws.Versioned (c .before .before .before .before .before .before .args .derivation .now)
 versioned c =
     let m = c .before .before in
@@ -22,24 +19,12 @@ versioned c =
 returns : tie.Need-returns
 returns c = λ (x : DerivationResult). rw (c .refusal .ensures) (laws.head-short _ _ _ x (c .before .if1 .taken))
 
-has-mark-requires : tie.Need-has-mark-requires
-has-mark-requires c κs = search needs
-
-refusal-requires-2 : tie.Need-refusal-requires-2
-refusal-requires-2 c κs = search needs
-
 returns-2 : tie.Need-returns-2
 returns-2 c =
     λ (x : DerivationResult).
     let m = c .before .before in
     rw (c .refusal2 .ensures)
     (laws.head-mark _ _ _ x (m .before .if1 .left) (sym (m .has-mark .ensures) ∙ not-true _ (c .before .if2 .taken)))
-
-u16-at-requires : tie.Need-u16-at-requires
-u16-at-requires c κs = search needs
-
-refusal-requires-3 : tie.Need-refusal-requires-3
-refusal-requires-3 c κs = search needs
 
 returns-3 : tie.Need-returns-3
 returns-3 c =
@@ -50,29 +35,11 @@ returns-3 c =
     (laws.head-version _ _ _ x (m .before .if1 .left) (sym (m .has-mark .ensures) ∙ not-false _ (v .before .if2 .left))
     (λ e. c .before .if3 .taken (v .u16-at .ensures .0 ∙ e)))
 
-u16-at-requires-2 : tie.Need-u16-at-requires-2
-u16-at-requires-2 c κs = search needs
-
-refusal-requires-4 : tie.Need-refusal-requires-4
-refusal-requires-4 c κs = search needs
-
 returns-4 : tie.Need-returns-4
 returns-4 c =
     λ (x : DerivationResult).
     let k = c .before .before in
     rw (c .refusal4 .ensures) (laws.head-count _ _ _ x (versioned (k .before)) _ (k .u16-at2 .ensures .0) (c .before .if4 .taken))
-
-cast-if5 : tie.Need-cast-if5
-cast-if5 c = search needs
-
-mul-if5 : tie.Need-mul-if5
-mul-if5 c = search needs
-
-add-if5 : tie.Need-add-if5
-add-if5 c = search needs
-
-refusal-requires-5 : tie.Need-refusal-requires-5
-refusal-requires-5 c κs = search needs
 
 returns-5 : tie.Need-returns-5
 returns-5 c =
@@ -80,9 +47,6 @@ returns-5 c =
     let k = c .before .before .before in
     rw (c .refusal5 .ensures)
     (laws.head-length _ _ _ x (versioned (k .before)) _ (k .u16-at2 .ensures .0) (c .before .before .if4 .left) (c .before .if5 .taken))
-
-refusal-requires-6 : tie.Need-refusal-requires-6
-refusal-requires-6 c κs = search needs
 
 returns-6 : tie.Need-returns-6
 returns-6 c =
@@ -103,22 +67,16 @@ pub check-header-spec : {M : Type 1} → statement M
 check-header-spec =
     tie.close
     (tie.spec
-    refusal-requires
+    (λ c κs. search needs)
     returns
-    has-mark-requires
-    refusal-requires-2
+    (λ c κs. search needs) (λ c κs. search needs)
     returns-2
-    u16-at-requires
-    refusal-requires-3
+    (λ c κs. search needs) (λ c κs. search needs)
     returns-3
-    u16-at-requires-2
-    refusal-requires-4
+    (λ c κs. search needs) (λ c κs. search needs)
     returns-4
-    cast-if5
-    mul-if5
-    add-if5
-    refusal-requires-5
+    (λ c. search needs) (λ c. search needs) (λ c. search needs) (λ c κs. search needs)
     returns-5
-    refusal-requires-6
+    (λ c κs. search needs)
     returns-6
     returns-7)

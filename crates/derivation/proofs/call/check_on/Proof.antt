@@ -12,27 +12,12 @@ use Rattle.derivation.proofs.call.check_on.Tie as tie
 abbrev entry : tie.After-walk → tie.Start
 entry c = c .before .before .before .before .before .before .before
 
-check-header-requires : tie.Need-check-header-requires
-check-header-requires c κs = search needs
-
-enum-known-header : tie.Need-enum-known-header
-enum-known-header c = search needs
-
 returns : tie.Need-returns
 returns c =
     let h = c .before .before .before in
     let e = h .before .before .before .before in
     laws.head-refused (e .args .circuit .now) (e .args .derivation .now) (e .args .marks .now) _ _ _ (e .pre .0) _ (h .check-header .ensures) _ _
     (c .before .header .given .1)
-
-enum-told : tie.Need-enum-told
-enum-told c = search needs
-
-walk-requires : tie.Need-walk-requires
-walk-requires c κs = search needs
-
-enum-known-way : tie.Need-enum-known-way
-enum-known-way c = search needs
 
 returns-2 : tie.Need-returns-2
 returns-2 c =
@@ -48,12 +33,6 @@ returns-2 c =
     _ _
     (c .before .way .given .1)
 
-enum-told-2 : tie.Need-enum-told-2
-enum-told-2 c = search needs
-
-slice-aggregate-write-marks : tie.Need-slice-aggregate-write-marks
-slice-aggregate-write-marks c = search needs
-
 write-marks-requires : tie.Need-write-marks-requires
 write-marks-requires c κs =
     let long : length (c .before .before .before .before .before .before .walk .result .next .marks) ≡ 257 = search needs in
@@ -64,15 +43,6 @@ write-marks-requires c κs =
           (w .before .before .before .check-header .ensures)
           (w .before .enum-told .given .1),
     )
-
-slice-aggregate-verdict-of : tie.Need-slice-aggregate-verdict-of
-slice-aggregate-verdict-of c = search needs
-
-verdict-of-requires : tie.Need-verdict-of-requires
-verdict-of-requires c κs = search needs
-
-same-length : tie.Need-same-length
-same-length c = search needs
 
 returns-3 : tie.Need-returns-3
 unfolding viewOf
@@ -99,17 +69,11 @@ pub check-on-spec : {M : Type 1} → statement M
 check-on-spec =
     tie.close
     (tie.spec
-    check-header-requires
-    enum-known-header
+    (λ c κs. search needs) (λ c. search needs)
     returns
-    enum-told
-    walk-requires
-    enum-known-way
+    (λ c. search needs) (λ c κs. search needs) (λ c. search needs)
     returns-2
-    enum-told-2
-    slice-aggregate-write-marks
+    (λ c. search needs) (λ c. search needs)
     write-marks-requires
-    slice-aggregate-verdict-of
-    verdict-of-requires
-    same-length
+    (λ c. search needs) (λ c κs. search needs) (λ c. search needs)
     returns-3)

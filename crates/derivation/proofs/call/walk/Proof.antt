@@ -20,37 +20,16 @@ Inv-loop circuit derivation p n i m table count standing₀ k₀ standing k =
 abbrev μ-loop : tie.MeasureT-loop
 μ-loop circuit derivation p n i m table count standing₀ k₀ standing k = count - k
 
-offsets-requires : tie.Need-offsets-requires Inv-loop μ-loop
-offsets-requires c κs = search needs
-
-u16-at-requires : tie.Need-u16-at-requires Inv-loop μ-loop
-u16-at-requires c κs = search needs
-
-cast-count : tie.Need-cast-count Inv-loop μ-loop
-cast-count c = search needs
-
-start-requires : tie.Need-start-requires Inv-loop μ-loop
-start-requires c κs = search needs
-
 loop-holds : tie.Need-loop-holds Inv-loop μ-loop
 loop-holds c =
     let e = c .before .before .before .before .before in
     (search needs, laws.walk-start _ _ _ _ (e .pre .0) _ _ _ _ (e .pre .1) (c .before .u16-at .ensures .0) (c .start .ensures))
-
-slice-aggregate-take-step : tie.Need-slice-aggregate-take-step Inv-loop μ-loop
-slice-aggregate-take-step c = search needs
 
 take-step-requires : tie.Need-take-step-requires Inv-loop μ-loop
 take-step-requires c κs =
     let made = c .before .before .before .before .before in
     let e = made .before .before .before in
     (search needs, e .pre .0, laws.offsets-all _ _ _ _ (e .pre .0) _ (made .offsets .ensures))
-
-enum-told : tie.Need-enum-told Inv-loop μ-loop
-enum-told c = search needs
-
-enum-told-2 : tie.Need-enum-told-2 Inv-loop μ-loop
-enum-told-2 c = search needs
 
 returns : tie.Need-returns Inv-loop μ-loop
 returns c =
@@ -60,12 +39,6 @@ returns c =
     (laws.walk-stopped (circuitOf (a .circuit .now)) (a .derivation .now) _ (l .loop .k) (view (a .p) (l .loop .standing)) _ (l .loop .inv .1)
     (c .before .before .before .before .loop-test .taken) _ _
     (rw (c .enum-told2 .given .1) at (c .before .before .take-step .ensures)))
-
-add-k : tie.Need-add-k Inv-loop μ-loop
-add-k c = search needs
-
-loop-less : tie.Need-loop-less Inv-loop μ-loop
-loop-less c = search needs
 
 loop-again : tie.Need-loop-again Inv-loop μ-loop
 loop-again c =
@@ -91,17 +64,12 @@ walk-spec =
     (tie.spec
     Inv-loop
     μ-loop
-    offsets-requires
-    u16-at-requires
-    cast-count
-    start-requires
+    (λ c κs. search needs) (λ c κs. search needs) (λ c. search needs) (λ c κs. search needs)
     loop-holds
-    slice-aggregate-take-step
+    (λ c. search needs)
     take-step-requires
-    enum-told
-    enum-told-2
+    (λ c. search needs) (λ c. search needs)
     returns
-    add-k
-    loop-less
+    (λ c. search needs) (λ c. search needs)
     loop-again
     returns-2)

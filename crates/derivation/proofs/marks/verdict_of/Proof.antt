@@ -21,25 +21,10 @@ abbrev μ-loop : tie.MeasureT-loop
 loop-holds : tie.Need-loop-holds Inv-loop μ-loop
 loop-holds c = (search needs, λ (k : ℕ) (h : k < 0). absurd (omega arith))
 
-add-mark-at : tie.Need-add-mark-at Inv-loop μ-loop
-add-mark-at c = search needs
-
-add-mark-at-2 : tie.Need-add-mark-at-2 Inv-loop μ-loop
-add-mark-at-2 c = search needs
-
-mark-at-requires : tie.Need-mark-at-requires Inv-loop μ-loop
-mark-at-requires c κs = search needs
-
 returns : tie.Need-returns Inv-loop μ-loop
 returns c =
     laws.one-unmarked _ _ (c .before .before .before .loop .j) (search needs)
     (laws.output-at _ _ _ (sym (c .before .mark-at .ensures) ∙ not-true _ (c .if1 .taken)))
-
-add-j : tie.Need-add-j Inv-loop μ-loop
-add-j c = search needs
-
-loop-less : tie.Need-loop-less Inv-loop μ-loop
-loop-less c = search needs
 
 loop-again : tie.Need-loop-again Inv-loop μ-loop
 loop-again c = (
@@ -58,11 +43,8 @@ verdict-of-spec =
     Inv-loop
     μ-loop
     loop-holds
-    add-mark-at
-    add-mark-at-2
-    mark-at-requires
+    (λ c. search needs) (λ c. search needs) (λ c κs. search needs)
     returns
-    add-j
-    loop-less
+    (λ c. search needs) (λ c. search needs)
     loop-again
     returns-2)

@@ -23,31 +23,10 @@ abbrev μ-loop : tie.MeasureT-loop
 loop-holds : tie.Need-loop-holds Inv-loop μ-loop
 loop-holds c = (search needs, refl, search needs, laws.none-counted _, laws.none-written _ _)
 
-add-bit-of : tie.Need-add-bit-of Inv-loop μ-loop
-add-bit-of c = search needs
-
-shared-slice-read-bit-of : tie.Need-shared-slice-read-bit-of Inv-loop μ-loop
-shared-slice-read-bit-of c = search needs
-
-bit-of-requires : tie.Need-bit-of-requires Inv-loop μ-loop
-bit-of-requires c κs = search needs
-
-slice-write-out : tie.Need-slice-write-out Inv-loop μ-loop
-slice-write-out c = search needs
-
-cast-count : tie.Need-cast-count Inv-loop μ-loop
-cast-count c = search needs
-
 add-count : tie.Need-add-count Inv-loop μ-loop
 add-count c =
     let l = c .before .before .before in
     omega (arith, laws.bit-most (getD (l .before .before .before .args .marks .now) (l .loop .s + 1) false))
-
-add-s : tie.Need-add-s Inv-loop μ-loop
-add-s c = search needs
-
-loop-less : tie.Need-loop-less Inv-loop μ-loop
-loop-less c = search needs
 
 loop-again : tie.Need-loop-again Inv-loop μ-loop
 unfolding markIn
@@ -60,9 +39,6 @@ loop-again c =
       laws.marks-stored _ _ _ _ (search needs) (l .inv .4) _ (c .bit-of .ensures),
     )
 
-same-length : tie.Need-same-length Inv-loop μ-loop
-same-length c = search needs
-
 returns : tie.Need-returns Inv-loop μ-loop
 returns c =
     laws.all-written _ _ _ _ _ _ (c .before .loop .inv .0) (c .loop-test .left) (c .before .loop .inv .3) (c .before .loop .inv .4)
@@ -74,14 +50,9 @@ write-marks-spec =
     Inv-loop
     μ-loop
     loop-holds
-    add-bit-of
-    shared-slice-read-bit-of
-    bit-of-requires
-    slice-write-out
-    cast-count
+    (λ c. search needs) (λ c. search needs) (λ c κs. search needs) (λ c. search needs) (λ c. search needs)
     add-count
-    add-s
-    loop-less
+    (λ c. search needs) (λ c. search needs)
     loop-again
-    same-length
+    (λ c. search needs)
     returns)

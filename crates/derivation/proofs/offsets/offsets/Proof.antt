@@ -22,30 +22,6 @@ loop-holds : tie.Need-loop-holds Inv-loop μ-loop
 unfolding offsetAt
 loop-holds c = (search needs, search needs, search needs, refl, laws.none-yet _ _)
 
-add-k : tie.Need-add-k Inv-loop μ-loop
-add-k c = search needs
-
-cast-table : tie.Need-cast-table Inv-loop μ-loop
-cast-table c = search needs
-
-mul-table : tie.Need-mul-table Inv-loop μ-loop
-mul-table c = search needs
-
-array-write-table : tie.Need-array-write-table Inv-loop μ-loop
-array-write-table c = search needs
-
-after-form-at-requires : tie.Need-after-form-at-requires Inv-loop μ-loop
-after-form-at-requires c κs = search needs
-
-after-form-at-requires-2 : tie.Need-after-form-at-requires-2 Inv-loop μ-loop
-after-form-at-requires-2 c κs = search needs
-
-after-form-at-requires-3 : tie.Need-after-form-at-requires-3 Inv-loop μ-loop
-after-form-at-requires-3 c κs = search needs
-
-loop-less : tie.Need-loop-less Inv-loop μ-loop
-loop-less c = search needs
-
 loop-again : tie.Need-loop-again Inv-loop μ-loop
 loop-again c =
     let a = c .before .before in
@@ -70,14 +46,8 @@ offsets-spec =
     Inv-loop
     μ-loop
     loop-holds
-    add-k
-    cast-table
-    mul-table
-    array-write-table
-    after-form-at-requires
-    after-form-at-requires-2
-    after-form-at-requires-3
-    loop-less
+    (λ c. search needs) (λ c. search needs) (λ c. search needs) (λ c. search needs) (λ c κs. search needs) (λ c κs. search needs)
+    (λ c κs. search needs) (λ c. search needs)
     loop-again
     returns
     returns-2)

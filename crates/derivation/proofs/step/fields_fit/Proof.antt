@@ -3,51 +3,6 @@ use borrow.Author.Needs.{needs}
 use Rattle.derivation.proofs.step.fields_fit.Statement.{statement}
 use Rattle.derivation.proofs.step.fields_fit.Tie as tie
 
-enum-told : tie.Need-enum-told
-enum-told c = search needs
-
-within-requires : tie.Need-within-requires
-within-requires c κs = search needs
-
-both-requires : tie.Need-both-requires
-both-requires c κs = search needs
-
-enum-told-2 : tie.Need-enum-told-2
-enum-told-2 c = search needs
-
-within-requires-2 : tie.Need-within-requires-2
-within-requires-2 c κs = search needs
-
-both-requires-2 : tie.Need-both-requires-2
-both-requires-2 c κs = search needs
-
-enum-told-3 : tie.Need-enum-told-3
-enum-told-3 c = search needs
-
-both-requires-3 : tie.Need-both-requires-3
-both-requires-3 c κs = search needs
-
-enum-told-4 : tie.Need-enum-told-4
-enum-told-4 c = search needs
-
-within-requires-3 : tie.Need-within-requires-3
-within-requires-3 c κs = search needs
-
-both-requires-4 : tie.Need-both-requires-4
-both-requires-4 c κs = search needs
-
-enum-told-5 : tie.Need-enum-told-5
-enum-told-5 c = search needs
-
-within-requires-4 : tie.Need-within-requires-4
-within-requires-4 c κs = search needs
-
-within-requires-5 : tie.Need-within-requires-5
-within-requires-5 c κs = search needs
-
-both-requires-5 : tie.Need-both-requires-5
-both-requires-5 c κs = search needs
-
 returns : tie.Need-returns
 returns c = rw (c .before .before .enum-told .given .1, ← (c .before .within .ensures)) (c .both .ensures)
 
@@ -69,21 +24,9 @@ pub fields-fit-spec : {M : Type 1} → statement M
 fields-fit-spec =
     tie.close
     (tie.spec
-    enum-told
-    within-requires
-    both-requires
-    enum-told-2
-    within-requires-2
-    both-requires-2
-    enum-told-3
-    both-requires-3
-    enum-told-4
-    within-requires-3
-    both-requires-4
-    enum-told-5
-    within-requires-4
-    within-requires-5
-    both-requires-5
+    (λ c. search needs) (λ c κs. search needs) (λ c κs. search needs) (λ c. search needs) (λ c κs. search needs) (λ c κs. search needs)
+    (λ c. search needs) (λ c κs. search needs) (λ c. search needs) (λ c κs. search needs) (λ c κs. search needs) (λ c. search needs)
+    (λ c κs. search needs) (λ c κs. search needs) (λ c κs. search needs)
     returns
     returns-2
     returns-3

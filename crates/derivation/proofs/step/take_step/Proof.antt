@@ -39,30 +39,6 @@ read c =
       tested = rw (← (c .before .before .within .ensures), ← (c .before .fields-fit .ensures)) (c .both .ensures);
     }
 
-mul-at : tie.Need-mul-at
-mul-at c = search needs
-
-add-at : tie.Need-add-at
-add-at c = search needs
-
-byte-at-requires : tie.Need-byte-at-requires
-byte-at-requires c κs = search needs
-
-kind-of-requires : tie.Need-kind-of-requires
-kind-of-requires c κs = search needs
-
-enum-known-found : tie.Need-enum-known-found
-enum-known-found c = search needs
-
-enum-told : tie.Need-enum-told
-enum-told c = search needs
-
-add-stop : tie.Need-add-stop
-add-stop c = search needs
-
-stop-requires : tie.Need-stop-requires
-stop-requires c κs = search needs
-
 returns : tie.Need-returns
 unfolding stepStart
 returns c =
@@ -74,56 +50,14 @@ returns c =
     (kindOf (byteAt d (stepStart (e .args .k))))
     (sym (ap kindFound (c .before .enum-told .given .1)) ∙ found .kind-of .ensures ∙ ap kindOf (found .before .byte-at .ensures .0)))
 
-add-u16-at : tie.Need-add-u16-at
-add-u16-at c = search needs
-
-u16-at-requires : tie.Need-u16-at-requires
-u16-at-requires c κs = search needs
-
-add-u16-at-2 : tie.Need-add-u16-at-2
-add-u16-at-2 c = search needs
-
-u16-at-requires-2 : tie.Need-u16-at-requires-2
-u16-at-requires-2 c κs = search needs
-
-add-u16-at-3 : tie.Need-add-u16-at-3
-add-u16-at-3 c = search needs
-
-u16-at-requires-3 : tie.Need-u16-at-requires-3
-u16-at-requires-3 c κs = search needs
-
-within-requires : tie.Need-within-requires
-within-requires c κs = search needs
-
-fields-fit-requires : tie.Need-fields-fit-requires
-fields-fit-requires c κs = search needs
-
-both-requires : tie.Need-both-requires
-both-requires c κs = search needs
-
-add-stop-2 : tie.Need-add-stop-2
-add-stop-2 c = search needs
-
-stop-requires-2 : tie.Need-stop-requires-2
-stop-requires-2 c κs = search needs
-
 returns-2 : tie.Need-returns-2
 returns-2 c =
     let b = c .before .before in
     let a = entry b .args in
     rw (c .stop2 .ensures) (laws.read-unranged (read b) (promise.view (a .p) (a .standing)) (not-true _ (c .before .if1 .taken)))
 
-part-of-requires : tie.Need-part-of-requires
-part-of-requires c κs = search needs
-
-ask-rule-requires : tie.Need-ask-rule-requires
-ask-rule-requires c κs = search needs
-
 add-stop-3 : tie.Need-add-stop-3
 add-stop-3 c = omega (arith, entry (c .before .before .before .before .before) .pre .0)
-
-stop-requires-3 : tie.Need-stop-requires-3
-stop-requires-3 c κs = search needs
 
 returns-3 : tie.Need-returns-3
 returns-3 c =
@@ -154,30 +88,14 @@ pub take-step-spec : {M : Type 1} → statement M
 take-step-spec =
     tie.close
     (tie.spec
-    mul-at
-    add-at
-    byte-at-requires
-    kind-of-requires
-    enum-known-found
-    enum-told
-    add-stop
-    stop-requires
+    (λ c. search needs) (λ c. search needs) (λ c κs. search needs) (λ c κs. search needs) (λ c. search needs) (λ c. search needs) (λ c. search needs)
+    (λ c κs. search needs)
     returns
-    add-u16-at
-    u16-at-requires
-    add-u16-at-2
-    u16-at-requires-2
-    add-u16-at-3
-    u16-at-requires-3
-    within-requires
-    fields-fit-requires
-    both-requires
-    add-stop-2
-    stop-requires-2
+    (λ c. search needs) (λ c κs. search needs) (λ c. search needs) (λ c κs. search needs) (λ c. search needs) (λ c κs. search needs)
+    (λ c κs. search needs) (λ c κs. search needs) (λ c κs. search needs) (λ c. search needs) (λ c κs. search needs)
     returns-2
-    part-of-requires
-    ask-rule-requires
+    (λ c κs. search needs) (λ c κs. search needs)
     add-stop-3
-    stop-requires-3
+    (λ c κs. search needs)
     returns-3
     returns-4)

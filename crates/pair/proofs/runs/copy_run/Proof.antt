@@ -17,29 +17,8 @@ Inv-loop pair k n values₀ s₀ values s = (s ≤ n) × (length values ≡ 257)
 abbrev μ-loop : tie.MeasureT-loop
 μ-loop pair k n values₀ s₀ values s = n - s
 
-array-write-values : tie.Need-array-write-values Inv-loop μ-loop
-array-write-values c = search needs
-
 loop-holds : tie.Need-loop-holds Inv-loop μ-loop
 loop-holds c = (omega arith, refl, laws.copy-start _ _ 256)
-
-add-s : tie.Need-add-s Inv-loop μ-loop
-add-s c = search needs
-
-add-value-at : tie.Need-add-value-at Inv-loop μ-loop
-add-value-at c = search needs
-
-value-at-requires : tie.Need-value-at-requires Inv-loop μ-loop
-value-at-requires c κs = search needs
-
-mul-values : tie.Need-mul-values Inv-loop μ-loop
-mul-values c = search needs
-
-array-write-values-2 : tie.Need-array-write-values-2 Inv-loop μ-loop
-array-write-values-2 c = search needs
-
-loop-less : tie.Need-loop-less Inv-loop μ-loop
-loop-less c = search needs
 
 loop-again : tie.Need-loop-again Inv-loop μ-loop
 loop-again c =
@@ -58,13 +37,8 @@ copy-run-spec =
     (tie.spec
     Inv-loop
     μ-loop
-    array-write-values
+    (λ c. search needs)
     loop-holds
-    add-s
-    add-value-at
-    value-at-requires
-    mul-values
-    array-write-values-2
-    loop-less
+    (λ c. search needs) (λ c. search needs) (λ c κs. search needs) (λ c. search needs) (λ c. search needs) (λ c. search needs)
     loop-again
     returns)

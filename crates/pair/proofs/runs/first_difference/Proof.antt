@@ -20,29 +20,11 @@ abbrev μ-loop : tie.MeasureT-loop
 loop-holds : tie.Need-loop-holds Inv-loop μ-loop
 loop-holds c = (omega arith, laws.first-start _ _)
 
-add-s : tie.Need-add-s Inv-loop μ-loop
-add-s c = search needs
-
-mul-if1 : tie.Need-mul-if1 Inv-loop μ-loop
-mul-if1 c = search needs
-
-element-copy-out-if1 : tie.Need-element-copy-out-if1 Inv-loop μ-loop
-element-copy-out-if1 c = search needs
-
-mul-if1-2 : tie.Need-mul-if1-2 Inv-loop μ-loop
-mul-if1-2 c = search needs
-
-element-copy-out-if1-2 : tie.Need-element-copy-out-if1-2 Inv-loop μ-loop
-element-copy-out-if1-2 c = search needs
-
 returns : tie.Need-returns Inv-loop μ-loop
 unfolding valuesIn
 returns c =
     laws.first-found _ _ _ _ (c .before .before .before .before .loop .inv .1) (c .before .before .before .loop-test .taken)
     (laws.agree-no _ _ _ (c .if1 .taken))
-
-loop-less : tie.Need-loop-less Inv-loop μ-loop
-loop-less c = search needs
 
 loop-again : tie.Need-loop-again Inv-loop μ-loop
 unfolding valuesIn
@@ -62,12 +44,8 @@ first-difference-spec =
     Inv-loop
     μ-loop
     loop-holds
-    add-s
-    mul-if1
-    element-copy-out-if1
-    mul-if1-2
-    element-copy-out-if1-2
+    (λ c. search needs) (λ c. search needs) (λ c. search needs) (λ c. search needs) (λ c. search needs)
     returns
-    loop-less
+    (λ c. search needs)
     loop-again
     returns-2)

@@ -17,19 +17,10 @@ abbrev μ-loop : tie.MeasureT-loop
 loop-holds : tie.Need-loop-holds Inv-loop μ-loop
 loop-holds c = (omega arith, laws.first-start _ _)
 
-add-j : tie.Need-add-j Inv-loop μ-loop
-add-j c = search needs
-
-value-at-requires : tie.Need-value-at-requires Inv-loop μ-loop
-value-at-requires c κs = search needs
-
 returns : tie.Need-returns Inv-loop μ-loop
 returns c =
     laws.first-found _ _ _ _ (c .before .before .before .loop .inv .1) (c .before .before .loop-test .taken)
     (laws.below-no _ _ _ _ (c .before .value-at .ensures) (c .if1 .taken))
-
-loop-less : tie.Need-loop-less Inv-loop μ-loop
-loop-less c = search needs
 
 loop-again : tie.Need-loop-again Inv-loop μ-loop
 loop-again c = (
@@ -48,9 +39,8 @@ first-large-spec =
     Inv-loop
     μ-loop
     loop-holds
-    add-j
-    value-at-requires
+    (λ c. search needs) (λ c κs. search needs)
     returns
-    loop-less
+    (λ c. search needs)
     loop-again
     returns-2)

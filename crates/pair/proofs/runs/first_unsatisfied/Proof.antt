@@ -24,12 +24,6 @@ abbrev μ-loop : tie.MeasureT-loop
 loop-holds : tie.Need-loop-holds Inv-loop μ-loop
 loop-holds c = (omega arith, laws.part-zero _, laws.first-start _ _)
 
-add-k : tie.Need-add-k Inv-loop μ-loop
-add-k c = search needs
-
-satisfied-requires : tie.Need-satisfied-requires Inv-loop μ-loop
-satisfied-requires c κs = search needs
-
 returns : tie.Need-returns Inv-loop μ-loop
 returns c =
     let l = c .before .before .before .loop in (
@@ -37,12 +31,6 @@ returns c =
           (laws.satisfied-part _ _ _ _ _ _ (l .inv .1) (c .before .satisfied .ensures) ∙ not-true _ (c .if1 .taken)),
       omega arith,
     )
-
-after-constraint-requires : tie.Need-after-constraint-requires Inv-loop μ-loop
-after-constraint-requires c κs = search needs
-
-loop-less : tie.Need-loop-less Inv-loop μ-loop
-loop-less c = search needs
 
 loop-again : tie.Need-loop-again Inv-loop μ-loop
 loop-again c =
@@ -63,10 +51,8 @@ first-unsatisfied-spec =
     Inv-loop
     μ-loop
     loop-holds
-    add-k
-    satisfied-requires
+    (λ c. search needs) (λ c κs. search needs)
     returns
-    after-constraint-requires
-    loop-less
+    (λ c κs. search needs) (λ c. search needs)
     loop-again
     returns-2)

@@ -4,17 +4,8 @@ use Rattle.rules.proofs.FormTests as tests
 use Rattle.rules.proofs.constraint.is_linear.Statement.{statement}
 use Rattle.rules.proofs.constraint.is_linear.Tie as tie
 
-names-none-requires : tie.Need-names-none-requires
-names-none-requires c κs = search needs
-
 returns : tie.Need-returns
 returns c = tests.linear-first _ _ (c .before .names-none .ensures) (c .if1 .taken)
-
-after-form-requires : tie.Need-after-form-requires
-after-form-requires c κs = search needs
-
-names-none-requires-2 : tie.Need-names-none-requires-2
-names-none-requires-2 c κs = search needs
 
 returns-2 : tie.Need-returns-2
 returns-2 c =
@@ -25,4 +16,4 @@ returns-2 c =
 pub is-linear-spec : {M : Type 1} → statement M
 is-linear-spec =
     tie.close
-    (tie.spec names-none-requires returns after-form-requires names-none-requires-2 returns-2)
+    (tie.spec (λ c κs. search needs) returns (λ c κs. search needs) (λ c κs. search needs) returns-2)

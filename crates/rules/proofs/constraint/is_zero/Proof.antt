@@ -7,14 +7,8 @@ use Rattle.rules.proofs.FormTests as tests
 use Rattle.rules.proofs.constraint.is_zero.Statement.{statement}
 use Rattle.rules.proofs.constraint.is_zero.Tie as tie
 
-names-none-requires : tie.Need-names-none-requires
-names-none-requires c κs = search needs
-
 returns : tie.Need-returns
 returns c = sym (tests.zero-names _ ∙ rw (sym (c .before .names-none .ensures) ∙ not-true _ (c .if1 .taken)))
-
-names-signal-requires : tie.Need-names-signal-requires
-names-signal-requires c κs = search needs
 
 returns-2 : tie.Need-returns-2
 returns-2 c =
@@ -22,4 +16,4 @@ returns-2 c =
     ∙ sym (tests.zero-names _ ∙ rw (sym (c .before .before .names-none .ensures) ∙ not-false _ (c .before .if1 .left)))
 
 pub is-zero-spec : {M : Type 1} → statement M
-is-zero-spec = tie.close (tie.spec names-none-requires returns names-signal-requires returns-2)
+is-zero-spec = tie.close (tie.spec (λ c κs. search needs) returns (λ c κs. search needs) returns-2)

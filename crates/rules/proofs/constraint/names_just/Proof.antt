@@ -6,17 +6,8 @@ use Rattle.rules.proofs.FormTests as tests
 use Rattle.rules.proofs.constraint.names_just.Statement.{statement}
 use Rattle.rules.proofs.constraint.names_just.Tie as tie
 
-names-signal-requires : tie.Need-names-signal-requires
-names-signal-requires c κs = search needs
-
 returns : tie.Need-returns
 returns c = rw (sym (c .before .names-signal .ensures) ∙ not-true _ (c .if1 .taken))
-
-slice-aggregate-others-marked : tie.Need-slice-aggregate-others-marked
-slice-aggregate-others-marked c = search needs
-
-others-marked-requires : tie.Need-others-marked-requires
-others-marked-requires c κs = search needs
 
 returns-2 : tie.Need-returns-2
 returns-2 c =
@@ -27,8 +18,7 @@ pub names-just-spec : {M : Type 1} → statement M
 names-just-spec =
     tie.close
     (tie.spec
-    names-signal-requires
+    (λ c κs. search needs)
     returns
-    slice-aggregate-others-marked
-    others-marked-requires
+    (λ c. search needs) (λ c κs. search needs)
     returns-2)

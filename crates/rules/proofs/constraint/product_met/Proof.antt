@@ -5,20 +5,8 @@ use Rattle.rules.proofs.FormTests as tests
 use Rattle.rules.proofs.constraint.product_met.Statement.{statement}
 use Rattle.rules.proofs.constraint.product_met.Tie as tie
 
-is-linear-requires : tie.Need-is-linear-requires
-is-linear-requires c κs = search needs
-
 returns : tie.Need-returns
 returns c = λ b. tests.product-linear _ _ _ _ (c .before .is-linear .ensures) (c .if1 .taken)
-
-after-form-requires : tie.Need-after-form-requires
-after-form-requires c κs = search needs
-
-after-form-requires-2 : tie.Need-after-form-requires-2
-after-form-requires-2 c κs = search needs
-
-stands-in-c-requires : tie.Need-stands-in-c-requires
-stands-in-c-requires c κs = search needs
 
 returns-2 : tie.Need-returns-2
 returns-2 c =
@@ -27,9 +15,6 @@ returns-2 c =
     let c₅ = c₄ .before in
     λ b. tests.product-elsewhere _ _ _ _ (c₅ .is-linear .ensures) _ _ (c₃ .after-form .ensures) (c .before .before .after-form2 .ensures)
     (c₄ .if1 .left) _ (c .before .stands-in-c .ensures) (not-true _ (c .if2 .taken))
-
-rest-marked-requires : tie.Need-rest-marked-requires
-rest-marked-requires c κs = search needs
 
 returns-3 : tie.Need-returns-3
 returns-3 c =
@@ -44,11 +29,9 @@ pub product-met-spec : {M : Type 1} → statement M
 product-met-spec =
     tie.close
     (tie.spec
-    is-linear-requires
+    (λ c κs. search needs)
     returns
-    after-form-requires
-    after-form-requires-2
-    stands-in-c-requires
+    (λ c κs. search needs) (λ c κs. search needs) (λ c κs. search needs)
     returns-2
-    rest-marked-requires
+    (λ c κs. search needs)
     returns-3)

@@ -5,14 +5,8 @@ use borrow.Author.Tests.{not-true, not-false}
 use Rattle.rules.proofs.constraint.rest_marked.Statement.{statement}
 use Rattle.rules.proofs.constraint.rest_marked.Tie as tie
 
-others-marked-requires : tie.Need-others-marked-requires
-others-marked-requires c κs = search needs
-
 returns : tie.Need-returns
 returns c = λ b. rw (sym (c .before .others-marked .ensures b) ∙ not-true _ (c .if1 .taken))
-
-others-marked-requires-2 : tie.Need-others-marked-requires-2
-others-marked-requires-2 c κs = search needs
 
 returns-2 : tie.Need-returns-2
 returns-2 c =
@@ -22,9 +16,6 @@ returns-2 c =
       sym (c .before .others-marked2 .ensures b)
           ∙ not-true _ (c .if2 .taken),
     )
-
-others-marked-requires-3 : tie.Need-others-marked-requires-3
-others-marked-requires-3 c κs = search needs
 
 returns-3 : tie.Need-returns-3
 returns-3 c =
@@ -41,9 +32,9 @@ pub rest-marked-spec : {M : Type 1} → statement M
 rest-marked-spec =
     tie.close
     (tie.spec
-    others-marked-requires
+    (λ c κs. search needs)
     returns
-    others-marked-requires-2
+    (λ c κs. search needs)
     returns-2
-    others-marked-requires-3
+    (λ c κs. search needs)
     returns-3)

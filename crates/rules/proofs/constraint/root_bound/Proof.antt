@@ -4,15 +4,6 @@ use Rattle.rules.proofs.FormTests as tests
 use Rattle.rules.proofs.constraint.root_bound.Statement.{statement}
 use Rattle.rules.proofs.constraint.root_bound.Tie as tie
 
-root-of-requires : tie.Need-root-of-requires
-root-of-requires c κs = search needs
-
-after-form-requires : tie.Need-after-form-requires
-after-form-requires c κs = search needs
-
-root-of-requires-2 : tie.Need-root-of-requires-2
-root-of-requires-2 c κs = search needs
-
 returns : tie.Need-returns
 returns c =
     let c₃ = c .before .before .before in
@@ -25,4 +16,4 @@ returns-2 c =
 
 pub root-bound-spec : {M : Type 1} → statement M
 root-bound-spec =
-    tie.close (tie.spec root-of-requires after-form-requires root-of-requires-2 returns returns-2)
+    tie.close (tie.spec (λ c κs. search needs) (λ c κs. search needs) (λ c κs. search needs) returns returns-2)

@@ -5,23 +5,11 @@ use Rattle.rules.proofs.FormTests as tests
 use Rattle.rules.proofs.constraint.root_met.Statement.{statement}
 use Rattle.rules.proofs.constraint.root_met.Tie as tie
 
-after-form-requires : tie.Need-after-form-requires
-after-form-requires c κs = search needs
-
-after-form-requires-2 : tie.Need-after-form-requires-2
-after-form-requires-2 c κs = search needs
-
-is-zero-requires : tie.Need-is-zero-requires
-is-zero-requires c κs = search needs
-
 returns : tie.Need-returns
 returns c =
     let c₃ = c .before .before .before in
     tests.root-zero _ _ _ (c₃ .after-form .ensures) (c .before .before .after-form2 .ensures) _ _ (c .before .is-zero .ensures)
     (not-true _ (c .if1 .taken))
-
-names-just-requires : tie.Need-names-just-requires
-names-just-requires c κs = search needs
 
 returns-2 : tie.Need-returns-2
 returns-2 c =
@@ -30,9 +18,6 @@ returns-2 c =
     let c₅ = c₄ .before in
     tests.root-first _ _ _ (c₅ .after-form .ensures) (c₄ .after-form2 .ensures) _ _ (c₃ .is-zero .ensures)
     (not-false _ (c .before .before .if1 .left)) _ (c .before .names-just .ensures) (not-true _ (c .if2 .taken))
-
-names-just-requires-2 : tie.Need-names-just-requires-2
-names-just-requires-2 c κs = search needs
 
 returns-3 : tie.Need-returns-3
 returns-3 c =
@@ -47,11 +32,9 @@ pub root-met-spec : {M : Type 1} → statement M
 root-met-spec =
     tie.close
     (tie.spec
-    after-form-requires
-    after-form-requires-2
-    is-zero-requires
+    (λ c κs. search needs) (λ c κs. search needs) (λ c κs. search needs)
     returns
-    names-just-requires
+    (λ c κs. search needs)
     returns-2
-    names-just-requires-2
+    (λ c κs. search needs)
     returns-3)

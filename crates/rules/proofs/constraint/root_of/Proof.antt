@@ -12,22 +12,10 @@ use Rattle.rules.proofs.constraint.root_of.Tie as tie
 returns : tie.Need-returns
 returns c = tests.root-small _ _ _ (c .if1 .taken)
 
-coefficient-requires : tie.Need-coefficient-requires
-coefficient-requires c κs = search needs
-
-coefficient-requires-2 : tie.Need-coefficient-requires-2
-coefficient-requires-2 c κs = search needs
-
-inverse-requires : tie.Need-inverse-requires
-inverse-requires c κs = search needs
-
 sub-multiply-add : tie.Need-sub-multiply-add
 sub-multiply-add c =
     let c₅ = c .before .before .before .before .before in
     let positive : 0 < c₅ .args .p = omega arith in omega (arith, mod-lt (coef (formIn (c₅ .args .part .now)) 0) positive)
-
-multiply-add-requires : tie.Need-multiply-add-requires
-multiply-add-requires c κs = search needs
 
 returns-2 : tie.Need-returns-2
 returns-2 c =
@@ -40,9 +28,7 @@ root-of-spec =
     tie.close
     (tie.spec
     returns
-    coefficient-requires
-    coefficient-requires-2
-    inverse-requires
+    (λ c κs. search needs) (λ c κs. search needs) (λ c κs. search needs)
     sub-multiply-add
-    multiply-add-requires
+    (λ c κs. search needs)
     returns-2)

@@ -6,22 +6,13 @@ use borrow.Author.Tests.{not-true, not-false}
 use Rattle.rules.proofs.constraint.stands_in_c.Statement.{statement}
 use Rattle.rules.proofs.constraint.stands_in_c.Tie as tie
 
-names-signal-requires : tie.Need-names-signal-requires
-names-signal-requires c κs = search needs
-
 returns : tie.Need-returns
 returns c = rw (sym (c .before .names-signal .ensures) ∙ not-true _ (c .if1 .taken))
-
-names-signal-requires-2 : tie.Need-names-signal-requires-2
-names-signal-requires-2 c κs = search needs
 
 returns-2 : tie.Need-returns-2
 returns-2 c =
     let c₃ = c .before .before .before in
     rw (sym (c₃ .names-signal .ensures) ∙ not-false _ (c .before .before .if1 .left), sym (c .before .names-signal2 .ensures) ∙ c .if2 .taken)
-
-names-signal-requires-3 : tie.Need-names-signal-requires-3
-names-signal-requires-3 c κs = search needs
 
 returns-3 : tie.Need-returns-3
 returns-3 c =
@@ -38,9 +29,9 @@ pub stands-in-c-spec : {M : Type 1} → statement M
 stands-in-c-spec =
     tie.close
     (tie.spec
-    names-signal-requires
+    (λ c κs. search needs)
     returns
-    names-signal-requires-2
+    (λ c κs. search needs)
     returns-2
-    names-signal-requires-3
+    (λ c κs. search needs)
     returns-3)

@@ -21,9 +21,6 @@ abbrev μ-loop : tie.MeasureT-loop
 loop-holds : tie.Need-loop-holds Inv-loop μ-loop
 loop-holds c = (omega arith, laws.all-start _)
 
-stands-out-requires : tie.Need-stands-out-requires Inv-loop μ-loop
-stands-out-requires c κs = search needs
-
 returns : tie.Need-returns Inv-loop μ-loop
 returns c = sym (laws.all-stop _ _ _ (c .before .before .loop-test .taken) _ (c .before .stands-out .ensures) (not-true _ (c .if1 .taken)))
 
@@ -48,7 +45,7 @@ all-stand-out-spec =
     Inv-loop
     μ-loop
     loop-holds
-    stands-out-requires
+    (λ c κs. search needs)
     returns
     add-i
     loop-less

@@ -9,14 +9,8 @@ use Rattle.rules.proofs.digits.is_live.Tie as tie
 returns : tie.Need-returns
 returns c = sym (rw (eq-eqb _ _ (c .if1 .taken)))
 
-coef-at-requires : tie.Need-coef-at-requires
-coef-at-requires c κs = search needs
-
 returns-2 : tie.Need-returns-2
 returns-2 c = sym (rw (ne-eqb _ _ (c .before .before .if1 .left), sym (c .before .coef-at .ensures), eq-eqb _ _ (c .if2 .taken)))
-
-mark-at-requires : tie.Need-mark-at-requires
-mark-at-requires c κs = search needs
 
 returns-3 : tie.Need-returns-3
 returns-3 c =
@@ -25,4 +19,4 @@ returns-3 c =
     (rw (ne-eqb _ _ (c₃ .if1 .left), sym (c .before .before .coef-at .ensures), ne-eqb _ _ (c .before .if2 .left)))
 
 pub is-live-spec : {M : Type 1} → statement M
-is-live-spec = tie.close (tie.spec returns coef-at-requires returns-2 mark-at-requires returns-3)
+is-live-spec = tie.close (tie.spec returns (λ c κs. search needs) returns-2 (λ c κs. search needs) returns-3)

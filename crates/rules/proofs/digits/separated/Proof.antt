@@ -21,35 +21,8 @@ abbrev μ-loop : tie.MeasureT-loop
 returns : tie.Need-returns Inv-loop μ-loop
 returns c = laws.separated-none _ _ _ _ _ (c .if1 .taken)
 
-coef-at-requires : tie.Need-coef-at-requires Inv-loop μ-loop
-coef-at-requires c κs = search needs
-
-inverse-requires : tie.Need-inverse-requires Inv-loop μ-loop
-inverse-requires c κs = search needs
-
-lesser-requires : tie.Need-lesser-requires Inv-loop μ-loop
-lesser-requires c κs = search needs
-
-signals-end-requires : tie.Need-signals-end-requires Inv-loop μ-loop
-signals-end-requires c κs = search needs
-
 loop-holds : tie.Need-loop-holds Inv-loop μ-loop
 loop-holds c = (omega arith, omega (arith, c .signals-end .ensures), omega arith, refl, refl, laws.gather-start _ _ _ _ _ _ (omega arith))
-
-is-live-requires : tie.Need-is-live-requires Inv-loop μ-loop
-is-live-requires c κs = search needs
-
-coef-at-requires-2 : tie.Need-coef-at-requires-2 Inv-loop μ-loop
-coef-at-requires-2 c κs = search needs
-
-multiply-add-requires : tie.Need-multiply-add-requires Inv-loop μ-loop
-multiply-add-requires c κs = search needs
-
-bound-at-requires : tie.Need-bound-at-requires Inv-loop μ-loop
-bound-at-requires c κs = search needs
-
-product-requires : tie.Need-product-requires Inv-loop μ-loop
-product-requires c κs = search needs
 
 add-total : tie.Need-add-total Inv-loop μ-loop
 add-total c = omega (arith, c .before .before .before .before .before .before .before .loop .inv .5 .below)
@@ -68,17 +41,11 @@ returns-2 c =
     (c₁₂ .coef-at .ensures) (c₁₁ .inverse .ensures) (c₃ .multiply-add .ensures .0) (c .before .before .bound-at .ensures)
     (c .before .product .ensures .0) _ _ (c₈ .loop .inv .1) (c₇ .loop-test .taken) (c .if3 .taken)
 
-mul-weights : tie.Need-mul-weights Inv-loop μ-loop
-mul-weights c = search needs
-
 array-write-weights : tie.Need-array-write-weights Inv-loop μ-loop
 array-write-weights c = omega arith
 
 cast-products : tie.Need-cast-products Inv-loop μ-loop
 cast-products c = omega arith
-
-mul-products : tie.Need-mul-products Inv-loop μ-loop
-mul-products c = search needs
 
 array-write-products : tie.Need-array-write-products Inv-loop μ-loop
 array-write-products c = omega arith
@@ -112,12 +79,6 @@ loop-again c =
           (c .if2 .came),
     )
 
-slice-aggregate-all-stand-out : tie.Need-slice-aggregate-all-stand-out Inv-loop μ-loop
-slice-aggregate-all-stand-out c = search needs
-
-slice-aggregate-all-stand-out-2 : tie.Need-slice-aggregate-all-stand-out-2 Inv-loop μ-loop
-slice-aggregate-all-stand-out-2 c = search needs
-
 all-stand-out-requires : tie.Need-all-stand-out-requires Inv-loop μ-loop
 all-stand-out-requires c κs = omega arith
 
@@ -135,28 +96,20 @@ separated-spec =
     Inv-loop
     μ-loop
     returns
-    coef-at-requires
-    inverse-requires
-    lesser-requires
-    signals-end-requires
+    (λ c κs. search needs) (λ c κs. search needs) (λ c κs. search needs) (λ c κs. search needs)
     loop-holds
-    is-live-requires
-    coef-at-requires-2
-    multiply-add-requires
-    bound-at-requires
-    product-requires
+    (λ c κs. search needs) (λ c κs. search needs) (λ c κs. search needs) (λ c κs. search needs) (λ c κs. search needs)
     add-total
     returns-2
-    mul-weights
+    (λ c. search needs)
     array-write-weights
     cast-products
-    mul-products
+    (λ c. search needs)
     array-write-products
     add-count
     add-s
     loop-less
     loop-again
-    slice-aggregate-all-stand-out
-    slice-aggregate-all-stand-out-2
+    (λ c. search needs) (λ c. search needs)
     all-stand-out-requires
     returns-3)

@@ -4,12 +4,6 @@ use Rattle.rules.proofs.DigitsLaws as laws
 use Rattle.rules.proofs.digits.smaller_product.Statement.{statement}
 use Rattle.rules.proofs.digits.smaller_product.Tie as tie
 
-coef-at-requires : tie.Need-coef-at-requires
-coef-at-requires c κs = search needs
-
-coef-at-requires-2 : tie.Need-coef-at-requires-2
-coef-at-requires-2 c κs = search needs
-
 returns : tie.Need-returns
 returns c = laws.smaller-yes _ _ _ _ _ _ (c .before .before .coef-at .ensures) (c .before .if1 .taken) (c .coef-at2 .ensures)
 
@@ -17,4 +11,4 @@ returns-2 : tie.Need-returns-2
 returns-2 c = laws.smaller-no _ _ _ _ _ (c .before .coef-at .ensures) (c .if1 .left)
 
 pub smaller-product-spec : {M : Type 1} → statement M
-smaller-product-spec = tie.close (tie.spec coef-at-requires coef-at-requires-2 returns returns-2)
+smaller-product-spec = tie.close (tie.spec (λ c κs. search needs) (λ c κs. search needs) returns returns-2)

@@ -20,26 +20,14 @@ Inv-loop weights products count i w below₀ j₀ below j =
 abbrev μ-loop : tie.MeasureT-loop
 μ-loop weights products count i w below₀ j₀ below j = count - j
 
-coef-at-requires : tie.Need-coef-at-requires Inv-loop μ-loop
-coef-at-requires c κs = search needs
-
 loop-holds : tie.Need-loop-holds Inv-loop μ-loop
 unfolding sum
 loop-holds c = (omega arith, omega arith, refl, laws.all-start _)
-
-weights-differ-requires : tie.Need-weights-differ-requires Inv-loop μ-loop
-weights-differ-requires c κs = search needs
 
 returns : tie.Need-returns Inv-loop μ-loop
 returns c =
     laws.row-clash _ _ _ _ (laws.all-stop _ _ _ (c .before .before .loop-test .taken) _ (c .before .weights-differ .ensures)
     (not-true _ (c .if1 .taken)))
-
-smaller-product-requires : tie.Need-smaller-product-requires Inv-loop μ-loop
-smaller-product-requires c κs = search needs
-
-cast-below : tie.Need-cast-below Inv-loop μ-loop
-cast-below c = search needs
 
 add-below : tie.Need-add-below Inv-loop μ-loop
 add-below c = omega arith
@@ -61,9 +49,6 @@ loop-again c =
       laws.all-on _ _ (c₄ .loop .inv .3) _ (c .before .before .weights-differ .ensures) (not-false _ (c .before .if1 .left)),
     )
 
-cast-result : tie.Need-cast-result Inv-loop μ-loop
-cast-result c = search needs
-
 returns-2 : tie.Need-returns-2 Inv-loop μ-loop
 returns-2 c =
     laws.row-end _ _ _ _ _ _ _ (c .before .before .coef-at .ensures) (c .loop-test .left) (c .before .loop .inv .0) (c .before .loop .inv .2)
@@ -75,15 +60,14 @@ stands-out-spec =
     (tie.spec
     Inv-loop
     μ-loop
-    coef-at-requires
+    (λ c κs. search needs)
     loop-holds
-    weights-differ-requires
+    (λ c κs. search needs)
     returns
-    smaller-product-requires
-    cast-below
+    (λ c κs. search needs) (λ c. search needs)
     add-below
     add-j
     loop-less
     loop-again
-    cast-result
+    (λ c. search needs)
     returns-2)

@@ -7,14 +7,8 @@ use Rattle.rules.proofs.digits.weights_differ.Tie as tie
 returns : tie.Need-returns
 returns c = laws.apart-same _ _ _ (c .if1 .taken)
 
-coef-at-requires : tie.Need-coef-at-requires
-coef-at-requires c κs = search needs
-
-coef-at-requires-2 : tie.Need-coef-at-requires-2
-coef-at-requires-2 c κs = search needs
-
 returns-2 : tie.Need-returns-2
 returns-2 c = laws.apart-other _ _ _ _ _ (c .before .before .if1 .left) (c .before .coef-at .ensures) (c .coef-at2 .ensures)
 
 pub weights-differ-spec : {M : Type 1} → statement M
-weights-differ-spec = tie.close (tie.spec returns coef-at-requires coef-at-requires-2 returns-2)
+weights-differ-spec = tie.close (tie.spec returns (λ c κs. search needs) (λ c κs. search needs) returns-2)

@@ -20,9 +20,6 @@ Inv-loop acc₀ part factor p left₀ at₀ acc left at =
 abbrev μ-loop : tie.MeasureT-loop
 μ-loop acc₀ part factor p left₀ at₀ acc left at = left
 
-byte-at-requires : tie.Need-byte-at-requires Inv-loop μ-loop
-byte-at-requires c κs = search needs
-
 loop-holds : tie.Need-loop-holds Inv-loop μ-loop
 loop-holds c =
     let c₃ = c .before .before .before in (
@@ -32,38 +29,11 @@ loop-holds c =
           (walk.form-start _ _ (c .byte-at .ensures .0)),
     )
 
-u16-at-requires : tie.Need-u16-at-requires Inv-loop μ-loop
-u16-at-requires c κs = search needs
-
-cast-signal : tie.Need-cast-signal Inv-loop μ-loop
-cast-signal c = search needs
-
-mul-multiply-add : tie.Need-mul-multiply-add Inv-loop μ-loop
-mul-multiply-add c = search needs
-
-slice-read-multiply-add : tie.Need-slice-read-multiply-add Inv-loop μ-loop
-slice-read-multiply-add c = search needs
-
 add-u32-at : tie.Need-add-u32-at Inv-loop μ-loop
 add-u32-at c = omega arith
 
-u32-at-requires : tie.Need-u32-at-requires Inv-loop μ-loop
-u32-at-requires c κs = search needs
-
-multiply-add-requires : tie.Need-multiply-add-requires Inv-loop μ-loop
-multiply-add-requires c κs = search needs
-
-mul-acc : tie.Need-mul-acc Inv-loop μ-loop
-mul-acc c = search needs
-
-slice-write-acc : tie.Need-slice-write-acc Inv-loop μ-loop
-slice-write-acc c = search needs
-
 add-at : tie.Need-add-at Inv-loop μ-loop
 add-at c = omega arith
-
-sub-left : tie.Need-sub-left Inv-loop μ-loop
-sub-left c = search needs
 
 loop-less : tie.Need-loop-less Inv-loop μ-loop
 loop-less c = omega arith
@@ -92,19 +62,13 @@ add-form-spec =
     (tie.spec
     Inv-loop
     μ-loop
-    byte-at-requires
+    (λ c κs. search needs)
     loop-holds
-    u16-at-requires
-    cast-signal
-    mul-multiply-add
-    slice-read-multiply-add
+    (λ c κs. search needs) (λ c. search needs) (λ c. search needs) (λ c. search needs)
     add-u32-at
-    u32-at-requires
-    multiply-add-requires
-    mul-acc
-    slice-write-acc
+    (λ c κs. search needs) (λ c κs. search needs) (λ c. search needs) (λ c. search needs)
     add-at
-    sub-left
+    (λ c. search needs)
     loop-less
     loop-again
     same-length

@@ -22,34 +22,16 @@ abbrev μ-loop : tie.MeasureT-loop
 returns : tie.Need-returns Inv-loop μ-loop
 returns c = sym (ap (λ k. k % c .before .before .args .p) (walk.form-coef-beyond _ _ (c .if1 .taken)) ∙ zero-mod _)
 
-byte-at-requires : tie.Need-byte-at-requires Inv-loop μ-loop
-byte-at-requires c κs = search needs
-
 loop-holds : tie.Need-loop-holds Inv-loop μ-loop
 loop-holds c =
     let c₃ = c .before .before .before in
     (omega arith, omega arith, omega (arith, ap (λ f. coef f (c₃ .args .t)) (walk.form-start _ _ (c .byte-at .ensures .0))))
-
-u16-at-requires : tie.Need-u16-at-requires Inv-loop μ-loop
-u16-at-requires c κs = search needs
-
-add-u32-at : tie.Need-add-u32-at Inv-loop μ-loop
-add-u32-at c = search needs
-
-u32-at-requires : tie.Need-u32-at-requires Inv-loop μ-loop
-u32-at-requires c κs = search needs
-
-cast-total : tie.Need-cast-total Inv-loop μ-loop
-cast-total c = search needs
 
 add-total : tie.Need-add-total Inv-loop μ-loop
 add-total c = omega arith
 
 add-at : tie.Need-add-at Inv-loop μ-loop
 add-at c = omega arith
-
-sub-left : tie.Need-sub-left Inv-loop μ-loop
-sub-left c = search needs
 
 loop-less : tie.Need-loop-less Inv-loop μ-loop
 loop-less c = omega arith
@@ -84,15 +66,12 @@ coefficient-spec =
     Inv-loop
     μ-loop
     returns
-    byte-at-requires
+    (λ c κs. search needs)
     loop-holds
-    u16-at-requires
-    add-u32-at
-    u32-at-requires
-    cast-total
+    (λ c κs. search needs) (λ c. search needs) (λ c κs. search needs) (λ c. search needs)
     add-total
     add-at
-    sub-left
+    (λ c. search needs)
     loop-less
     loop-again
     rem-result

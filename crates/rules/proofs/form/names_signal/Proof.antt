@@ -18,14 +18,8 @@ abbrev μ-loop : tie.MeasureT-loop
 returns : tie.Need-returns Inv-loop μ-loop
 returns c = sym (walk.form-names-beyond _ _ (c .if1 .taken))
 
-byte-at-requires : tie.Need-byte-at-requires Inv-loop μ-loop
-byte-at-requires c κs = search needs
-
 loop-holds : tie.Need-loop-holds Inv-loop μ-loop
 loop-holds c = (omega arith, ap (λ f. names f (c .before .before .before .args .t)) (walk.form-start _ _ (c .byte-at .ensures .0)))
-
-u16-at-requires : tie.Need-u16-at-requires Inv-loop μ-loop
-u16-at-requires c κs = search needs
 
 returns-2 : tie.Need-returns-2 Inv-loop μ-loop
 returns-2 c =
@@ -36,9 +30,6 @@ returns-2 c =
 
 add-at : tie.Need-add-at Inv-loop μ-loop
 add-at c = omega arith
-
-sub-left : tie.Need-sub-left Inv-loop μ-loop
-sub-left c = search needs
 
 loop-less : tie.Need-loop-less Inv-loop μ-loop
 loop-less c = omega arith
@@ -62,12 +53,12 @@ names-signal-spec =
     Inv-loop
     μ-loop
     returns
-    byte-at-requires
+    (λ c κs. search needs)
     loop-holds
-    u16-at-requires
+    (λ c κs. search needs)
     returns-2
     add-at
-    sub-left
+    (λ c. search needs)
     loop-less
     loop-again
     returns-3)

@@ -14,13 +14,10 @@ returns-2 c = rw (le-leb _ _ (c .before .if1 .left), eq-eqb _ _ (c .if2 .taken))
 returns-3 : tie.Need-returns-3
 returns-3 c = rw (le-leb _ _ (c .before .before .if1 .left), ne-eqb _ _ (c .before .if2 .left), eq-eqb _ _ (c .if3 .taken))
 
-mark-at-requires : tie.Need-mark-at-requires
-mark-at-requires c κs = search needs
-
 returns-4 : tie.Need-returns-4
 returns-4 c =
     let c₃ = c .before .before .before in
     c .mark-at .ensures ∙ sym (rw (le-leb _ _ (c₃ .if1 .left), ne-eqb _ _ (c .before .before .if2 .left), ne-eqb _ _ (c .before .if3 .left)))
 
 pub other-marked-spec : {M : Type 1} → statement M
-other-marked-spec = tie.close (tie.spec returns returns-2 returns-3 mark-at-requires returns-4)
+other-marked-spec = tie.close (tie.spec returns returns-2 returns-3 (λ c κs. search needs) returns-4)

@@ -20,17 +20,8 @@ Inv-loop part marks t left₀ at₀ left at =
 abbrev μ-loop : tie.MeasureT-loop
 μ-loop part marks t left₀ at₀ left at = left
 
-byte-at-requires : tie.Need-byte-at-requires Inv-loop μ-loop
-byte-at-requires c κs = search needs
-
 loop-holds : tie.Need-loop-holds Inv-loop μ-loop
 loop-holds c = (omega arith, λ b. ap (othersMarked _ _) (walk.form-start _ _ (c .byte-at .ensures .0)))
-
-u16-at-requires : tie.Need-u16-at-requires Inv-loop μ-loop
-u16-at-requires c κs = search needs
-
-other-marked-requires : tie.Need-other-marked-requires Inv-loop μ-loop
-other-marked-requires c κs = search needs
 
 returns : tie.Need-returns Inv-loop μ-loop
 returns c =
@@ -41,9 +32,6 @@ returns c =
 
 add-at : tie.Need-add-at Inv-loop μ-loop
 add-at c = omega arith
-
-sub-left : tie.Need-sub-left Inv-loop μ-loop
-sub-left c = search needs
 
 loop-less : tie.Need-loop-less Inv-loop μ-loop
 loop-less c = omega arith
@@ -66,13 +54,12 @@ others-marked-spec =
     (tie.spec
     Inv-loop
     μ-loop
-    byte-at-requires
+    (λ c κs. search needs)
     loop-holds
-    u16-at-requires
-    other-marked-requires
+    (λ c κs. search needs) (λ c κs. search needs)
     returns
     add-at
-    sub-left
+    (λ c. search needs)
     loop-less
     loop-again
     returns-2)

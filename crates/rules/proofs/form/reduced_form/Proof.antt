@@ -9,54 +9,6 @@ use Rattle.rules.proofs.form.reduced_form.Tie as tie
 returns : tie.Need-returns
 returns c = laws.reduced-small _ 257 _ (c .if1 .taken)
 
-after-form-requires : tie.Need-after-form-requires
-after-form-requires c κs = search needs
-
-after-form-requires-2 : tie.Need-after-form-requires-2
-after-form-requires-2 c κs = search needs
-
-coefficient-requires : tie.Need-coefficient-requires
-coefficient-requires c κs = search needs
-
-coefficient-requires-2 : tie.Need-coefficient-requires-2
-coefficient-requires-2 c κs = search needs
-
-slice-aggregate-add-form : tie.Need-slice-aggregate-add-form
-slice-aggregate-add-form c = search needs
-
-add-form-requires : tie.Need-add-form-requires
-add-form-requires c κs = search needs
-
-slice-aggregate-add-form-2 : tie.Need-slice-aggregate-add-form-2
-slice-aggregate-add-form-2 c = search needs
-
-add-form-requires-2 : tie.Need-add-form-requires-2
-add-form-requires-2 c κs = search needs
-
-slice-aggregate-add-form-3 : tie.Need-slice-aggregate-add-form-3
-slice-aggregate-add-form-3 c = search needs
-
-sub-add-form : tie.Need-sub-add-form
-sub-add-form c = search needs
-
-add-form-requires-3 : tie.Need-add-form-requires-3
-add-form-requires-3 c κs = search needs
-
-multiply-add-requires : tie.Need-multiply-add-requires
-multiply-add-requires c κs = search needs
-
-array-read-multiply-add : tie.Need-array-read-multiply-add
-array-read-multiply-add c = search needs
-
-sub-multiply-add : tie.Need-sub-multiply-add
-sub-multiply-add c = search needs
-
-multiply-add-requires-2 : tie.Need-multiply-add-requires-2
-multiply-add-requires-2 c κs = search needs
-
-array-write-acc : tie.Need-array-write-acc
-array-write-acc c = search needs
-
 returns-2 : tie.Need-returns-2
 unfolding coefIn
 returns-2 c =
@@ -77,20 +29,7 @@ reduced-form-spec =
     tie.close
     (tie.spec
     returns
-    after-form-requires
-    after-form-requires-2
-    coefficient-requires
-    coefficient-requires-2
-    slice-aggregate-add-form
-    add-form-requires
-    slice-aggregate-add-form-2
-    add-form-requires-2
-    slice-aggregate-add-form-3
-    sub-add-form
-    add-form-requires-3
-    multiply-add-requires
-    array-read-multiply-add
-    sub-multiply-add
-    multiply-add-requires-2
-    array-write-acc
+    (λ c κs. search needs) (λ c κs. search needs) (λ c κs. search needs) (λ c κs. search needs) (λ c. search needs) (λ c κs. search needs)
+    (λ c. search needs) (λ c κs. search needs) (λ c. search needs) (λ c. search needs) (λ c κs. search needs) (λ c κs. search needs)
+    (λ c. search needs) (λ c. search needs) (λ c κs. search needs) (λ c. search needs)
     returns-2)

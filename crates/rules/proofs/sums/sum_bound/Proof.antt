@@ -18,15 +18,6 @@ abbrev μ-loop : tie.MeasureT-loop
 returns : tie.Need-returns Inv-loop μ-loop
 returns c = laws.total-none _ _ _ _ _ (c .if1 .taken)
 
-coef-at-requires : tie.Need-coef-at-requires Inv-loop μ-loop
-coef-at-requires c κs = search needs
-
-inverse-requires : tie.Need-inverse-requires Inv-loop μ-loop
-inverse-requires c κs = search needs
-
-signals-end-requires : tie.Need-signals-end-requires Inv-loop μ-loop
-signals-end-requires c κs = search needs
-
 loop-holds : tie.Need-loop-holds Inv-loop μ-loop
 unfolding sum
 loop-holds c = (omega arith, omega arith, refl)
@@ -67,9 +58,7 @@ sum-bound-spec =
     Inv-loop
     μ-loop
     returns
-    coef-at-requires
-    inverse-requires
-    signals-end-requires
+    (λ c κs. search needs) (λ c κs. search needs) (λ c κs. search needs)
     loop-holds
     sum-term-requires
     add-total

@@ -9,23 +9,11 @@ use Rattle.rules.proofs.sums.sum_term.Tie as tie
 returns : tie.Need-returns
 returns c = (laws.term-target _ _ _ _ _ (c .if1 .taken), omega arith)
 
-coef-at-requires : tie.Need-coef-at-requires
-coef-at-requires c κs = search needs
-
 returns-2 : tie.Need-returns-2
 returns-2 c = (laws.term-none _ _ _ _ _ _ (c .before .coef-at .ensures) (c .before .before .if1 .left) (c .if2 .taken), omega arith)
 
-rem-multiply-add : tie.Need-rem-multiply-add
-rem-multiply-add c = search needs
-
 sub-multiply-add : tie.Need-sub-multiply-add
 sub-multiply-add c = omega (arith, mod-lt (c .before .coef-at .result) (c .before .before .before .before .before .pre .0))
-
-multiply-add-requires : tie.Need-multiply-add-requires
-multiply-add-requires c κs = search needs
-
-cast-result : tie.Need-cast-result
-cast-result c = search needs
 
 returns-3 : tie.Need-returns-3
 returns-3 c =
@@ -36,12 +24,6 @@ returns-3 c =
           (c .if3 .taken),
       omega arith,
     )
-
-bound-at-requires : tie.Need-bound-at-requires
-bound-at-requires c κs = search needs
-
-product-requires : tie.Need-product-requires
-product-requires c κs = search needs
 
 returns-4 : tie.Need-returns-4
 returns-4 c =
@@ -59,13 +41,11 @@ sum-term-spec =
     tie.close
     (tie.spec
     returns
-    coef-at-requires
+    (λ c κs. search needs)
     returns-2
-    rem-multiply-add
+    (λ c. search needs)
     sub-multiply-add
-    multiply-add-requires
-    cast-result
+    (λ c κs. search needs) (λ c. search needs)
     returns-3
-    bound-at-requires
-    product-requires
+    (λ c κs. search needs) (λ c κs. search needs)
     returns-4)

@@ -5,17 +5,8 @@ use Rattle.rules.proofs.ViewLaws.{bound-past, bound-within}
 use Rattle.rules.proofs.view.bound_at.Statement.{statement}
 use Rattle.rules.proofs.view.bound_at.Tie as tie
 
-mul-result : tie.Need-mul-result
-mul-result c = search needs
-
-shared-slice-read-result : tie.Need-shared-slice-read-result
-shared-slice-read-result c = search needs
-
 returns : tie.Need-returns
 returns c = bound-within (c .before .before .args .p) _ _ (c .before .if1 .taken)
-
-sub-result : tie.Need-sub-result
-sub-result c = search needs
 
 returns-2 : tie.Need-returns-2
 returns-2 c =
@@ -35,4 +26,4 @@ returns-3 c =
 
 pub bound-at-spec : {M : Type 1} → statement M
 bound-at-spec =
-    tie.close (tie.spec mul-result shared-slice-read-result returns sub-result returns-2 returns-3)
+    tie.close (tie.spec (λ c. search needs) (λ c. search needs) returns (λ c. search needs) returns-2 returns-3)

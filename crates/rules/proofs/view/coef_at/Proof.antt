@@ -6,12 +6,6 @@ use Rattle.rules.specs.View.{coefIn}
 use Rattle.rules.proofs.view.coef_at.Statement.{statement}
 use Rattle.rules.proofs.view.coef_at.Tie as tie
 
-mul-result : tie.Need-mul-result
-mul-result c = search needs
-
-shared-slice-read-result : tie.Need-shared-slice-read-result
-shared-slice-read-result c = search needs
-
 returns : tie.Need-returns
 unfolding coefIn
 returns c = refl
@@ -20,4 +14,4 @@ returns-2 : tie.Need-returns-2
 returns-2 c = sym (coef-past _ _ (c .if1 .left))
 
 pub coef-at-spec : {M : Type 1} → statement M
-coef-at-spec = tie.close (tie.spec mul-result shared-slice-read-result returns returns-2)
+coef-at-spec = tie.close (tie.spec (λ c. search needs) (λ c. search needs) returns returns-2)

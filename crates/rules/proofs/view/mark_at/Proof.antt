@@ -6,9 +6,6 @@ use Rattle.rules.specs.View.{markIn}
 use Rattle.rules.proofs.view.mark_at.Statement.{statement}
 use Rattle.rules.proofs.view.mark_at.Tie as tie
 
-shared-slice-read-result : tie.Need-shared-slice-read-result
-shared-slice-read-result c = search needs
-
 returns : tie.Need-returns
 unfolding markIn
 returns c = refl
@@ -17,4 +14,4 @@ returns-2 : tie.Need-returns-2
 returns-2 c = sym (mark-past _ _ (c .if1 .left))
 
 pub mark-at-spec : {M : Type 1} → statement M
-mark-at-spec = tie.close (tie.spec shared-slice-read-result returns returns-2)
+mark-at-spec = tie.close (tie.spec (λ c. search needs) returns returns-2)

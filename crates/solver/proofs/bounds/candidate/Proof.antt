@@ -9,30 +9,6 @@ use Rattle.solver.proofs.RowLaws.{row-inside, row-few, row-signals}
 use Rattle.solver.proofs.CandidateLaws as laws
 use Rattle.solver.proofs.bounds.candidate.Statement.{statement}
 use Rattle.solver.proofs.bounds.candidate.Tie as tie
-use Rattle.solver.proofs.bounds.candidate.Reads as reads
-use Rattle.solver.proofs.bounds.candidate.Lts as lts
-use Rattle.derivation.proofs.offsets.part_of.Reads as part-of-reads
-use Rattle.rules.proofs.constraint.is_linear.Reads as is-linear-reads
-use Rattle.rules.proofs.constraint.root_bound.Reads as root-bound-reads
-use Rattle.rules.proofs.constraint.root_met.Reads as root-met-reads
-use Rattle.solver.proofs.rows.row_of.Reads as row-of-reads
-use Rattle.solver.proofs.rows.signals_of.Reads as signals-of-reads
-use Rattle.rules.proofs.sums.sum_bound.Reads as sum-bound-reads
-use Rattle.solver.proofs.bounds.key_of.Reads as key-of-reads
-use Rattle.solver.proofs.search.only_free.Reads as only-free-reads
-use Rattle.solver.proofs.search.unmarked_in.Reads as unmarked-in-reads
-
-part-of-requires : tie.Need-part-of-requires
-part-of-requires c κs = search needs
-
-is-linear-requires : tie.Need-is-linear-requires
-is-linear-requires c κs = search needs
-
-slice-aggregate-unmarked-in : tie.Need-slice-aggregate-unmarked-in
-slice-aggregate-unmarked-in c = search needs
-
-unmarked-in-requires : tie.Need-unmarked-in-requires
-unmarked-in-requires c κs = search needs
 
 returns : tie.Need-returns
 returns c =
@@ -42,9 +18,6 @@ returns c =
     let entry = at-part-of .before .before .before .before .before in
     laws.root-unnamed _ _ _ _ _ _ (entry .pre .0) (entry .pre .1) (entry .pre .2) _ (at-part-of .part-of .ensures) _
     (at-is-linear .is-linear .ensures) (not-true _ (at-if1 .if1 .taken)) _ (mark-none 1) _ (c .before .unmarked-in .ensures) (c .if2 .taken)
-
-root-met-requires : tie.Need-root-met-requires
-root-met-requires c κs = search needs
 
 returns-2 : tie.Need-returns-2
 returns-2 c =
@@ -56,15 +29,6 @@ returns-2 c =
     laws.root-unmet _ _ _ _ _ _ (entry .pre .0) (entry .pre .1) (entry .pre .2) _ (at-part-of .part-of .ensures) _
     (at-is-linear .is-linear .ensures) (not-true _ (at-if1 .if1 .taken)) _ (mark-none 1) _ (at-unmarked-in .unmarked-in .ensures) _
     (c .before .root-met .ensures) (not-true _ (c .if3 .taken))
-
-root-bound-requires : tie.Need-root-bound-requires
-root-bound-requires c κs = search needs
-
-cast-if4 : tie.Need-cast-if4
-cast-if4 c = search needs
-
-mul-if4 : tie.Need-mul-if4
-mul-if4 c = search needs
 
 shared-slice-read-if4 : tie.Need-shared-slice-read-if4
 shared-slice-read-if4 c =
@@ -155,9 +119,6 @@ row-of-requires c κs =
     let entry = c .before .before .before .before .before .before .before .before .before .before in
     row-inside _ _ (entry .pre .3) _ _ (entry .pre .0 .is-n) (entry .pre .2)
 
-sum-bound-requires : tie.Need-sum-bound-requires
-sum-bound-requires c κs = search needs
-
 sub-if6 : tie.Need-sub-if6
 sub-if6 c =
     let entry = c .before .before .before .before .before .before .before .before .before .before .before .before in
@@ -221,16 +182,11 @@ pub candidate-spec : {M : Type 1} → statement M
 candidate-spec =
     tie.close
     (tie.spec
-    part-of-requires
-    is-linear-requires
-    slice-aggregate-unmarked-in
-    unmarked-in-requires
+    (λ c κs. search needs) (λ c κs. search needs) (λ c. search needs) (λ c κs. search needs)
     returns
-    root-met-requires
+    (λ c κs. search needs)
     returns-2
-    root-bound-requires
-    cast-if4
-    mul-if4
+    (λ c κs. search needs) (λ c. search needs) (λ c. search needs)
     shared-slice-read-if4
     returns-3
     key-of-requires
@@ -239,7 +195,7 @@ candidate-spec =
     only-free-requires
     returns-5
     row-of-requires
-    sum-bound-requires
+    (λ c κs. search needs)
     sub-if6
     returns-6
     cast-key-of

@@ -10,12 +10,6 @@ use Rattle.solver.proofs.RowLaws.{row-inside}
 use Rattle.solver.proofs.BoundsTurn as laws
 use Rattle.solver.proofs.bounds.lower_bounds.Statement.{statement}
 use Rattle.solver.proofs.bounds.lower_bounds.Tie as tie
-use Rattle.solver.proofs.bounds.lower_bounds.Reads as reads
-use Rattle.solver.proofs.bounds.lower_bounds.Lts as lts
-use Rattle.solver.proofs.bounds.refresh.Reads as refresh-reads
-use Rattle.solver.proofs.memo.forget.Reads as forget-reads
-use Rattle.solver.proofs.memo.least.Reads as least-reads
-use Rattle.solver.proofs.output.put_step.Reads as put-step-reads
 
 abbrev Inv-loop : tie.InvT-loop
 Inv-loop circuit table rows bounds₀ output₀ p n m keys₀ count₀ bounds output keys count =
@@ -24,9 +18,6 @@ Inv-loop circuit table rows bounds₀ output₀ p n m keys₀ count₀ bounds ou
 
 abbrev μ-loop : tie.MeasureT-loop
 μ-loop circuit table rows bounds₀ output₀ p n m keys₀ count₀ bounds output keys count = n - count
-
-array-write-keys : tie.Need-array-write-keys Inv-loop μ-loop
-array-write-keys c = search needs
 
 loop-holds : tie.Need-loop-holds Inv-loop μ-loop
 loop-holds c =
@@ -37,9 +28,6 @@ loop-holds c =
       refl,
       laws.turning-start _ _ (a .pre .0 .prepared) _ _ _ (a .pre .2) (no-keys _ _ 512),
     )
-
-slice-aggregate-refresh : tie.Need-slice-aggregate-refresh Inv-loop μ-loop
-slice-aggregate-refresh c = search needs
 
 refresh-requires : tie.Need-refresh-requires Inv-loop μ-loop
 refresh-requires c κs =
@@ -58,9 +46,6 @@ refresh-requires c κs =
       l .inv .4 .keyed,
       a .pre .4,
     )
-
-slice-aggregate-least : tie.Need-slice-aggregate-least Inv-loop μ-loop
-slice-aggregate-least c = search needs
 
 least-requires : tie.Need-least-requires Inv-loop μ-loop
 least-requires c κs =
@@ -86,22 +71,10 @@ returns c =
     laws.turning-none _ _ (entry .pre .0 .prepared) _ _ _ _ _ (at-loop .loop .inv .4) _ (at-refresh .refresh .ensures) _ _ (entry .pre .1)
     (c .before .least .ensures) (c .if1 .taken)
 
-cast-key : tie.Need-cast-key Inv-loop μ-loop
-cast-key c = search needs
-
-mul-key : tie.Need-mul-key Inv-loop μ-loop
-mul-key c = search needs
-
 array-read-key : tie.Need-array-read-key Inv-loop μ-loop
 array-read-key c =
     let a = c .before .before .before .before .before .before .before .before .before .before .before .before .before in
     omega (arith, a .pre .1, few-constraints (a .pre .0 .prepared), c .before .least .ensures .within)
-
-cast-target : tie.Need-cast-target Inv-loop μ-loop
-cast-target c = search needs
-
-cast-put-step : tie.Need-cast-put-step Inv-loop μ-loop
-cast-put-step c = search needs
 
 put-step-requires : tie.Need-put-step-requires Inv-loop μ-loop
 put-step-requires c κs =
@@ -135,12 +108,6 @@ cast-bounds c =
     (at-least .least .ensures) (at-if1 .if1 .left) in
     record { fits = omega (arith, h, s .p-most, a .pre .0 .is-p) }
 
-cast-bounds-2 : tie.Need-cast-bounds-2 Inv-loop μ-loop
-cast-bounds-2 c = search needs
-
-mul-bounds : tie.Need-mul-bounds Inv-loop μ-loop
-mul-bounds c = search needs
-
 slice-write-bounds : tie.Need-slice-write-bounds Inv-loop μ-loop
 slice-write-bounds c =
     let at-if1 = c .before .before .before .before in
@@ -151,9 +118,6 @@ slice-write-bounds c =
     let h = laws.target-small _ _ (entry .pre .0 .prepared) _ _ _ _ _ (at-loop .loop .inv .4) _ (at-refresh .refresh .ensures) _ _ (entry .pre .1)
     (at-least .least .ensures) (at-if1 .if1 .left) in
     omega (arith, h .1, at-loop .loop .inv .1)
-
-slice-aggregate-forget : tie.Need-slice-aggregate-forget Inv-loop μ-loop
-slice-aggregate-forget c = search needs
 
 forget-requires : tie.Need-forget-requires Inv-loop μ-loop
 forget-requires c κs =
@@ -168,12 +132,6 @@ forget-requires c κs =
       omega (arith, entry .pre .1, few-constraints (entry .pre .0 .prepared), at-loop .loop .inv .2, at-refresh .refresh .kept .1 .1 .1 .1 .0),
       omega (arith, h .2, entry .pre .0 .is-n),
     )
-
-add-count : tie.Need-add-count Inv-loop μ-loop
-add-count c = search needs
-
-loop-less : tie.Need-loop-less Inv-loop μ-loop
-loop-less c = search needs
 
 loop-again : tie.Need-loop-again Inv-loop μ-loop
 loop-again c =
@@ -210,29 +168,25 @@ lower-bounds-spec =
     (tie.spec
     Inv-loop
     μ-loop
-    array-write-keys
+    (λ c. search needs)
     loop-holds
-    slice-aggregate-refresh
+    (λ c. search needs)
     refresh-requires
-    slice-aggregate-least
+    (λ c. search needs)
     least-requires
     same-length
     same-length-2
     returns
-    cast-key
-    mul-key
+    (λ c. search needs) (λ c. search needs)
     array-read-key
-    cast-target
-    cast-put-step
+    (λ c. search needs) (λ c. search needs)
     put-step-requires
     cast-bounds
-    cast-bounds-2
-    mul-bounds
+    (λ c. search needs) (λ c. search needs)
     slice-write-bounds
-    slice-aggregate-forget
+    (λ c. search needs)
     forget-requires
-    add-count
-    loop-less
+    (λ c. search needs) (λ c. search needs)
     loop-again
     same-length-3
     same-length-4

@@ -9,9 +9,6 @@ use Rattle.derivation.specs.Inner.{circuitOf}
 use Rattle.solver.proofs.BoundsPhase as laws
 use Rattle.solver.proofs.bounds.refresh.Statement.{statement}
 use Rattle.solver.proofs.bounds.refresh.Tie as tie
-use Rattle.solver.proofs.bounds.refresh.Reads as reads
-use Rattle.solver.proofs.bounds.refresh.Lts as lts
-use Rattle.solver.proofs.bounds.candidate.Reads as candidate-reads
 
 abbrev Inv-loop : tie.InvT-loop
 Inv-loop circuit table rows bounds keys₀ p n m k₀ keys k =
@@ -23,34 +20,10 @@ abbrev μ-loop : tie.MeasureT-loop
 loop-holds : tie.Need-loop-holds Inv-loop μ-loop
 loop-holds c = (omega arith, refl, laws.refreshing-start _ _ _ (c .before .before .before .before .pre .3))
 
-add-k : tie.Need-add-k Inv-loop μ-loop
-add-k c = search needs
-
-cast-if1 : tie.Need-cast-if1 Inv-loop μ-loop
-cast-if1 c = search needs
-
-mul-if1 : tie.Need-mul-if1 Inv-loop μ-loop
-mul-if1 c = search needs
-
-slice-read-if1 : tie.Need-slice-read-if1 Inv-loop μ-loop
-slice-read-if1 c = search needs
-
 candidate-requires : tie.Need-candidate-requires Inv-loop μ-loop
 candidate-requires c κs =
     let entry = c .before .before .before .before .before .before .before .before in
     (entry .pre .0, omega arith, omega (arith, entry .pre .1), entry .pre .4)
-
-cast-keys : tie.Need-cast-keys Inv-loop μ-loop
-cast-keys c = search needs
-
-mul-keys : tie.Need-mul-keys Inv-loop μ-loop
-mul-keys c = search needs
-
-slice-write-keys : tie.Need-slice-write-keys Inv-loop μ-loop
-slice-write-keys c = search needs
-
-loop-less : tie.Need-loop-less Inv-loop μ-loop
-loop-less c = search needs
 
 loop-again : tie.Need-loop-again Inv-loop μ-loop
 loop-again c =
@@ -62,17 +35,11 @@ loop-again c =
       laws.refreshing-set _ _ _ _ (l .inv .2) (omega (arith, a .pre .1)) _ (omega arith) (c .candidate .ensures),
     )
 
-loop-less-2 : tie.Need-loop-less-2 Inv-loop μ-loop
-loop-less-2 c = search needs
-
 loop-again-2 : tie.Need-loop-again-2 Inv-loop μ-loop
 loop-again-2 c =
     let at-loop = c .before .before .before in
     let entry = at-loop .before .before .before .before .before in
     (omega arith, at-loop .loop .inv .1, laws.refreshing-on _ _ _ _ (at-loop .loop .inv .2) (omega (arith, entry .pre .1)) (c .if1 .left))
-
-same-length : tie.Need-same-length Inv-loop μ-loop
-same-length c = search needs
 
 returns : tie.Need-returns Inv-loop μ-loop
 returns c = laws.refreshing-end _ _ _ _ (c .before .loop .inv .2) (omega (arith, c .before .before .before .before .before .before .pre .1))
@@ -84,17 +51,11 @@ refresh-spec =
     Inv-loop
     μ-loop
     loop-holds
-    add-k
-    cast-if1
-    mul-if1
-    slice-read-if1
+    (λ c. search needs) (λ c. search needs) (λ c. search needs) (λ c. search needs)
     candidate-requires
-    cast-keys
-    mul-keys
-    slice-write-keys
-    loop-less
+    (λ c. search needs) (λ c. search needs) (λ c. search needs) (λ c. search needs)
     loop-again
-    loop-less-2
+    (λ c. search needs)
     loop-again-2
-    same-length
+    (λ c. search needs)
     returns)

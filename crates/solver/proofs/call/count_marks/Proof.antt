@@ -8,9 +8,6 @@ use Rattle.derivation.specs.Call.{marksFrom, total}
 use Rattle.solver.proofs.SolveLaws as laws
 use Rattle.solver.proofs.call.count_marks.Statement.{statement}
 use Rattle.solver.proofs.call.count_marks.Tie as tie
-use Rattle.solver.proofs.call.count_marks.Reads as reads
-use Rattle.solver.proofs.call.count_marks.Lts as lts
-use Rattle.rules.proofs.view.mark_at.Reads as mark-at-reads
 
 abbrev Inv-loop : tie.InvT-loop
 Inv-loop marks n count₀ s₀ count s = (s ≤ n) × (count ≤ s) × (count ≡ total (marksFrom (markIn marks) 0 s))
@@ -21,28 +18,13 @@ abbrev μ-loop : tie.MeasureT-loop
 loop-holds : tie.Need-loop-holds Inv-loop μ-loop
 loop-holds c = (omega arith, omega arith, laws.none-counted _)
 
-add-s : tie.Need-add-s Inv-loop μ-loop
-add-s c = search needs
-
-cast-mark-at : tie.Need-cast-mark-at Inv-loop μ-loop
-cast-mark-at c = search needs
-
-mark-at-requires : tie.Need-mark-at-requires Inv-loop μ-loop
-mark-at-requires c κs = search needs
-
 add-count : tie.Need-add-count Inv-loop μ-loop
 add-count c = omega arith
-
-loop-less : tie.Need-loop-less Inv-loop μ-loop
-loop-less c = search needs
 
 loop-again : tie.Need-loop-again Inv-loop μ-loop
 loop-again c =
     let at-loop = c .before .before .before in
     (omega arith, omega arith, laws.marked-counted _ _ _ (at-loop .loop .inv .2) (sym (c .before .mark-at .ensures) ∙ c .if1 .taken))
-
-loop-less-2 : tie.Need-loop-less-2 Inv-loop μ-loop
-loop-less-2 c = search needs
 
 loop-again-2 : tie.Need-loop-again-2 Inv-loop μ-loop
 loop-again-2 c =
@@ -59,12 +41,10 @@ count-marks-spec =
     Inv-loop
     μ-loop
     loop-holds
-    add-s
-    cast-mark-at
-    mark-at-requires
+    (λ c. search needs) (λ c. search needs) (λ c κs. search needs)
     add-count
-    loop-less
+    (λ c. search needs)
     loop-again
-    loop-less-2
+    (λ c. search needs)
     loop-again-2
     returns)

@@ -7,19 +7,6 @@ use Rattle.solver.proofs.Demand.{demand}
 use Rattle.solver.proofs.SolveLaws as laws
 use Rattle.solver.proofs.call.solve.Statement.{statement}
 use Rattle.solver.proofs.call.solve.Tie as tie
-use Rattle.solver.proofs.call.solve.Reads as reads
-use Rattle.solver.proofs.call.solve.Lts as lts
-use Rattle.circuit.proofs.reader.check_circuit.Reads as check-circuit-reads
-use Rattle.solver.proofs.call.solve_on.Reads as solve-on-reads
-
-check-circuit-requires : tie.Need-check-circuit-requires
-check-circuit-requires c κs = search needs
-
-enum-known-answer : tie.Need-enum-known-answer
-enum-known-answer c = search needs
-
-enum-known-answer-2 : tie.Need-enum-known-answer-2
-enum-known-answer-2 c = search needs
 
 solve-on-requires : tie.Need-solve-on-requires
 solve-on-requires c κs =
@@ -35,9 +22,6 @@ returns c =
     (sym (ap paperOf (c .before .answer .given .1)) ∙ at-check-circuit .check-circuit .ensures) in
     (r .0, (r .1, demand _ _))
 
-same-length : tie.Need-same-length
-same-length c = search needs
-
 returns-2 : tie.Need-returns-2
 returns-2 c = (c .before .before .solve-on .ensures .0, (c .before .before .solve-on .ensures .1, demand _ _))
 
@@ -45,10 +29,8 @@ pub solve-spec : {M : Type 1} → statement M
 solve-spec =
     tie.close
     (tie.spec
-    check-circuit-requires
-    enum-known-answer
-    enum-known-answer-2
+    (λ c κs. search needs) (λ c. search needs) (λ c. search needs)
     solve-on-requires
     returns
-    same-length
+    (λ c. search needs)
     returns-2)

@@ -9,9 +9,6 @@ use Rattle.solver.specs.Marks.{withMarks, Floors}
 use Rattle.solver.proofs.Floors.{floors-set}
 use Rattle.solver.proofs.floor.fill_floors.Statement.{statement}
 use Rattle.solver.proofs.floor.fill_floors.Tie as tie
-use Rattle.solver.proofs.floor.fill_floors.Reads as reads
-use Rattle.solver.proofs.floor.fill_floors.Lts as lts
-use Rattle.solver.proofs.floor.low_of.Reads as low-of-reads
 
 abbrev Inv-loop : tie.InvT-loop
 Inv-loop circuit table rows marks floors₀ loose₀ n m k₀ floors loose k =
@@ -24,40 +21,10 @@ abbrev μ-loop : tie.MeasureT-loop
 loop-holds : tie.Need-loop-holds Inv-loop μ-loop
 loop-holds c = (omega arith, refl, refl, λ b F. F)
 
-add-k : tie.Need-add-k Inv-loop μ-loop
-add-k c = search needs
-
-cast-if1 : tie.Need-cast-if1 Inv-loop μ-loop
-cast-if1 c = search needs
-
-mul-if1 : tie.Need-mul-if1 Inv-loop μ-loop
-mul-if1 c = search needs
-
-slice-read-if1 : tie.Need-slice-read-if1 Inv-loop μ-loop
-slice-read-if1 c = search needs
-
 low-of-requires : tie.Need-low-of-requires Inv-loop μ-loop
 low-of-requires c κs =
     let pre = c .before .before .before .before .before .before .before .before .before .pre in
     (pre .0, pre .1, pre .2, pre .3, omega arith, omega (arith, pre .4))
-
-cast-floors : tie.Need-cast-floors Inv-loop μ-loop
-cast-floors c = search needs
-
-mul-floors : tie.Need-mul-floors Inv-loop μ-loop
-mul-floors c = search needs
-
-slice-write-floors : tie.Need-slice-write-floors Inv-loop μ-loop
-slice-write-floors c = search needs
-
-cast-loose : tie.Need-cast-loose Inv-loop μ-loop
-cast-loose c = search needs
-
-slice-write-loose : tie.Need-slice-write-loose Inv-loop μ-loop
-slice-write-loose c = search needs
-
-loop-less : tie.Need-loop-less Inv-loop μ-loop
-loop-less c = search needs
 
 loop-again : tie.Need-loop-again Inv-loop μ-loop
 loop-again c =
@@ -67,9 +34,6 @@ loop-again c =
       length-set (l .loose) (l .k + 1) _ ∙ l .inv .2,
       λ b F. floors-set _ _ _ _ _ (l .inv .3 b F) (omega arith) (c .low-of .ensures b),
     )
-
-loop-less-2 : tie.Need-loop-less-2 Inv-loop μ-loop
-loop-less-2 c = search needs
 
 loop-again-2 : tie.Need-loop-again-2 Inv-loop μ-loop
 loop-again-2 c =
@@ -92,19 +56,11 @@ fill-floors-spec =
     Inv-loop
     μ-loop
     loop-holds
-    add-k
-    cast-if1
-    mul-if1
-    slice-read-if1
+    (λ c. search needs) (λ c. search needs) (λ c. search needs) (λ c. search needs)
     low-of-requires
-    cast-floors
-    mul-floors
-    slice-write-floors
-    cast-loose
-    slice-write-loose
-    loop-less
+    (λ c. search needs) (λ c. search needs) (λ c. search needs) (λ c. search needs) (λ c. search needs) (λ c. search needs)
     loop-again
-    loop-less-2
+    (λ c. search needs)
     loop-again-2
     same-length
     same-length-2

@@ -8,8 +8,6 @@ use Rattle.rules.specs.View.{viewOf}
 use Rattle.solver.proofs.FormLaws as laws
 use Rattle.solver.proofs.floor.first_zero.Statement.{statement}
 use Rattle.solver.proofs.floor.first_zero.Tie as tie
-use Rattle.solver.proofs.floor.first_zero.Reads as reads
-use Rattle.solver.proofs.floor.first_zero.Lts as lts
 
 abbrev Inv-loop : tie.InvT-loop
 Inv-loop bounds marks n s₀ s = (s ≤ n) × ((p : ℕ) → laws.Nonzero (viewOf p bounds marks) s)
@@ -20,21 +18,6 @@ abbrev μ-loop : tie.MeasureT-loop
 loop-holds : tie.Need-loop-holds Inv-loop μ-loop
 loop-holds c = (omega arith, λ p. laws.nonzero-start _)
 
-add-s : tie.Need-add-s Inv-loop μ-loop
-add-s c = search needs
-
-cast-at : tie.Need-cast-at Inv-loop μ-loop
-cast-at c = search needs
-
-mul-if1 : tie.Need-mul-if1 Inv-loop μ-loop
-mul-if1 c = search needs
-
-shared-slice-read-if1 : tie.Need-shared-slice-read-if1 Inv-loop μ-loop
-shared-slice-read-if1 c = search needs
-
-shared-slice-read-if2 : tie.Need-shared-slice-read-if2 Inv-loop μ-loop
-shared-slice-read-if2 c = search needs
-
 returns : tie.Need-returns Inv-loop μ-loop
 returns c =
     let at-if1 = c .before .before in
@@ -42,9 +25,6 @@ returns c =
     let at-loop = at-loop-test .before in
     λ p. laws.zero-found _ _ (at-loop .loop .inv .1 p) _ (at-loop-test .loop-test .taken)
     (laws.view-marked p _ _ _ (laws.mark-read _ _ (not-true _ (c .if2 .taken)))) (laws.bound-read _ _ _ _ _ (omega arith) (at-if1 .if1 .taken))
-
-loop-less : tie.Need-loop-less Inv-loop μ-loop
-loop-less c = search needs
 
 loop-again : tie.Need-loop-again Inv-loop μ-loop
 loop-again c =
@@ -54,18 +34,12 @@ loop-again c =
           (λ e h. true-or-false _ (laws.view-marked p _ _ _ (laws.mark-read _ _ (not-false _ (c .if2 .left)))) e),
     )
 
-loop-less-2 : tie.Need-loop-less-2 Inv-loop μ-loop
-loop-less-2 c = search needs
-
 loop-again-2 : tie.Need-loop-again-2 Inv-loop μ-loop
 loop-again-2 c =
     let at-loop = c .before .before .before in (
       omega arith,
       λ p. laws.nonzero-on _ _ (at-loop .loop .inv .1 p) (λ e h. c .if1 .left (laws.bound-nonzero _ _ _ _ (omega arith) h)),
     )
-
-add-result : tie.Need-add-result Inv-loop μ-loop
-add-result c = search needs
 
 returns-2 : tie.Need-returns-2 Inv-loop μ-loop
 returns-2 c = λ p. laws.zero-none _ _ (c .before .loop .inv .1 p) _ (c .before .loop .inv .0) (c .loop-test .left)
@@ -77,15 +51,11 @@ first-zero-spec =
     Inv-loop
     μ-loop
     loop-holds
-    add-s
-    cast-at
-    mul-if1
-    shared-slice-read-if1
-    shared-slice-read-if2
+    (λ c. search needs) (λ c. search needs) (λ c. search needs) (λ c. search needs) (λ c. search needs)
     returns
-    loop-less
+    (λ c. search needs)
     loop-again
-    loop-less-2
+    (λ c. search needs)
     loop-again-2
-    add-result
+    (λ c. search needs)
     returns-2)

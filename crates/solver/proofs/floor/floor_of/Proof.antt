@@ -9,27 +9,6 @@ use Rattle.solver.proofs.FormLaws.{view-equals}
 use Rattle.solver.proofs.MarkLaws as laws
 use Rattle.solver.proofs.floor.floor_of.Statement.{statement}
 use Rattle.solver.proofs.floor.floor_of.Tie as tie
-use Rattle.solver.proofs.floor.floor_of.Reads as reads
-use Rattle.solver.proofs.floor.floor_of.Lts as lts
-use Rattle.derivation.proofs.offsets.part_of.Reads as part-of-reads
-use Rattle.rules.proofs.constraint.is_linear.Reads as is-linear-reads
-use Rattle.solver.proofs.references.has_equals.Reads as has-equals-reads
-use Rattle.solver.proofs.references.has_reference.Reads as has-reference-reads
-use Rattle.solver.proofs.references.is_crowded.Reads as is-crowded-reads
-use Rattle.solver.proofs.rows.row_of.Reads as row-of-reads
-use Rattle.solver.proofs.rows.signals_of.Reads as signals-of-reads
-
-returns : tie.Need-returns
-returns c = search needs
-
-part-of-requires : tie.Need-part-of-requires
-part-of-requires c κs = search needs
-
-is-linear-requires : tie.Need-is-linear-requires
-is-linear-requires c κs = search needs
-
-returns-2 : tie.Need-returns-2
-returns-2 c = search needs
 
 signals-of-requires : tie.Need-signals-of-requires
 signals-of-requires c κs =
@@ -112,17 +91,11 @@ returns-5 c =
     (at-is-linear .is-linear .ensures) _ (not-false _ (at-if2 .if2 .left)) _ (entry .pre .4) _ (entry .pre .0 .is-n) _ (at-row-of .row-of .ensures) _
     (entry .pre .0 .is-p) (c .before .has-reference .ensures (not-true _ (c .if5 .taken)))
 
-returns-6 : tie.Need-returns-6
-returns-6 c = search needs
-
 pub floor-of-spec : {M : Type 1} → statement M
 floor-of-spec =
     tie.close
     (tie.spec
-    returns
-    part-of-requires
-    is-linear-requires
-    returns-2
+    (λ c. search needs) (λ c κs. search needs) (λ c κs. search needs) (λ c. search needs)
     signals-of-requires
     is-crowded-requires
     returns-3
@@ -131,4 +104,4 @@ floor-of-spec =
     returns-4
     has-reference-requires
     returns-5
-    returns-6)
+    (λ c. search needs))

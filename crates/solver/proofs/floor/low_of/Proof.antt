@@ -9,30 +9,6 @@ use Rattle.solver.proofs.ListLaws.{below}
 use Rattle.solver.proofs.MarkLaws as laws
 use Rattle.solver.proofs.floor.low_of.Statement.{statement}
 use Rattle.solver.proofs.floor.low_of.Tie as tie
-use Rattle.solver.proofs.floor.low_of.Reads as reads
-use Rattle.solver.proofs.floor.low_of.Lts as lts
-use Rattle.circuit.proofs.reader.after_form.Reads as after-form-reads
-use Rattle.derivation.proofs.offsets.part_of.Reads as part-of-reads
-use Rattle.rules.proofs.constraint.is_linear.Reads as is-linear-reads
-use Rattle.rules.proofs.constraint.product_met.Reads as product-met-reads
-use Rattle.solver.proofs.references.first_live.Reads as first-live-reads
-use Rattle.solver.proofs.rows.signals_of.Reads as signals-of-reads
-use Rattle.solver.proofs.search.unmarked_in.Reads as unmarked-in-reads
-
-part-of-requires : tie.Need-part-of-requires
-part-of-requires c κs = search needs
-
-is-linear-requires : tie.Need-is-linear-requires
-is-linear-requires c κs = search needs
-
-after-form-requires : tie.Need-after-form-requires
-after-form-requires c κs = search needs
-
-after-form-requires-2 : tie.Need-after-form-requires-2
-after-form-requires-2 c κs = search needs
-
-unmarked-in-requires : tie.Need-unmarked-in-requires
-unmarked-in-requires c κs = search needs
 
 returns : tie.Need-returns
 returns c =
@@ -47,9 +23,6 @@ returns c =
     (at-is-linear .is-linear .ensures) _ (not-true _ (at-if1 .if1 .taken)) _ _ (at-after-form .after-form .ensures)
     (at-after-form2 .after-form2 .ensures) _ (at-unmarked-in .unmarked-in .ensures) (c .if2 .taken)
 
-product-met-requires : tie.Need-product-met-requires
-product-met-requires c κs = search needs
-
 returns-2 : tie.Need-returns-2
 returns-2 c =
     let at-unmarked-in = c .before .before .before in
@@ -63,9 +36,6 @@ returns-2 c =
     (at-is-linear .is-linear .ensures) _ (not-true _ (at-if1 .if1 .taken)) _ _ (at-after-form .after-form .ensures)
     (at-after-form2 .after-form2 .ensures) _ (at-unmarked-in .unmarked-in .ensures) _ (c .before .product-met .ensures b)
     (not-true _ (c .if3 .taken))
-
-cast-result : tie.Need-cast-result
-cast-result c = search needs
 
 returns-3 : tie.Need-returns-3
 returns-3 c =
@@ -104,9 +74,6 @@ returns-4 c =
     (at-is-linear .is-linear .ensures) _ (not-false _ (c .before .before .before .if1 .left)) _ (entry .pre .1) _ (entry .pre .2) _ refl _
     (c .before .first-live .ensures _ _ L b) (c .if4 .taken)
 
-cast-result-2 : tie.Need-cast-result-2
-cast-result-2 c = search needs
-
 returns-5 : tie.Need-returns-5
 returns-5 c =
     let at-is-linear = c .before .before .before .before in
@@ -121,18 +88,14 @@ pub low-of-spec : {M : Type 1} → statement M
 low-of-spec =
     tie.close
     (tie.spec
-    part-of-requires
-    is-linear-requires
-    after-form-requires
-    after-form-requires-2
-    unmarked-in-requires
+    (λ c κs. search needs) (λ c κs. search needs) (λ c κs. search needs) (λ c κs. search needs) (λ c κs. search needs)
     returns
-    product-met-requires
+    (λ c κs. search needs)
     returns-2
-    cast-result
+    (λ c. search needs)
     returns-3
     signals-of-requires
     first-live-requires
     returns-4
-    cast-result-2
+    (λ c. search needs)
     returns-5)

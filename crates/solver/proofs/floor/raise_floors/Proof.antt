@@ -11,11 +11,6 @@ use Rattle.solver.proofs.Floors.{floors-set}
 use Rattle.solver.proofs.MarkLaws as laws
 use Rattle.solver.proofs.floor.raise_floors.Statement.{statement}
 use Rattle.solver.proofs.floor.raise_floors.Tie as tie
-use Rattle.solver.proofs.floor.raise_floors.Reads as reads
-use Rattle.solver.proofs.floor.raise_floors.Lts as lts
-use Rattle.solver.proofs.floor.fill_floors.Reads as fill-floors-reads
-use Rattle.solver.proofs.floor.first_zero.Reads as first-zero-reads
-use Rattle.solver.proofs.floor.floor_of.Reads as floor-of-reads
 
 abbrev Inv-loop : tie.InvT-loop
 Inv-loop circuit table rows bounds marks floors₀ loose₀ p n m lowest₀ k₀ floors loose lowest k =
@@ -36,9 +31,6 @@ first-zero-requires c κs =
     let s = laws.sizes (pre .0) in
     (omega (arith, pre .0 .bounds-sized), omega (arith, pre .0 .marks-sized), omega arith)
 
-cast-lowest : tie.Need-cast-lowest Inv-loop μ-loop
-cast-lowest c = search needs
-
 loop-holds : tie.Need-loop-holds Inv-loop μ-loop
 loop-holds c =
     let at-fill-floors = c .before .before .before .before .before in
@@ -53,15 +45,6 @@ loop-holds c =
       laws.at-most-start _ _,
     )
 
-add-k : tie.Need-add-k Inv-loop μ-loop
-add-k c = search needs
-
-cast-at : tie.Need-cast-at Inv-loop μ-loop
-cast-at c = search needs
-
-mul-low : tie.Need-mul-low Inv-loop μ-loop
-mul-low c = search needs
-
 slice-read-low : tie.Need-slice-read-low Inv-loop μ-loop
 slice-read-low c = let l = c .before .before .loop in omega (arith, l .inv .1, l .inv .3)
 
@@ -74,17 +57,11 @@ floor-of-requires c κs =
     let pre = at-loop .before .before .before .before .before .before .before .before .before .before .before .before .before .before .before .pre in
     (pre .0, omega arith, omega (arith, pre .1), at-loop .loop .inv .5 .each _ (omega arith) (omega (arith, pre .1)), pre .5)
 
-mul-floors : tie.Need-mul-floors Inv-loop μ-loop
-mul-floors c = search needs
-
 slice-write-floors : tie.Need-slice-write-floors Inv-loop μ-loop
 slice-write-floors c = let l = c .before .before .before .before .before .loop in omega (arith, l .inv .1, l .inv .3)
 
 slice-write-loose : tie.Need-slice-write-loose Inv-loop μ-loop
 slice-write-loose c = let l = c .before .before .before .before .before .loop in omega (arith, l .inv .2, l .inv .4)
-
-loop-less : tie.Need-loop-less Inv-loop μ-loop
-loop-less c = search needs
 
 loop-again : tie.Need-loop-again Inv-loop μ-loop
 loop-again c =
@@ -99,9 +76,6 @@ loop-again c =
       laws.at-most-set _ _ _ _ _ (l .inv .6) (omega (arith, l .inv .1, l .inv .3)) (omega arith) (omega arith),
     )
 
-loop-less-2 : tie.Need-loop-less-2 Inv-loop μ-loop
-loop-less-2 c = search needs
-
 loop-again-2 : tie.Need-loop-again-2 Inv-loop μ-loop
 loop-again-2 c =
     let l = c .before .before .before .before .before .before .loop in
@@ -114,9 +88,6 @@ loop-again-2 c =
       floors-set _ _ _ _ _ (l .inv .5) (omega (arith, l .inv .1, l .inv .3)) (floor .ensures),
       laws.at-most-set _ _ _ _ _ (l .inv .6) (omega (arith, l .inv .1, l .inv .3)) (omega arith) (c .if2 .left),
     )
-
-loop-less-3 : tie.Need-loop-less-3 Inv-loop μ-loop
-loop-less-3 c = search needs
 
 loop-again-3 : tie.Need-loop-again-3 Inv-loop μ-loop
 loop-again-3 c =
@@ -140,22 +111,20 @@ raise-floors-spec =
     μ-loop
     fill-floors-requires
     first-zero-requires
-    cast-lowest
+    (λ c. search needs)
     loop-holds
-    add-k
-    cast-at
-    mul-low
+    (λ c. search needs) (λ c. search needs) (λ c. search needs)
     slice-read-low
     slice-read-floor-of
     floor-of-requires
-    mul-floors
+    (λ c. search needs)
     slice-write-floors
     slice-write-loose
-    loop-less
+    (λ c. search needs)
     loop-again
-    loop-less-2
+    (λ c. search needs)
     loop-again-2
-    loop-less-3
+    (λ c. search needs)
     loop-again-3
     same-length
     same-length-2

@@ -10,13 +10,6 @@ use Rattle.solver.proofs.MarkLaws.{sizes}
 use Rattle.solver.proofs.MarksTurn as laws
 use Rattle.solver.proofs.marks.add_marks.Statement.{statement}
 use Rattle.solver.proofs.marks.add_marks.Tie as tie
-use Rattle.solver.proofs.marks.add_marks.Reads as reads
-use Rattle.solver.proofs.marks.add_marks.Lts as lts
-use Rattle.solver.proofs.marks.next_mark.Reads as next-mark-reads
-use Rattle.solver.proofs.marks.number_of.Reads as number-of-reads
-use Rattle.solver.proofs.floor.raise_floors.Reads as raise-floors-reads
-use Rattle.solver.proofs.memo.forget.Reads as forget-reads
-use Rattle.solver.proofs.output.put_step.Reads as put-step-reads
 
 abbrev Inv-loop : tie.InvT-loop
 Inv-loop circuit table rows bounds marks₀ output₀ p n m base floors₀ loose₀ count₀ marks output floors loose count =
@@ -37,12 +30,6 @@ loop-holds c =
       laws.turning-start _ _ _ _ _ _ (pre .0) _ _ 513 (pre .2),
     )
 
-slice-aggregate-raise-floors : tie.Need-slice-aggregate-raise-floors Inv-loop μ-loop
-slice-aggregate-raise-floors c = search needs
-
-slice-aggregate-raise-floors-2 : tie.Need-slice-aggregate-raise-floors-2 Inv-loop μ-loop
-slice-aggregate-raise-floors-2 c = search needs
-
 raise-floors-requires : tie.Need-raise-floors-requires Inv-loop μ-loop
 raise-floors-requires c κs =
     let at-loop = c .before .before .before .before in
@@ -55,9 +42,6 @@ raise-floors-requires c κs =
       l .inv .5 .floored,
       entry .pre .5,
     )
-
-slice-aggregate-next-mark : tie.Need-slice-aggregate-next-mark Inv-loop μ-loop
-slice-aggregate-next-mark c = search needs
 
 next-mark-requires : tie.Need-next-mark-requires Inv-loop μ-loop
 next-mark-requires c κs =
@@ -78,12 +62,6 @@ next-mark-requires c κs =
       at-raise-floors .raise-floors .ensures .1,
       entry .pre .5,
     )
-
-enum-known-choice : tie.Need-enum-known-choice Inv-loop μ-loop
-enum-known-choice c = search needs
-
-enum-told : tie.Need-enum-told Inv-loop μ-loop
-enum-told c = search needs
 
 add-result : tie.Need-add-result Inv-loop μ-loop
 add-result c =
@@ -117,9 +95,6 @@ add-put-step c =
     let l = at-loop .loop in
     let s = sizes (entry .pre .0) in omega (arith, l .inv .0, entry .pre .3)
 
-number-of-requires : tie.Need-number-of-requires Inv-loop μ-loop
-number-of-requires c κs = search needs
-
 put-step-requires : tie.Need-put-step-requires Inv-loop μ-loop
 put-step-requires c κs =
     let at-choice = c .before .before .before in
@@ -138,9 +113,6 @@ put-step-requires c κs =
       omega (arith, f .1),
     )
 
-cast-marks : tie.Need-cast-marks Inv-loop μ-loop
-cast-marks c = search needs
-
 slice-write-marks : tie.Need-slice-write-marks Inv-loop μ-loop
 slice-write-marks c =
     let at-choice = c .before .before .before .before .before .before in
@@ -154,9 +126,6 @@ slice-write-marks c =
           (at-next-mark .next-mark .ensures) _ _ _ _ (at-choice .choice .given .1) .1,
       l .inv .1,
     )
-
-slice-aggregate-forget : tie.Need-slice-aggregate-forget Inv-loop μ-loop
-slice-aggregate-forget c = search needs
 
 forget-requires : tie.Need-forget-requires Inv-loop μ-loop
 forget-requires c κs =
@@ -185,9 +154,6 @@ add-count c =
     let at-loop-test = at-next-mark .before .before .before .before .before .before .before .before .before in
     let entry = at-loop-test .before .before .before .before .before .before .before in
     let s = sizes (entry .pre .0) in omega (arith, at-loop-test .loop-test .taken)
-
-loop-less : tie.Need-loop-less Inv-loop μ-loop
-loop-less c = search needs
 
 loop-again : tie.Need-loop-again Inv-loop μ-loop
 loop-again c =
@@ -233,26 +199,24 @@ add-marks-spec =
     Inv-loop
     μ-loop
     loop-holds
-    slice-aggregate-raise-floors
-    slice-aggregate-raise-floors-2
+    (λ c. search needs) (λ c. search needs)
     raise-floors-requires
-    slice-aggregate-next-mark
+    (λ c. search needs)
     next-mark-requires
-    enum-known-choice
-    enum-told
+    (λ c. search needs) (λ c. search needs)
     add-result
     same-length
     same-length-2
     returns
     add-put-step
-    number-of-requires
+    (λ c κs. search needs)
     put-step-requires
-    cast-marks
+    (λ c. search needs)
     slice-write-marks
-    slice-aggregate-forget
+    (λ c. search needs)
     forget-requires
     add-count
-    loop-less
+    (λ c. search needs)
     loop-again
     add-result-2
     same-length-3

@@ -11,12 +11,6 @@ use Rattle.solver.proofs.MarkLaws as laws
 use Rattle.solver.proofs.MarkSearch as left
 use Rattle.solver.proofs.marks.digits_for.Statement.{statement}
 use Rattle.solver.proofs.marks.digits_for.Tie as tie
-use Rattle.solver.proofs.marks.digits_for.Reads as reads
-use Rattle.solver.proofs.marks.digits_for.Lts as lts
-use Rattle.derivation.proofs.offsets.part_of.Reads as part-of-reads
-use Rattle.rules.proofs.constraint.is_linear.Reads as is-linear-reads
-use Rattle.rules.proofs.digits.separated.Reads as separated-reads
-use Rattle.solver.proofs.rows.row_of.Reads as row-of-reads
 
 abbrev Inv-loop : tie.InvT-loop
 Inv-loop circuit table rows bounds marks floors p n m t constraint₀ reference₀ k form r₀ constraint reference r =
@@ -35,31 +29,10 @@ abbrev μ-search : tie.MeasureT-search
 search-holds : tie.Need-search-holds Inv-loop μ-loop Inv-search μ-search
 search-holds c = (omega arith, refl, refl, left.digits-start _ _ _ _)
 
-add-k : tie.Need-add-k Inv-loop μ-loop Inv-search μ-search
-add-k c = search needs
-
-cast-if1 : tie.Need-cast-if1 Inv-loop μ-loop Inv-search μ-search
-cast-if1 c = search needs
-
-mul-if1 : tie.Need-mul-if1 Inv-loop μ-loop Inv-search μ-search
-mul-if1 c = search needs
-
-shared-slice-read-if1 : tie.Need-shared-slice-read-if1 Inv-loop μ-loop Inv-search μ-search
-shared-slice-read-if1 c = search needs
-
-part-of-requires : tie.Need-part-of-requires Inv-loop μ-loop Inv-search μ-search
-part-of-requires c κs = search needs
-
-is-linear-requires : tie.Need-is-linear-requires Inv-loop μ-loop Inv-search μ-search
-is-linear-requires c κs = search needs
-
 row-of-requires : tie.Need-row-of-requires Inv-loop μ-loop Inv-search μ-search
 row-of-requires c κs =
     let pre = c .before .before .before .before .before .before .before .before .before .before .before .before .before .pre in
     row-inside _ _ (pre .7) _ _ (pre .0 .is-n) (omega (arith, pre .1))
-
-mul-if3 : tie.Need-mul-if3 Inv-loop μ-loop Inv-search μ-search
-mul-if3 c = search needs
 
 shared-slice-read-if3 : tie.Need-shared-slice-read-if3 Inv-loop μ-loop Inv-search μ-search
 shared-slice-read-if3 c =
@@ -83,9 +56,6 @@ loop-holds c =
       left.digits-enter _ _ _ _ _ (at-search .search .inv .3) (at-search-test .search-test .taken),
     )
 
-search-less : tie.Need-search-less Inv-loop μ-loop Inv-search μ-search
-search-less c = search needs
-
 search-again : tie.Need-search-again Inv-loop μ-loop Inv-search μ-search
 search-again c =
     let at-row-of = c .before .before .before .before in
@@ -96,15 +66,6 @@ search-again c =
       left.reference-end _ _ _ _ _ _ (c .before .loop .inv .3) (omega (arith, entry .pre .0 .is-n)),
     )
 
-add-r : tie.Need-add-r Inv-loop μ-loop Inv-search μ-search
-add-r c = search needs
-
-cast-if4 : tie.Need-cast-if4 Inv-loop μ-loop Inv-search μ-search
-cast-if4 c = search needs
-
-mul-if4 : tie.Need-mul-if4 Inv-loop μ-loop Inv-search μ-search
-mul-if4 c = search needs
-
 shared-slice-read-if4 : tie.Need-shared-slice-read-if4 Inv-loop μ-loop Inv-search μ-search
 shared-slice-read-if4 c =
     let at-loop-test = c .before in
@@ -113,12 +74,6 @@ shared-slice-read-if4 c =
     let pre = at-search-test .before .before .before .before .before .before .before .pre in
     let l = row-sized _ _ (pre .7) _ _ (pre .0 .is-n) (omega (arith, pre .1, at-search-test .search-test .taken)) _ (at-row-of .row-of .ensures) in
     omega (arith, at-loop-test .loop-test .taken)
-
-separated-requires : tie.Need-separated-requires Inv-loop μ-loop Inv-search μ-search
-separated-requires c κs = search needs
-
-loop-less : tie.Need-loop-less Inv-loop μ-loop Inv-search μ-search
-loop-less c = search needs
 
 loop-again : tie.Need-loop-again Inv-loop μ-loop Inv-search μ-search
 loop-again c =
@@ -139,9 +94,6 @@ loop-again c =
           (at-row-of .row-of .ensures) _ (entry .pre .0 .is-p) _ _ _ (c .before .separated .ensures) (c .if5 .left)),
     )
 
-loop-less-2 : tie.Need-loop-less-2 Inv-loop μ-loop Inv-search μ-search
-loop-less-2 c = search needs
-
 loop-again-2 : tie.Need-loop-again-2 Inv-loop μ-loop Inv-search μ-search
 loop-again-2 c =
     let at-loop-test = c .before .before in
@@ -160,9 +112,6 @@ loop-again-2 c =
           (at-part-of .part-of .ensures) _ (at-is-linear .is-linear .ensures) _ (at-if2 .if2 .taken) _ (entry .pre .7) _ (entry .pre .0 .is-n) _
           (at-row-of .row-of .ensures) _ _ (c .if4 .left)),
     )
-
-search-less-2 : tie.Need-search-less-2 Inv-loop μ-loop Inv-search μ-search
-search-less-2 c = search needs
 
 search-again-2 : tie.Need-search-again-2 Inv-loop μ-loop Inv-search μ-search
 search-again-2 c =
@@ -183,9 +132,6 @@ search-again-2 c =
           (at-row-of .row-of .ensures) _ (c .if3 .left) u),
     )
 
-search-less-3 : tie.Need-search-less-3 Inv-loop μ-loop Inv-search μ-search
-search-less-3 c = search needs
-
 search-again-3 : tie.Need-search-again-3 Inv-loop μ-loop Inv-search μ-search
 search-again-3 c =
     let at-part-of = c .before .before in
@@ -200,9 +146,6 @@ search-again-3 c =
           (omega (arith, entry .pre .1, at-search-test .search-test .taken)) _ (at-part-of .part-of .ensures) _
           (c .before .is-linear .ensures) _ (c .if2 .left) _ u),
     )
-
-search-less-4 : tie.Need-search-less-4 Inv-loop μ-loop Inv-search μ-search
-search-less-4 c = search needs
 
 search-again-4 : tie.Need-search-again-4 Inv-loop μ-loop Inv-search μ-search
 search-again-4 c =
@@ -254,32 +197,24 @@ digits-for-spec =
     Inv-search
     μ-search
     search-holds
-    add-k
-    cast-if1
-    mul-if1
-    shared-slice-read-if1
-    part-of-requires
-    is-linear-requires
+    (λ c. search needs) (λ c. search needs) (λ c. search needs) (λ c. search needs) (λ c κs. search needs) (λ c κs. search needs)
     row-of-requires
-    mul-if3
+    (λ c. search needs)
     shared-slice-read-if3
     loop-holds
-    search-less
+    (λ c. search needs)
     search-again
-    add-r
-    cast-if4
-    mul-if4
+    (λ c. search needs) (λ c. search needs) (λ c. search needs)
     shared-slice-read-if4
-    separated-requires
-    loop-less
+    (λ c κs. search needs) (λ c. search needs)
     loop-again
-    loop-less-2
+    (λ c. search needs)
     loop-again-2
-    search-less-2
+    (λ c. search needs)
     search-again-2
-    search-less-3
+    (λ c. search needs)
     search-again-3
-    search-less-4
+    (λ c. search needs)
     search-again-4
     returns
     returns-2)

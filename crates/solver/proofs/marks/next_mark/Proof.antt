@@ -10,11 +10,6 @@ use Rattle.solver.proofs.MarkSearch.{TargetFrom, target-start}
 use Rattle.solver.proofs.NextMark as laws
 use Rattle.solver.proofs.marks.next_mark.Statement.{statement}
 use Rattle.solver.proofs.marks.next_mark.Tie as tie
-use Rattle.solver.proofs.marks.next_mark.Reads as reads
-use Rattle.solver.proofs.marks.next_mark.Lts as lts
-use Rattle.solver.proofs.marks.digits_for.Reads as digits-for-reads
-use Rattle.solver.proofs.marks.product_for.Reads as product-for-reads
-use Rattle.solver.proofs.marks.taken.Reads as taken-reads
 
 abbrev Inv-loop : tie.InvT-loop
 Inv-loop circuit table rows bounds marks floors p n m lowest t₀ t = (t ≤ n) × TargetFrom (circuitOf circuit) (viewOf p bounds marks) t
@@ -25,30 +20,15 @@ abbrev μ-loop : tie.MeasureT-loop
 loop-holds : tie.Need-loop-holds Inv-loop μ-loop
 loop-holds c = (omega arith, target-start _ _)
 
-add-t : tie.Need-add-t Inv-loop μ-loop
-add-t c = search needs
-
-cast-if1 : tie.Need-cast-if1 Inv-loop μ-loop
-cast-if1 c = search needs
-
 shared-slice-read-if1 : tie.Need-shared-slice-read-if1 Inv-loop μ-loop
 shared-slice-read-if1 c =
     let entry = c .before .before .before .before .before .before .before .before in
     let s = sizes (entry .pre .0) in omega (arith, entry .pre .0 .marks-sized)
 
-cast-if2 : tie.Need-cast-if2 Inv-loop μ-loop
-cast-if2 c = search needs
-
-mul-if2 : tie.Need-mul-if2 Inv-loop μ-loop
-mul-if2 c = search needs
-
 shared-slice-read-if2 : tie.Need-shared-slice-read-if2 Inv-loop μ-loop
 shared-slice-read-if2 c =
     let entry = c .before .before .before .before .before .before .before .before .before .before in
     let s = sizes (entry .pre .0) in omega (arith, entry .pre .0 .bounds-sized)
-
-taken-requires : tie.Need-taken-requires Inv-loop μ-loop
-taken-requires c κs = search needs
 
 returns : tie.Need-returns Inv-loop μ-loop
 returns c =
@@ -58,9 +38,6 @@ returns c =
     let entry = at-loop .before .before .before .before .before .before in
     c .taken .ensures ∙ laws.next-zero _ _ _ _ _ _ _ (entry .pre .0) (entry .pre .1) _ (entry .pre .3) _ (at-loop .loop .inv .1)
     (at-loop-test .loop-test .taken) (at-if1 .if1 .taken) (c .before .if2 .taken)
-
-cast-if3 : tie.Need-cast-if3 Inv-loop μ-loop
-cast-if3 c = search needs
 
 product-for-requires : tie.Need-product-for-requires Inv-loop μ-loop
 product-for-requires c κs =
@@ -75,9 +52,6 @@ product-for-requires c κs =
       laws.unmarked _ _ _ _ _ _ _ (entry .pre .0) (entry .pre .1) _
           (entry .pre .3) _ (at-loop .loop .inv .1) (at-loop-test .loop-test .taken) (at-if1 .if1 .taken),
     )
-
-taken-requires-2 : tie.Need-taken-requires-2 Inv-loop μ-loop
-taken-requires-2 c κs = search needs
 
 returns-2 : tie.Need-returns-2 Inv-loop μ-loop
 returns-2 c =
@@ -107,9 +81,6 @@ digits-for-requires c κs =
       entry .pre .5,
     )
 
-taken-requires-3 : tie.Need-taken-requires-3 Inv-loop μ-loop
-taken-requires-3 c κs = search needs
-
 returns-3 : tie.Need-returns-3 Inv-loop μ-loop
 returns-3 c =
     let at-digits-for = c .before .before .before in
@@ -123,9 +94,6 @@ returns-3 c =
     c .taken3 .ensures ∙ laws.next-digits _ _ _ _ _ _ _ (entry .pre .0) (entry .pre .1) _ (entry .pre .3) _ (at-loop .loop .inv .1)
     (at-loop-test .loop-test .taken) (at-if1 .if1 .taken) (at-if2 .if2 .left) _ (at-product-for .product-for .ensures .1) (at-if4 .if4 .left) _ _
     (at-digits-for .digits-for .ensures .2) (c .before .if5 .taken)
-
-loop-less : tie.Need-loop-less Inv-loop μ-loop
-loop-less c = search needs
 
 loop-again : tie.Need-loop-again Inv-loop μ-loop
 loop-again c =
@@ -143,9 +111,6 @@ loop-again c =
           (at-if4 .if4 .left) _ _ (at-digits-for .digits-for .ensures .2) (c .if5 .left),
     )
 
-loop-less-2 : tie.Need-loop-less-2 Inv-loop μ-loop
-loop-less-2 c = search needs
-
 loop-again-2 : tie.Need-loop-again-2 Inv-loop μ-loop
 loop-again-2 c =
     let at-if1 = c .before .before .before in
@@ -156,9 +121,6 @@ loop-again-2 c =
       laws.next-below _ _ _ _ _ _ _ (entry .pre .0) (entry .pre .1) _ (entry .pre .3) _ (at-loop .loop .inv .1)
           (at-loop-test .loop-test .taken) (at-if1 .if1 .taken) (c .before .if2 .left) _ (entry .pre .4) (c .if3 .left),
     )
-
-loop-less-3 : tie.Need-loop-less-3 Inv-loop μ-loop
-loop-less-3 c = search needs
 
 loop-again-3 : tie.Need-loop-again-3 Inv-loop μ-loop
 loop-again-3 c =
@@ -182,25 +144,23 @@ next-mark-spec =
     Inv-loop
     μ-loop
     loop-holds
-    add-t
-    cast-if1
+    (λ c. search needs) (λ c. search needs)
     shared-slice-read-if1
-    cast-if2
-    mul-if2
+    (λ c. search needs) (λ c. search needs)
     shared-slice-read-if2
-    taken-requires
+    (λ c κs. search needs)
     returns
-    cast-if3
+    (λ c. search needs)
     product-for-requires
-    taken-requires-2
+    (λ c κs. search needs)
     returns-2
     digits-for-requires
-    taken-requires-3
+    (λ c κs. search needs)
     returns-3
-    loop-less
+    (λ c. search needs)
     loop-again
-    loop-less-2
+    (λ c. search needs)
     loop-again-2
-    loop-less-3
+    (λ c. search needs)
     loop-again-3
     returns-4)

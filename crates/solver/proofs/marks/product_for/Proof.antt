@@ -9,10 +9,6 @@ use Rattle.solver.proofs.MarkLaws.{below-product, product-part}
 use Rattle.solver.proofs.MarkSearch as laws
 use Rattle.solver.proofs.marks.product_for.Statement.{statement}
 use Rattle.solver.proofs.marks.product_for.Tie as tie
-use Rattle.solver.proofs.marks.product_for.Reads as reads
-use Rattle.solver.proofs.marks.product_for.Lts as lts
-use Rattle.derivation.proofs.offsets.part_of.Reads as part-of-reads
-use Rattle.rules.proofs.constraint.product_met.Reads as product-met-reads
 
 abbrev Inv-loop : tie.InvT-loop
 Inv-loop circuit table marks floors m t k₀ k =
@@ -25,23 +21,8 @@ abbrev μ-loop : tie.MeasureT-loop
 loop-holds : tie.Need-loop-holds Inv-loop μ-loop
 loop-holds c = (omega arith, λ b F. laws.product-start _ _ _ _)
 
-add-k : tie.Need-add-k Inv-loop μ-loop
-add-k c = search needs
-
-cast-if1 : tie.Need-cast-if1 Inv-loop μ-loop
-cast-if1 c = search needs
-
-mul-if1 : tie.Need-mul-if1 Inv-loop μ-loop
-mul-if1 c = search needs
-
 shared-slice-read-if1 : tie.Need-shared-slice-read-if1 Inv-loop μ-loop
 shared-slice-read-if1 c = omega arith
-
-part-of-requires : tie.Need-part-of-requires Inv-loop μ-loop
-part-of-requires c κs = search needs
-
-product-met-requires : tie.Need-product-met-requires Inv-loop μ-loop
-product-met-requires c κs = search needs
 
 returns : tie.Need-returns Inv-loop μ-loop
 returns c =
@@ -57,9 +38,6 @@ returns c =
           later,
     )
 
-loop-less : tie.Need-loop-less Inv-loop μ-loop
-loop-less c = search needs
-
 loop-again : tie.Need-loop-again Inv-loop μ-loop
 loop-again c =
     let at-part-of = c .before .before in
@@ -72,9 +50,6 @@ loop-again c =
           (product-part _ _ (entry .pre .0) _ (omega arith) (omega (arith, entry .pre .1)) _ (at-part-of .part-of .ensures) b _ _ _
           (c .before .product-met .ensures) ∙ c .if2 .left),
     )
-
-loop-less-2 : tie.Need-loop-less-2 Inv-loop μ-loop
-loop-less-2 c = search needs
 
 loop-again-2 : tie.Need-loop-again-2 Inv-loop μ-loop
 loop-again-2 c =
@@ -97,15 +72,12 @@ product-for-spec =
     Inv-loop
     μ-loop
     loop-holds
-    add-k
-    cast-if1
-    mul-if1
+    (λ c. search needs) (λ c. search needs) (λ c. search needs)
     shared-slice-read-if1
-    part-of-requires
-    product-met-requires
+    (λ c κs. search needs) (λ c κs. search needs)
     returns
-    loop-less
+    (λ c. search needs)
     loop-again
-    loop-less-2
+    (λ c. search needs)
     loop-again-2
     returns-2)

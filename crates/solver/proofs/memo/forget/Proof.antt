@@ -7,8 +7,6 @@ use Rattle.solver.proofs.RowLaws as laws
 use borrow.Author.Needs.{needs}
 use Rattle.solver.proofs.memo.forget.Statement.{statement}
 use Rattle.solver.proofs.memo.forget.Tie as tie
-use Rattle.solver.proofs.memo.forget.Reads as reads
-use Rattle.solver.proofs.memo.forget.Lts as lts
 
 abbrev Inv-loop : tie.InvT-loop
 Inv-loop rows entries₀ n m signal width at₀ k₀ entries at k =
@@ -17,17 +15,8 @@ Inv-loop rows entries₀ n m signal width at₀ k₀ entries at k =
 abbrev μ-loop : tie.MeasureT-loop
 μ-loop rows entries₀ n m signal width at₀ k₀ entries at k = m - k
 
-add-width : tie.Need-add-width Inv-loop μ-loop
-add-width c = search needs
-
-mul-width : tie.Need-mul-width Inv-loop μ-loop
-mul-width c = search needs
-
 loop-holds : tie.Need-loop-holds Inv-loop μ-loop
 loop-holds c = (omega arith, omega arith, refl, laws.forgetting-start _ _ _ _)
-
-add-k : tie.Need-add-k Inv-loop μ-loop
-add-k c = search needs
 
 add-at : tie.Need-add-at Inv-loop μ-loop
 add-at c =
@@ -46,33 +35,15 @@ shared-slice-read-if1 c =
     let entry = c .before .before .before in
     omega (arith, l .inv .1, entry .pre .2, laws.next-inside _ _ _ _ (c .before .loop-test .taken) (entry .pre .0))
 
-cast-entries : tie.Need-cast-entries Inv-loop μ-loop
-cast-entries c = search needs
-
-mul-entries : tie.Need-mul-entries Inv-loop μ-loop
-mul-entries c = search needs
-
-slice-write-entries : tie.Need-slice-write-entries Inv-loop μ-loop
-slice-write-entries c = search needs
-
-loop-less : tie.Need-loop-less Inv-loop μ-loop
-loop-less c = search needs
-
 loop-again : tie.Need-loop-again Inv-loop μ-loop
 loop-again c =
     let l = c .before .before .before .loop in
     (omega arith, omega arith, length-set (l .entries) (l .k + 1) 0 ∙ l .inv .2, laws.forgetting-set _ _ _ _ _ _ (l .inv .3) (omega arith))
 
-loop-less-2 : tie.Need-loop-less-2 Inv-loop μ-loop
-loop-less-2 c = search needs
-
 loop-again-2 : tie.Need-loop-again-2 Inv-loop μ-loop
 loop-again-2 c =
     let l = c .before .before .before .loop in
     (omega arith, omega arith, l .inv .2, laws.forgetting-on _ _ _ _ _ _ (l .inv .3) _ (l .inv .1) (c .if1 .left))
-
-same-length : tie.Need-same-length Inv-loop μ-loop
-same-length c = search needs
 
 returns : tie.Need-returns Inv-loop μ-loop
 returns c =
@@ -84,19 +55,15 @@ forget-spec =
     (tie.spec
     Inv-loop
     μ-loop
-    add-width
-    mul-width
+    (λ c. search needs) (λ c. search needs)
     loop-holds
-    add-k
+    (λ c. search needs)
     add-at
     mul-if1
     shared-slice-read-if1
-    cast-entries
-    mul-entries
-    slice-write-entries
-    loop-less
+    (λ c. search needs) (λ c. search needs) (λ c. search needs) (λ c. search needs)
     loop-again
-    loop-less-2
+    (λ c. search needs)
     loop-again-2
-    same-length
+    (λ c. search needs)
     returns)

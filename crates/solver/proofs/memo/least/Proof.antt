@@ -8,8 +8,6 @@ use Rattle.solver.proofs.SearchLaws as laws
 use borrow.Author.Needs.{needs}
 use Rattle.solver.proofs.memo.least.Statement.{statement}
 use Rattle.solver.proofs.memo.least.Tie as tie
-use Rattle.solver.proofs.memo.least.Reads as reads
-use Rattle.solver.proofs.memo.least.Lts as lts
 
 abbrev Inv-loop : tie.InvT-loop
 Inv-loop entries m r₀ lowest₀ k₀ r lowest k = (k ≤ m) × (lowest ≡ getD entries r 0) × Least entries k r
@@ -17,34 +15,13 @@ Inv-loop entries m r₀ lowest₀ k₀ r lowest k = (k ≤ m) × (lowest ≡ get
 abbrev μ-loop : tie.MeasureT-loop
 μ-loop entries m r₀ lowest₀ k₀ r lowest k = m - k
 
-shared-slice-read-lowest : tie.Need-shared-slice-read-lowest Inv-loop μ-loop
-shared-slice-read-lowest c = search needs
-
 loop-holds : tie.Need-loop-holds Inv-loop μ-loop
 loop-holds c = (omega arith, refl, laws.least-start _)
-
-add-k : tie.Need-add-k Inv-loop μ-loop
-add-k c = search needs
-
-cast-next : tie.Need-cast-next Inv-loop μ-loop
-cast-next c = search needs
-
-mul-next : tie.Need-mul-next Inv-loop μ-loop
-mul-next c = search needs
-
-shared-slice-read-next : tie.Need-shared-slice-read-next Inv-loop μ-loop
-shared-slice-read-next c = search needs
-
-loop-less : tie.Need-loop-less Inv-loop μ-loop
-loop-less c = search needs
 
 loop-again : tie.Need-loop-again Inv-loop μ-loop
 loop-again c =
     let l = c .before .before .before .loop in
     (omega arith, refl, laws.least-new _ _ _ (l .inv .2) (omega (arith, l .inv .1)))
-
-loop-less-2 : tie.Need-loop-less-2 Inv-loop μ-loop
-loop-less-2 c = search needs
 
 loop-again-2 : tie.Need-loop-again-2 Inv-loop μ-loop
 loop-again-2 c =
@@ -62,14 +39,10 @@ least-spec =
     (tie.spec
     Inv-loop
     μ-loop
-    shared-slice-read-lowest
+    (λ c. search needs)
     loop-holds
-    add-k
-    cast-next
-    mul-next
-    shared-slice-read-next
-    loop-less
+    (λ c. search needs) (λ c. search needs) (λ c. search needs) (λ c. search needs) (λ c. search needs)
     loop-again
-    loop-less-2
+    (λ c. search needs)
     loop-again-2
     returns)

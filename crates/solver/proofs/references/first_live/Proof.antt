@@ -11,8 +11,6 @@ use Rattle.solver.proofs.FormLaws as laws
 use borrow.Author.Needs.{needs}
 use Rattle.solver.proofs.references.first_live.Statement.{statement}
 use Rattle.solver.proofs.references.first_live.Tie as tie
-use Rattle.solver.proofs.references.first_live.Reads as reads
-use Rattle.solver.proofs.references.first_live.Lts as lts
 
 abbrev Inv-loop : tie.InvT-loop
 Inv-loop signals marks i₀ i =
@@ -25,15 +23,6 @@ abbrev μ-loop : tie.MeasureT-loop
 loop-holds : tie.Need-loop-holds Inv-loop μ-loop
 loop-holds c =
     (omega arith, λ form n L b. laws.passed-start _ _ _)
-
-mul-s : tie.Need-mul-s Inv-loop μ-loop
-mul-s c = search needs
-
-shared-slice-read-s : tie.Need-shared-slice-read-s Inv-loop μ-loop
-shared-slice-read-s c = search needs
-
-add-i : tie.Need-add-i Inv-loop μ-loop
-add-i c = search needs
 
 cast-if1 : tie.Need-cast-if1 Inv-loop μ-loop
 cast-if1 c =
@@ -48,9 +37,6 @@ returns : tie.Need-returns Inv-loop μ-loop
 returns c =
     let at-loop = c .before .before .before .before in
     λ form n L b. laws.first-found _ _ _ _ _ _ (next _ _ _ L _ (c .before .before .before .loop-test .taken)) (at-loop .loop .inv .1 form n L b)
-
-loop-less : tie.Need-loop-less Inv-loop μ-loop
-loop-less c = search needs
 
 loop-again : tie.Need-loop-again Inv-loop μ-loop
 loop-again c =
@@ -73,12 +59,10 @@ first-live-spec =
     Inv-loop
     μ-loop
     loop-holds
-    mul-s
-    shared-slice-read-s
-    add-i
+    (λ c. search needs) (λ c. search needs) (λ c. search needs)
     cast-if1
     shared-slice-read-if1
     returns
-    loop-less
+    (λ c. search needs)
     loop-again
     returns-2)

@@ -14,9 +14,6 @@ use Rattle.solver.proofs.FormLaws as laws
 use borrow.Author.Needs.{needs}
 use Rattle.solver.proofs.references.has_equals.Statement.{statement}
 use Rattle.solver.proofs.references.has_equals.Tie as tie
-use Rattle.solver.proofs.references.has_equals.Reads as reads
-use Rattle.solver.proofs.references.has_equals.Lts as lts
-use Rattle.solver.proofs.references.is_among.Reads as is-among-reads
 
 abbrev Inv-loop : tie.InvT-loop
 Inv-loop form signals marks seen₀ count₀ i₀ seen count i =
@@ -30,15 +27,6 @@ abbrev μ-loop : tie.MeasureT-loop
 loop-holds : tie.Need-loop-holds Inv-loop μ-loop
 loop-holds c =
     (omega arith, omega arith, search needs, λ n L b. laws.gathered-start _ _ _ _)
-
-mul-s : tie.Need-mul-s Inv-loop μ-loop
-mul-s c = search needs
-
-shared-slice-read-s : tie.Need-shared-slice-read-s Inv-loop μ-loop
-shared-slice-read-s c = search needs
-
-add-i : tie.Need-add-i Inv-loop μ-loop
-add-i c = search needs
 
 cast-if1 : tie.Need-cast-if1 Inv-loop μ-loop
 cast-if1 c =
@@ -66,9 +54,6 @@ shared-slice-read-coef c =
     let entry = at-loop-test .before .before .before .before .before in
     entry .pre .0 .each _ (at-loop-test .loop-test .taken)
 
-is-among-requires : tie.Need-is-among-requires Inv-loop μ-loop
-is-among-requires c κs = search needs
-
 returns : tie.Need-returns Inv-loop μ-loop
 returns c =
     let at-if1 = c .before .before .before .before in
@@ -76,18 +61,6 @@ returns c =
     let at-loop = at-loop-test .before in
     λ e n L b. laws.gathered-equal _ _ _ _ _ _ (next _ _ _ L _ (at-loop-test .loop-test .taken)) _ _ (at-loop .loop .inv .3 n L b)
     (laws.mark-read _ _ (not-true _ (at-if1 .if1 .taken))) _ (laws.coef-read _ _) (c .before .is-among .ensures (c .if2 .taken))
-
-mul-seen : tie.Need-mul-seen Inv-loop μ-loop
-mul-seen c = search needs
-
-array-write-seen : tie.Need-array-write-seen Inv-loop μ-loop
-array-write-seen c = search needs
-
-add-count : tie.Need-add-count Inv-loop μ-loop
-add-count c = search needs
-
-loop-less : tie.Need-loop-less Inv-loop μ-loop
-loop-less c = search needs
 
 loop-again : tie.Need-loop-again Inv-loop μ-loop
 loop-again c =
@@ -102,9 +75,6 @@ loop-again c =
           (laws.mark-read _ _ (not-true _ (at-if1 .if1 .taken))) _ (laws.coef-read _ _)
           (omega (arith, at-loop .loop .inv .1, at-loop .loop .inv .2, at-loop-test .loop-test .taken, entry .pre .2)),
     )
-
-loop-less-2 : tie.Need-loop-less-2 Inv-loop μ-loop
-loop-less-2 c = search needs
 
 loop-again-2 : tie.Need-loop-again-2 Inv-loop μ-loop
 loop-again-2 c =
@@ -127,21 +97,16 @@ has-equals-spec =
     Inv-loop
     μ-loop
     loop-holds
-    mul-s
-    shared-slice-read-s
-    add-i
+    (λ c. search needs) (λ c. search needs) (λ c. search needs)
     cast-if1
     shared-slice-read-if1
     cast-coef
     mul-coef
     shared-slice-read-coef
-    is-among-requires
+    (λ c κs. search needs)
     returns
-    mul-seen
-    array-write-seen
-    add-count
-    loop-less
+    (λ c. search needs) (λ c. search needs) (λ c. search needs) (λ c. search needs)
     loop-again
-    loop-less-2
+    (λ c. search needs)
     loop-again-2
     returns-2)

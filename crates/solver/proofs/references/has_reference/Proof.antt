@@ -12,10 +12,6 @@ use Rattle.solver.proofs.FormLaws as laws
 use borrow.Author.Needs.{needs}
 use Rattle.solver.proofs.references.has_reference.Statement.{statement}
 use Rattle.solver.proofs.references.has_reference.Tie as tie
-use Rattle.solver.proofs.references.has_reference.Reads as reads
-use Rattle.solver.proofs.references.has_reference.Lts as lts
-use Rattle.rules.proofs.digits.separated.Reads as separated-reads
-use Rattle.solver.proofs.references.is_below.Reads as is-below-reads
 
 abbrev Inv-loop : tie.InvT-loop
 Inv-loop form signals bounds marks n p i₀ i =
@@ -27,15 +23,6 @@ abbrev μ-loop : tie.MeasureT-loop
 loop-holds : tie.Need-loop-holds Inv-loop μ-loop
 loop-holds c =
     (omega arith, laws.unreferred-start _ _ _ _ _)
-
-mul-r : tie.Need-mul-r Inv-loop μ-loop
-mul-r c = search needs
-
-shared-slice-read-r : tie.Need-shared-slice-read-r Inv-loop μ-loop
-shared-slice-read-r c = search needs
-
-add-i : tie.Need-add-i Inv-loop μ-loop
-add-i c = search needs
 
 is-below-requires : tie.Need-is-below-requires Inv-loop μ-loop
 is-below-requires c κs =
@@ -49,15 +36,9 @@ is-below-requires c κs =
       below _ _ _ L _ (entry .pre .2) .each _ (at-loop-test .loop-test .taken),
     )
 
-separated-requires : tie.Need-separated-requires Inv-loop μ-loop
-separated-requires c κs = search needs
-
 returns : tie.Need-returns Inv-loop μ-loop
 returns c =
     λ e. true-or-false true refl e
-
-loop-less : tie.Need-loop-less Inv-loop μ-loop
-loop-less c = search needs
 
 loop-again : tie.Need-loop-again Inv-loop μ-loop
 loop-again c =
@@ -68,9 +49,6 @@ loop-again c =
       laws.unreferred-on _ _ _ _ _ _ _ (next _ _ _ (entry .pre .0) _ (at-loop-test .loop-test .taken)) (at-loop .loop .inv .1)
           (sym (laws.tested _ _ _ _ _ _ (entry .pre .1) (c .before .separated .ensures)) ∙ c .if2 .left),
     )
-
-loop-less-2 : tie.Need-loop-less-2 Inv-loop μ-loop
-loop-less-2 c = search needs
 
 loop-again-2 : tie.Need-loop-again-2 Inv-loop μ-loop
 loop-again-2 c =
@@ -95,14 +73,12 @@ has-reference-spec =
     Inv-loop
     μ-loop
     loop-holds
-    mul-r
-    shared-slice-read-r
-    add-i
+    (λ c. search needs) (λ c. search needs) (λ c. search needs)
     is-below-requires
-    separated-requires
+    (λ c κs. search needs)
     returns
-    loop-less
+    (λ c. search needs)
     loop-again
-    loop-less-2
+    (λ c. search needs)
     loop-again-2
     returns-2)

@@ -13,10 +13,6 @@ use Rattle.solver.proofs.ListLaws.{next}
 use Rattle.solver.proofs.FormLaws as laws
 use Rattle.solver.proofs.references.is_below.Statement.{statement}
 use Rattle.solver.proofs.references.is_below.Tie as tie
-use Rattle.solver.proofs.references.is_below.Reads as reads
-use Rattle.solver.proofs.references.is_below.Lts as lts
-use Rattle.field.proofs.modular.inverse.Reads as inverse-reads
-use Rattle.solver.proofs.references.weighed.Reads as weighed-reads
 
 abbrev Inv-loop : tie.InvT-loop
 Inv-loop form signals bounds marks p r scale total₀ i₀ total i =
@@ -27,32 +23,14 @@ Inv-loop form signals bounds marks p r scale total₀ i₀ total i =
 abbrev μ-loop : tie.MeasureT-loop
 μ-loop form signals bounds marks p r scale total₀ i₀ total i = length signals - i
 
-mul-inverse : tie.Need-mul-inverse Inv-loop μ-loop
-mul-inverse c = search needs
-
-shared-slice-read-inverse : tie.Need-shared-slice-read-inverse Inv-loop μ-loop
-shared-slice-read-inverse c = search needs
-
-inverse-requires : tie.Need-inverse-requires Inv-loop μ-loop
-inverse-requires c κs = search needs
-
 loop-holds : tie.Need-loop-holds Inv-loop μ-loop
 loop-holds c =
     (omega arith, omega arith, λ n L. laws.added-start _ _ _ _ _)
-
-mul-s : tie.Need-mul-s Inv-loop μ-loop
-mul-s c = search needs
-
-shared-slice-read-s : tie.Need-shared-slice-read-s Inv-loop μ-loop
-shared-slice-read-s c = search needs
 
 cast-s : tie.Need-cast-s Inv-loop μ-loop
 cast-s c =
     let entry = c .before .before .before .before .before .before .before .before .before in
     record { fits = omega (arith, entry .pre .0 .each _ (c .before .loop-test .taken)) }
-
-add-i : tie.Need-add-i Inv-loop μ-loop
-add-i c = search needs
 
 shared-slice-read-if1 : tie.Need-shared-slice-read-if1 Inv-loop μ-loop
 shared-slice-read-if1 c =
@@ -79,9 +57,6 @@ shared-slice-read-weighed-2 c =
     let entry = c .before .before .before .before .before .before .before .before .before .before .before .before .before in
     entry .pre .1 .each _ (c .before .before .before .before .before .loop-test .taken)
 
-weighed-requires : tie.Need-weighed-requires Inv-loop μ-loop
-weighed-requires c κs = search needs
-
 add-total : tie.Need-add-total Inv-loop μ-loop
 add-total c =
     omega (arith, c .weighed .ensures .1, c .before .before .before .before .before .before .before .loop .inv .1)
@@ -96,9 +71,6 @@ returns c =
     (laws.term-read _ _ _ _ _ _ _ _ (entry .pre .1 .each _ (at-loop-test .loop-test .taken)) (at-loop .before .inverse .ensures)
     (c .before .weighed .ensures .0)) (c .if2 .taken)
 
-loop-less : tie.Need-loop-less Inv-loop μ-loop
-loop-less c = search needs
-
 loop-again : tie.Need-loop-again Inv-loop μ-loop
 loop-again c =
     let at-loop-test = c .before .before .before .before .before .before .before in
@@ -111,9 +83,6 @@ loop-again c =
           (laws.term-read _ _ _ _ _ _ _ _ (entry .pre .1 .each _ (at-loop-test .loop-test .taken)) (at-loop .before .inverse .ensures)
           (c .before .weighed .ensures .0)),
     )
-
-loop-less-2 : tie.Need-loop-less-2 Inv-loop μ-loop
-loop-less-2 c = search needs
 
 loop-again-2 : tie.Need-loop-again-2 Inv-loop μ-loop
 loop-again-2 c =
@@ -134,24 +103,21 @@ is-below-spec =
     (tie.spec
     Inv-loop
     μ-loop
-    mul-inverse
-    shared-slice-read-inverse
-    inverse-requires
+    (λ c. search needs) (λ c. search needs) (λ c κs. search needs)
     loop-holds
-    mul-s
-    shared-slice-read-s
+    (λ c. search needs) (λ c. search needs)
     cast-s
-    add-i
+    (λ c. search needs)
     shared-slice-read-if1
     mul-weighed
     shared-slice-read-weighed
     mul-weighed-2
     shared-slice-read-weighed-2
-    weighed-requires
+    (λ c κs. search needs)
     add-total
     returns
-    loop-less
+    (λ c. search needs)
     loop-again
-    loop-less-2
+    (λ c. search needs)
     loop-again-2
     returns-2)

@@ -13,8 +13,6 @@ use Rattle.solver.proofs.FormLaws as laws
 use borrow.Author.Needs.{needs}
 use Rattle.solver.proofs.references.is_crowded.Statement.{statement}
 use Rattle.solver.proofs.references.is_crowded.Tie as tie
-use Rattle.solver.proofs.references.is_crowded.Reads as reads
-use Rattle.solver.proofs.references.is_crowded.Lts as lts
 
 abbrev Inv-loop : tie.InvT-loop
 Inv-loop signals bounds marks p found₀ i₀ found i =
@@ -27,15 +25,6 @@ abbrev μ-loop : tie.MeasureT-loop
 loop-holds : tie.Need-loop-holds Inv-loop μ-loop
 loop-holds c =
     (omega arith, λ form n L. laws.held-start _ _ _ _)
-
-mul-s : tie.Need-mul-s Inv-loop μ-loop
-mul-s c = search needs
-
-shared-slice-read-s : tie.Need-shared-slice-read-s Inv-loop μ-loop
-shared-slice-read-s c = search needs
-
-add-i : tie.Need-add-i Inv-loop μ-loop
-add-i c = search needs
 
 cast-if1 : tie.Need-cast-if1 Inv-loop μ-loop
 cast-if1 c =
@@ -62,9 +51,6 @@ shared-slice-read-if2 c =
     let entry = at-loop-test .before .before in
     entry .pre .0 .each _ (at-loop-test .loop-test .taken)
 
-sub-if2 : tie.Need-sub-if2 Inv-loop μ-loop
-sub-if2 c = search needs
-
 returns : tie.Need-returns Inv-loop μ-loop
 returns c =
     let at-loop-test = c .before .before .before .before .before .before in
@@ -73,9 +59,6 @@ returns c =
     λ e form n L. laws.held-two _ _ _ _ _ _ _ (next _ _ _ L _ (at-loop-test .loop-test .taken)) _ (at-loop .loop .inv .1 form n L)
     (laws.view-marked _ _ _ _ (laws.mark-read _ _ (not-true _ (c .before .before .before .if1 .taken))))
     (laws.bound-read _ _ _ _ _ (entry .pre .0 .each _ (at-loop-test .loop-test .taken)) (c .before .if2 .taken)) (c .if3 .taken)
-
-loop-less : tie.Need-loop-less Inv-loop μ-loop
-loop-less c = search needs
 
 loop-again : tie.Need-loop-again Inv-loop μ-loop
 loop-again c =
@@ -88,9 +71,6 @@ loop-again c =
           (laws.bound-read _ _ _ _ _ (entry .pre .0 .each _ (at-loop-test .loop-test .taken)) (c .before .if2 .taken)),
     )
 
-loop-less-2 : tie.Need-loop-less-2 Inv-loop μ-loop
-loop-less-2 c = search needs
-
 loop-again-2 : tie.Need-loop-again-2 Inv-loop μ-loop
 loop-again-2 c =
     let at-loop-test = c .before .before .before .before .before in
@@ -98,9 +78,6 @@ loop-again-2 c =
       omega (arith, at-loop-test .loop-test .taken),
       λ form n L. laws.held-on _ _ _ _ _ _ _ (next _ _ _ L _ (at-loop-test .loop-test .taken)) _ (at-loop .loop .inv .1 form n L),
     )
-
-loop-less-3 : tie.Need-loop-less-3 Inv-loop μ-loop
-loop-less-3 c = search needs
 
 loop-again-3 : tie.Need-loop-again-3 Inv-loop μ-loop
 loop-again-3 c =
@@ -121,20 +98,18 @@ is-crowded-spec =
     Inv-loop
     μ-loop
     loop-holds
-    mul-s
-    shared-slice-read-s
-    add-i
+    (λ c. search needs) (λ c. search needs) (λ c. search needs)
     cast-if1
     shared-slice-read-if1
     cast-if2
     mul-if2
     shared-slice-read-if2
-    sub-if2
+    (λ c. search needs)
     returns
-    loop-less
+    (λ c. search needs)
     loop-again
-    loop-less-2
+    (λ c. search needs)
     loop-again-2
-    loop-less-3
+    (λ c. search needs)
     loop-again-3
     returns-2)

@@ -7,13 +7,9 @@ use borrow.Author.Needs.{needs}
 use Rattle.rules.proofs.Products.{product-room}
 use Rattle.solver.proofs.references.weighed.Statement.{statement}
 use Rattle.solver.proofs.references.weighed.Tie as tie
-use Rattle.solver.proofs.references.weighed.Reads as reads
 
 mul-result : tie.Need-mul-result
 mul-result c = let room = product-room (c .args .coef) (c .args .scale) (omega arith) (omega arith) in omega arith
-
-rem-result : tie.Need-rem-result
-rem-result c = search needs
 
 mul-result-2 : tie.Need-mul-result-2
 mul-result-2 c =
@@ -29,4 +25,4 @@ returns c = (
 )
 
 pub weighed-spec : {M : Type 1} → statement M
-weighed-spec = tie.close (tie.spec mul-result rem-result mul-result-2 returns)
+weighed-spec = tie.close (tie.spec mul-result (λ c. search needs) mul-result-2 returns)

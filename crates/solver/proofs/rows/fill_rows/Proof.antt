@@ -9,12 +9,6 @@ use Rattle.solver.proofs.RowLaws as laws
 use borrow.Author.Needs.{needs}
 use Rattle.solver.proofs.rows.fill_rows.Statement.{statement}
 use Rattle.solver.proofs.rows.fill_rows.Tie as tie
-use Rattle.solver.proofs.rows.fill_rows.Reads as reads
-use Rattle.solver.proofs.rows.fill_rows.Lts as lts
-use Rattle.derivation.proofs.offsets.part_of.Reads as part-of-reads
-use Rattle.solver.proofs.rows.form_of.Reads as form-of-reads
-use Rattle.solver.proofs.rows.put_row.Reads as put-row-reads
-use Rattle.solver.proofs.rows.put_signals.Reads as put-signals-reads
 
 abbrev Inv-loop : tie.InvT-loop
 Inv-loop circuit table rows₀ p n m entries start₀ k₀ rows start k =
@@ -23,25 +17,13 @@ Inv-loop circuit table rows₀ p n m entries start₀ k₀ rows start k =
 abbrev μ-loop : tie.MeasureT-loop
 μ-loop circuit table rows₀ p n m entries start₀ k₀ rows start k = m - k
 
-add-entries : tie.Need-add-entries Inv-loop μ-loop
-add-entries c = search needs
-
 loop-holds : tie.Need-loop-holds Inv-loop μ-loop
 loop-holds c = (omega arith, omega arith, refl, laws.filling-start _ _)
-
-add-k : tie.Need-add-k Inv-loop μ-loop
-add-k c = search needs
-
-mul-start : tie.Need-mul-start Inv-loop μ-loop
-mul-start c = search needs
 
 add-start : tie.Need-add-start Inv-loop μ-loop
 add-start c =
     let entry = c .before .before .before .before in
     omega (arith, c .before .loop .inv .1, laws.next-inside _ _ _ _ (c .loop-test .taken) (entry .pre .4))
-
-part-of-requires : tie.Need-part-of-requires Inv-loop μ-loop
-part-of-requires c κs = search needs
 
 form-of-requires : tie.Need-form-of-requires Inv-loop μ-loop
 form-of-requires c κs =
@@ -79,9 +61,6 @@ put-signals-requires c κs =
       omega (arith, entry .pre .2, well-formed _ _ (entry .pre .0) .n-most),
     )
 
-loop-less : tie.Need-loop-less Inv-loop μ-loop
-loop-less c = search needs
-
 loop-again : tie.Need-loop-again Inv-loop μ-loop
 loop-again c =
     let at-put-signals = c .before .before in
@@ -100,9 +79,6 @@ loop-again c =
           (at-put-row .put-row .ensures) _ (at-put-signals .put-signals .ensures),
     )
 
-same-length : tie.Need-same-length Inv-loop μ-loop
-same-length c = search needs
-
 returns : tie.Need-returns Inv-loop μ-loop
 returns c =
     let at-loop = c .before in
@@ -116,17 +92,16 @@ fill-rows-spec =
     (tie.spec
     Inv-loop
     μ-loop
-    add-entries
+    (λ c. search needs)
     loop-holds
-    add-k
-    mul-start
+    (λ c. search needs) (λ c. search needs)
     add-start
-    part-of-requires
+    (λ c κs. search needs)
     form-of-requires
     put-row-requires
     add-put-signals
     put-signals-requires
-    loop-less
+    (λ c. search needs)
     loop-again
-    same-length
+    (λ c. search needs)
     returns)

@@ -11,8 +11,6 @@ use Rattle.solver.proofs.SearchLaws as laws
 use borrow.Author.Needs.{needs}
 use Rattle.solver.proofs.search.only_free.Statement.{statement}
 use Rattle.solver.proofs.search.only_free.Tie as tie
-use Rattle.solver.proofs.search.only_free.Reads as reads
-use Rattle.solver.proofs.search.only_free.Lts as lts
 
 abbrev Inv-loop : tie.InvT-loop
 Inv-loop signals bounds p found₀ i₀ found i =
@@ -25,15 +23,6 @@ abbrev μ-loop : tie.MeasureT-loop
 loop-holds : tie.Need-loop-holds Inv-loop μ-loop
 loop-holds c =
     (omega arith, λ form n L. laws.sole-start _ _)
-
-mul-s : tie.Need-mul-s Inv-loop μ-loop
-mul-s c = search needs
-
-shared-slice-read-s : tie.Need-shared-slice-read-s Inv-loop μ-loop
-shared-slice-read-s c = search needs
-
-add-i : tie.Need-add-i Inv-loop μ-loop
-add-i c = search needs
 
 cast-if1 : tie.Need-cast-if1 Inv-loop μ-loop
 cast-if1 c =
@@ -48,9 +37,6 @@ shared-slice-read-if1 c =
     let entry = c .before .before .before .before in
     entry .pre .0 .each _ (c .before .before .loop-test .taken)
 
-sub-if1 : tie.Need-sub-if1 Inv-loop μ-loop
-sub-if1 c = search needs
-
 returns : tie.Need-returns Inv-loop μ-loop
 returns c =
     let at-loop-test = c .before .before .before .before in
@@ -58,9 +44,6 @@ returns c =
     let entry = at-loop .before in
     λ form n L. laws.sole-several _ _ _ _ _ _ _ _ (next _ _ _ L _ (at-loop-test .loop-test .taken)) (at-loop .loop .inv .1 form n L)
     (entry .pre .0 .each _ (at-loop-test .loop-test .taken)) (c .before .if1 .taken) (c .if2 .taken)
-
-loop-less : tie.Need-loop-less Inv-loop μ-loop
-loop-less c = search needs
 
 loop-again : tie.Need-loop-again Inv-loop μ-loop
 loop-again c =
@@ -71,9 +54,6 @@ loop-again c =
       λ form n L. laws.sole-found _ _ _ _ _ _ _ _ (next _ _ _ L _ (at-loop-test .loop-test .taken)) (at-loop .loop .inv .1 form n L)
           (entry .pre .0 .each _ (at-loop-test .loop-test .taken)) (c .before .if1 .taken) (c .if2 .left),
     )
-
-loop-less-2 : tie.Need-loop-less-2 Inv-loop μ-loop
-loop-less-2 c = search needs
 
 loop-again-2 : tie.Need-loop-again-2 Inv-loop μ-loop
 loop-again-2 c =
@@ -97,16 +77,14 @@ only-free-spec =
     Inv-loop
     μ-loop
     loop-holds
-    mul-s
-    shared-slice-read-s
-    add-i
+    (λ c. search needs) (λ c. search needs) (λ c. search needs)
     cast-if1
     mul-if1
     shared-slice-read-if1
-    sub-if1
+    (λ c. search needs)
     returns
-    loop-less
+    (λ c. search needs)
     loop-again
-    loop-less-2
+    (λ c. search needs)
     loop-again-2
     returns-2)

@@ -7,12 +7,6 @@ use Rattle.rules.proofs.LinearRules as rule
 use Rattle.rules.proofs.standing.Standing.digits.Statement.{statement}
 use Rattle.rules.proofs.standing.Standing.digits.Tie as tie
 
-digits-met-requires : tie.Need-digits-met-requires
-digits-met-requires c κs = search needs
-
-unmet-requires : tie.Need-unmet-requires
-unmet-requires c κs = search needs
-
 returns : tie.Need-returns
 returns c = laws.gives-no _ _ _ _ _ (c .unmet .ensures) (sym (c .before .before .digits-met .ensures) ∙ not-true _ (c .before .if1 .taken))
 
@@ -27,4 +21,4 @@ returns-2 c =
 
 pub digits-spec : {M : Type 1} → statement M
 digits-spec =
-    tie.close (tie.spec digits-met-requires unmet-requires returns marked-requires returns-2)
+    tie.close (tie.spec (λ c κs. search needs) (λ c κs. search needs) returns marked-requires returns-2)

@@ -8,13 +8,10 @@ use Rattle.rules.proofs.ViewLaws.{view-mark}
 use Rattle.rules.proofs.standing.Standing.marked.Statement.{statement}
 use Rattle.rules.proofs.standing.Standing.marked.Tie as tie
 
-element-write-self : tie.Need-element-write-self
-element-write-self c = search needs
-
 returns : tie.Need-returns
 returns c =
     let sized : length (c .args .t1 .marks) ≡ 257 = search needs in
     (refl, λ p. view-mark p _ _ _ (omega arith))
 
 pub marked-spec : {M : Type 1} → statement M
-marked-spec = tie.close (tie.spec element-write-self returns)
+marked-spec = tie.close (tie.spec (λ c. search needs) returns)

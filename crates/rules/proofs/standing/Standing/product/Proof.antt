@@ -7,12 +7,6 @@ use Rattle.rules.specs.View.{boundIn, viewOf}
 use Rattle.rules.proofs.standing.Standing.product.Statement.{statement}
 use Rattle.rules.proofs.standing.Standing.product.Tie as tie
 
-product-met-requires : tie.Need-product-met-requires
-product-met-requires c κs = search needs
-
-unmet-requires : tie.Need-unmet-requires
-unmet-requires c κs = search needs
-
 returns : tie.Need-returns
 unfolding viewOf
 returns c =
@@ -32,4 +26,4 @@ returns-2 c =
 
 pub product-spec : {M : Type 1} → statement M
 product-spec =
-    tie.close (tie.spec product-met-requires unmet-requires returns marked-requires returns-2)
+    tie.close (tie.spec (λ c κs. search needs) (λ c κs. search needs) returns marked-requires returns-2)

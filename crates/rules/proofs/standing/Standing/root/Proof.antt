@@ -8,17 +8,8 @@ use Rattle.laws.specs.Standing.{lower}
 use Rattle.rules.proofs.standing.Standing.root.Statement.{statement}
 use Rattle.rules.proofs.standing.Standing.root.Tie as tie
 
-root-met-requires : tie.Need-root-met-requires
-root-met-requires c κs = search needs
-
-unmet-requires : tie.Need-unmet-requires
-unmet-requires c κs = search needs
-
 returns : tie.Need-returns
 returns c = laws.gives-no _ _ _ _ _ (c .unmet .ensures) (sym (c .before .before .root-met .ensures) ∙ not-true _ (c .before .if1 .taken))
-
-root-bound-requires : tie.Need-root-bound-requires
-root-bound-requires c κs = search needs
 
 lowered-requires : tie.Need-lowered-requires
 lowered-requires c κs = laws.root-low _ _ (sym (c .before .before .root-met .ensures) ∙ not-false _ (c .before .if1 .left))
@@ -34,9 +25,8 @@ pub root-spec : {M : Type 1} → statement M
 root-spec =
     tie.close
     (tie.spec
-    root-met-requires
-    unmet-requires
+    (λ c κs. search needs) (λ c κs. search needs)
     returns
-    root-bound-requires
+    (λ c κs. search needs)
     lowered-requires
     returns-2)

@@ -17,15 +17,6 @@ Inv-loop p i bounds marks₀ end s₀ marks s = (s ≤ end) × (length marks ≡
 abbrev μ-loop : tie.MeasureT-loop
 μ-loop p i bounds marks₀ end s₀ marks s = end - s
 
-sub-bounds : tie.Need-sub-bounds Inv-loop μ-loop
-sub-bounds c = search needs
-
-lesser-requires : tie.Need-lesser-requires Inv-loop μ-loop
-lesser-requires c κs = search needs
-
-cast-end : tie.Need-cast-end Inv-loop μ-loop
-cast-end c = search needs
-
 loop-holds : tie.Need-loop-holds Inv-loop μ-loop
 loop-holds c = (omega arith, refl, laws.start-none)
 
@@ -53,9 +44,7 @@ start-spec =
     (tie.spec
     Inv-loop
     μ-loop
-    sub-bounds
-    lesser-requires
-    cast-end
+    (λ c. search needs) (λ c κs. search needs) (λ c. search needs)
     loop-holds
     add-s
     array-write-marks

@@ -10,12 +10,6 @@ use Rattle.laws.specs.Standing.{lower}
 use Rattle.rules.proofs.standing.Standing.sum.Statement.{statement}
 use Rattle.rules.proofs.standing.Standing.sum.Tie as tie
 
-sum-step-requires : tie.Need-sum-step-requires
-sum-step-requires c κs = search needs
-
-unmet-requires : tie.Need-unmet-requires
-unmet-requires c κs = search needs
-
 returns : tie.Need-returns
 unfolding viewOf
 returns c =
@@ -44,4 +38,4 @@ returns-2 c =
 pub sum-spec : {M : Type 1} → statement M
 sum-spec =
     tie.close
-    (tie.spec sum-step-requires unmet-requires returns cast-lowered lowered-requires returns-2)
+    (tie.spec (λ c κs. search needs) (λ c κs. search needs) returns cast-lowered lowered-requires returns-2)

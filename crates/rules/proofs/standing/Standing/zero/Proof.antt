@@ -7,22 +7,10 @@ use Rattle.rules.proofs.Outcomes as laws
 use Rattle.rules.proofs.standing.Standing.zero.Statement.{statement}
 use Rattle.rules.proofs.standing.Standing.zero.Tie as tie
 
-unmet-requires : tie.Need-unmet-requires
-unmet-requires c κs = search needs
-
 returns : tie.Need-returns
 returns c =
     let sized : length (c .before .before .args .t1 .bounds) ≡ 257 = search needs in
     λ p h. laws.gives-no _ _ _ _ _ (c .unmet .ensures) (laws.zero-past p _ _ _ h (omega arith))
-
-mul-if2 : tie.Need-mul-if2
-mul-if2 c = search needs
-
-element-copy-out-if2 : tie.Need-element-copy-out-if2
-element-copy-out-if2 c = search needs
-
-unmet-requires-2 : tie.Need-unmet-requires-2
-unmet-requires-2 c κs = search needs
 
 returns-2 : tie.Need-returns-2
 returns-2 c =
@@ -41,11 +29,9 @@ pub zero-spec : {M : Type 1} → statement M
 zero-spec =
     tie.close
     (tie.spec
-    unmet-requires
+    (λ c κs. search needs)
     returns
-    mul-if2
-    element-copy-out-if2
-    unmet-requires-2
+    (λ c. search needs) (λ c. search needs) (λ c κs. search needs)
     returns-2
     marked-requires
     returns-3)
