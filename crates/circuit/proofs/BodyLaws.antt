@@ -1,5 +1,5 @@
 -- Laws of the constraints of a file, read one after the other, and of its end.
-use Prim.Native.Nat.{ℕ, zero, suc, _+_, _-_, _≤_, _<_}
+use Prim.Native.Nat.{ℕ, suc, _+_, _-_, _≤_, _<_}
 use mathlib.Core.Path.{_≡_, refl, sym, ap, _∙_}
 use mathlib.Core.Bool.{Bool, true, false}
 use mathlib.Core.List.{List}
@@ -10,10 +10,10 @@ use lib.Dec.{eqb}
 use lib.ListN.{length, drop, length-drop}
 use lib.Seq.{drop-drop}
 use Rattle.circuit.specs.Circuit.{Constraint}
-use Rattle.circuit.specs.Reading.{Reading, whole, fault, after, Size, sized, faulty, sizeOf, further, extent}
+use Rattle.circuit.specs.Reading.{whole, after, Size, sized, faulty, sizeOf, further, extent}
 use Rattle.circuit.specs.Reader.{readConstraint, readConstraints, readBody, atEnd, afterConstraint}
 use Rattle.circuit.proofs.ReaderLaws.{
-  ask,
+  askSize,
   size-after,
   size-mapped,
   size-require,
@@ -27,17 +27,17 @@ use Rattle.circuit.proofs.ReaderLaws.{
 
 -- the end of the file after what was read
 abbrev ended : List ℕ → Size → Size
-ended s (sized k) = ask (eqb (length s - k) 0) 10 k (sized k)
+ended s (sized k) = askSize (eqb (length s - k) 0) 10 k (sized k)
 ended s (faulty number offset) = faulty number offset
 
 endSize : List ℕ → Size
-endSize t = ask (eqb (length t) 0) 10 0 (sized 0)
+endSize t = askSize (eqb (length t) 0) 10 0 (sized 0)
 
 next-ended : (s : List ℕ) (z : Size) → nextSize s z endSize ≡ ended s z
 unfolding nextSize endSize
 next-ended s (sized k) = rw (length-drop k s) (go (eqb (length s - k) 0))
   where
-    go : (b : Bool) → further k (ask b 10 0 (sized 0)) ≡ ask b 10 k (sized k)
+    go : (b : Bool) → further k (askSize b 10 0 (sized 0)) ≡ askSize b 10 k (sized k)
     go true = ap sized (add-zero k)
     go false = ap (faulty 10) (add-zero k)
 next-ended s (faulty number offset) = refl
@@ -54,7 +54,7 @@ body-start n p m s =
     ∙ next-ended s _
     ∙ ap (ended s) (size-after 17 (readConstraints n p m (drop 17 s)))
 
-pub body-done : (n p : ℕ) (s : List ℕ) (at : ℕ) → bodyFrom n p s 0 at ≡ ask (eqb (length s - at) 0) 10 at (sized at)
+pub body-done : (n p : ℕ) (s : List ℕ) (at : ℕ) → bodyFrom n p s 0 at ≡ askSize (eqb (length s - at) 0) 10 at (sized at)
 unfolding bodyFrom readConstraints
 body-done n p s at = ap (λ (k : ℕ). ended s (sized k)) (add-zero at)
 
@@ -114,8 +114,8 @@ module _ (n p : ℕ) (s : List ℕ) (at : ℕ) (near : at ≤ length s) (rest : 
   pub rest-read : (y z : Size) → y ≡ sizeOf (readConstraint n p rest) → z ≡ further at y → further at (sizeOf (readConstraint n p (drop at s))) ≡ z
   rest-read y z e f = sym (f ∙ ap (further at) (e ∙ ap (λ (t : List ℕ). sizeOf (readConstraint n p t)) is-rest))
 
-module _ (n p : ℕ) (s : List ℕ) (z : Size) (left at : ℕ) (inv : z ≡ bodyFrom n p s left at) (none : left ≤ 0) where
-  last : z ≡ ask (eqb (length s - at) 0) 10 at (sized at)
+module _ (n p : ℕ) (s : List ℕ) (z : Size) (left at : ℕ) (inv : z ≡ bodyFrom n p s left at) (done : left ≤ 0) where
+  last : z ≡ askSize (eqb (length s - at) 0) 10 at (sized at)
   last = inv ∙ ap (λ (k : ℕ). bodyFrom n p s k at) (omega arith) ∙ body-done n p s at
 
   pub body-longer : at < length s → faulty 10 at ≡ z

@@ -5,3 +5,7 @@ pub mod HeaderLaws
 pub mod WellFormed
 pub mod Stored
 pub mod RunLaws
+pub mod SearchLaws
+pub mod CopyLaws
+pub mod Sized
+pub mod OffsetLaws

@@ -2,19 +2,18 @@
 use Prim.Native.Nat.{ℕ, zero, suc, _+_, _*_, _-_, _≤_, _<_}
 use mathlib.Core.Path.{_≡_, refl, sym, ap, _∙_}
 use mathlib.Core.Bool.{Bool, true, false}
-use mathlib.Core.List.{List, [], _∷_}
+use mathlib.Core.List.{List}
 use native.Mathlib.Nat.{add-zero, zero-add, add-assoc}
 use native.Mathlib.Numerals.{add-one}
 use native.Mathlib.Omega.{arith}
-use borrow.Author.Tests.{leb-true, lt-ltb, le-ltb, le-leb, lt-leb, eq-eqb, ne-eqb}
-use lib.Dec.{ltb, leb, eqb}
+use borrow.Author.Tests.{leb-true, lt-ltb, le-ltb, le-leb, lt-leb}
+use lib.Dec.{ltb, leb}
 use lib.ListN.{length, drop, take, length-drop, drop-of-length-le}
 use lib.Seq.{drop-drop, drop-length, take-all}
 use Rattle.circuit.specs.Bytes.{byteAt, u16At, u32At}
-use Rattle.circuit.specs.Circuit.{Form}
 use Rattle.circuit.specs.Reading.{Reading, whole, fault, require, after, mapped, next, Size, sized, faulty, sizeOf, further, extent}
 use Rattle.circuit.specs.Reader.{readTerms, readForm, formFrom, readConstraint, afterForm, afterConstraint}
-use Rattle.circuit.proofs.ByteLaws.{byte-drop, u16-drop, u32-drop}
+use Rattle.circuit.proofs.ByteLaws.{u16-drop, u32-drop}
 
 -- sizes do not depend on what was read
 pub size-after : {A : Type 0} (at : ℕ) (r : Reading A) → sizeOf (after at r) ≡ further at (sizeOf r)
@@ -34,12 +33,12 @@ unfoldable pub termsFrom : ℕ → ℕ → List ℕ → ℕ → ℕ → ℕ → 
 termsFrom n p s left at least = further at (sizeOf (readTerms n p left least (drop at s)))
 
 -- go on where the test holds, else refuse at an offset
-abbrev pub ask : Bool → ℕ → ℕ → Size → Size
-ask true number at z = z
-ask false number at z = faulty number at
+abbrev pub askSize : Bool → ℕ → ℕ → Size → Size
+askSize true number at z = z
+askSize false number at z = faulty number at
 
 pub further-require : {A : Type 0} (at : ℕ) (b : Bool) (number : ℕ) (r : Reading A)
-    → further at (sizeOf (require b number r)) ≡ ask b number at (further at (sizeOf r))
+    → further at (sizeOf (require b number r)) ≡ askSize b number at (further at (sizeOf r))
 further-require at true number r = refl
 further-require at false number r = ap (faulty number) (add-zero at)
 
@@ -49,21 +48,21 @@ terms-done n p s at least = ap sized (add-zero at)
 
 -- one term: the tests of the code in its order, then the terms after it
 pub terms-turn : (n p : ℕ) (s : List ℕ) (left at least : ℕ) → termsFrom n p s (suc left) at least
-    ≡ ask (leb 6 (length s - at)) 6 at
-    (ask (leb (u16At s at) n) 8 at
-    (ask (leb least (u16At s at)) 8 at
-    (ask (ltb 0 (u32At s (at + 2))) 9 at
-    (ask (ltb (u32At s (at + 2)) p) 9 at (termsFrom n p s left (at + 6) (suc (u16At s at)))))))
+    ≡ askSize (leb 6 (length s - at)) 6 at
+    (askSize (leb (u16At s at) n) 8 at
+    (askSize (leb least (u16At s at)) 8 at
+    (askSize (ltb 0 (u32At s (at + 2))) 9 at
+    (askSize (ltb (u32At s (at + 2)) p) 9 at (termsFrom n p s left (at + 6) (suc (u16At s at)))))))
 unfolding termsFrom readTerms
 terms-turn n p s left at least =
     simp (further-require, size-after, size-mapped, further-further, length-drop, u16-drop, u32-drop, drop-drop, add-zero)
 
-pub size-require : {A : Type 0} (b : Bool) (number : ℕ) (r : Reading A) → sizeOf (require b number r) ≡ ask b number 0 (sizeOf r)
+pub size-require : {A : Type 0} (b : Bool) (number : ℕ) (r : Reading A) → sizeOf (require b number r) ≡ askSize b number 0 (sizeOf r)
 size-require true number r = refl
 size-require false number r = refl
 
 pub form-start : (n p : ℕ) (s : List ℕ) → sizeOf (readForm n p s)
-    ≡ ask (leb 1 (length s)) 6 0 (ask (leb (byteAt s 0) 32) 7 0 (termsFrom n p s (byteAt s 0) 1 0))
+    ≡ askSize (leb 1 (length s)) 6 0 (askSize (leb (byteAt s 0) 32) 7 0 (termsFrom n p s (byteAt s 0) 1 0))
 unfolding readForm termsFrom
 form-start n p s = simp (size-require, size-after)
 
@@ -74,11 +73,11 @@ one-more {k} h = omega arith
 -- A turn of the term reader: the whole answer z is what is still to be read, and each test leads out or on.
 module _ (n p : ℕ) (s : List ℕ) (z : Size) (left at least : ℕ) (inv : z ≡ termsFrom n p s left at least) (some : 0 < left) where
   turn : z
-      ≡ ask (leb 6 (length s - at)) 6 at
-      (ask (leb (u16At s at) n) 8 at
-      (ask (leb least (u16At s at)) 8 at
-      (ask (ltb 0 (u32At s (at + 2))) 9 at
-      (ask (ltb (u32At s (at + 2)) p) 9 at (termsFrom n p s (left - 1) (at + 6) (suc (u16At s at)))))))
+      ≡ askSize (leb 6 (length s - at)) 6 at
+      (askSize (leb (u16At s at) n) 8 at
+      (askSize (leb least (u16At s at)) 8 at
+      (askSize (ltb 0 (u32At s (at + 2))) 9 at
+      (askSize (ltb (u32At s (at + 2)) p) 9 at (termsFrom n p s (left - 1) (at + 6) (suc (u16At s at)))))))
   turn = inv ∙ ap (λ (k : ℕ). termsFrom n p s k at least) (one-more some) ∙ terms-turn n p s (left - 1) at least
 
   pub term-short : length s - at < 6 → faulty 6 at ≡ z
@@ -128,7 +127,7 @@ pub extent-further : (at : ℕ) (z : Size) → extent (further at z) ≡ at + ex
 extent-further at (sized size) = refl
 extent-further at (faulty number offset) = refl
 
-ask-inside : (n : ℕ) (b : Bool) (number at : ℕ) (z : Size) → at ≤ n → (b ≡ true → extent z ≤ n) → extent (ask b number at z) ≤ n
+ask-inside : (n : ℕ) (b : Bool) (number at : ℕ) (z : Size) → at ≤ n → (b ≡ true → extent z ≤ n) → extent (askSize b number at z) ≤ n
 ask-inside n true number at z h k = k refl
 ask-inside n false number at z h k = h
 
@@ -220,7 +219,7 @@ module _ (n p : ℕ) (s : List ℕ) where
         go (faulty x y) h = cc
 
 -- What was read whole has the size that its count bytes say.
-ask-sized : (b : Bool) (number at : ℕ) (z : Size) {k : ℕ} → ask b number at z ≡ sized k → z ≡ sized k
+ask-sized : (b : Bool) (number at : ℕ) (z : Size) {k : ℕ} → askSize b number at z ≡ sized k → z ≡ sized k
 ask-sized true number at z e = e
 ask-sized false number at z e = cc
 

@@ -3,14 +3,14 @@ use Prim.Native.Nat.{ℕ, zero, suc, _+_, _*_, _≤_, _<_}
 use mathlib.Core.Path.{_≡_, refl, sym, ap, _∙_}
 use mathlib.Core.List.{List}
 use native.Mathlib.Nat.{add-zero}
-use native.Mathlib.Numerals.{unary-clauses}
+use native.Mathlib.Numerals.{add-one, unary-clauses}
 use native.Mathlib.Omega.{arith}
 use borrow.Author.Tests.{le-leb}
 use lib.ListN.{length, drop, length-drop}
 use lib.Seq.{drop-drop}
 use Rattle.circuit.specs.Bytes.{byteAt, u16At}
 use Rattle.circuit.specs.Circuit.{Form, Constraint, Circuit, constraintAt}
-use Rattle.circuit.specs.Reading.{Reading, whole, sizeOf}
+use Rattle.circuit.specs.Reading.{whole, sizeOf}
 use Rattle.circuit.specs.Reader.{
   readTerms,
   readForm,
@@ -50,7 +50,7 @@ terms-in n p (suc left) least s h e =
 
 form-in : (n p : ℕ) (s : List ℕ) {f : Form} {k : ℕ} → n ≤ 256 → readForm n p s ≡ whole f k → formIn s ≡ f
 unfolding formIn
-form-in n p s h e = terms-in n p (byteAt s 0) 0 (drop 1 s) h (form-whole n p s e .2)
+form-in n p s h e = terms-in n p (byteAt s 0) 0 (drop 1 s) h (form-whole n p s e .read)
 
 pub read-form : (n p : ℕ) (s : List ℕ) (f : Form) (k : ℕ) → readForm n p s ≡ whole f k → n ≤ 256 → (formIn s ≡ f) × (afterForm s ≡ drop k s)
 read-form n p s f k e h = (form-in n p s h e, form-after n p s e)
@@ -78,6 +78,10 @@ pub form-offset : (s : List ℕ) (at : ℕ) → afterForm (drop at s) ≡ drop (
 unfolding afterForm offsetAfter
 form-offset s at = rw (drop-drop (1 + 6 * byteAt (drop at s) 0) at s, count-at s at)
 
+pub offset-next : (s : List ℕ) (k : ℕ) → offsetAt s (k + 1) ≡ offsetAfter s (offsetAfter s (offsetAfter s (offsetAt s k)))
+unfolding offsetAt
+offset-next s k = rw (add-one k)
+
 pub part-offset : (s : List ℕ) (k : ℕ) → partFrom k (drop 17 s) ≡ drop (offsetAt s k) s
 unfolding offsetAt partFrom afterConstraint
 part-offset s zero = refl
@@ -92,7 +96,7 @@ form-near : (n p : ℕ) (s : List ℕ) (at : ℕ) {f : Form} {k : ℕ} → readF
     → (at < length s) × (offsetAfter s at ≤ length s)
 unfolding offsetAfter
 form-near n p s at {k = k} e =
-    let some : 1 ≤ length (drop at s) = form-whole n p (drop at s) e .0 in
+    let some : 1 ≤ length (drop at s) = form-whole n p (drop at s) e .some in
     let size : k ≡ 1 + 6 * byteAt s at = rw (count-at s at) at (form-sized n p (drop at s) k (ap sizeOf e)) in
     let inside : k ≤ length (drop at s) = rw e at (form-inside n p (drop at s)) in
     (omega (arith, length-drop at s), omega (arith, length-drop at s))

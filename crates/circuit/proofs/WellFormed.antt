@@ -18,7 +18,7 @@ use Rattle.circuit.specs.Circuit.{
   noConstraint,
   constraintAt,
   Rises,
-  none,
+  noMore,
   more,
   WellFormedConstraint,
   WellFormed,
@@ -33,7 +33,8 @@ use Rattle.circuit.specs.Reader.{
   readBody,
   readCircuit,
   atEnd,
-  marked,
+  circuitLetter,
+  hasMark,
   sizesFit,
   afterForm,
   afterConstraint,
@@ -97,22 +98,40 @@ term-whole n p left least s e =
 
 terms-rise : (n p left least : ℕ) (s : List ℕ) {f : Form} {k : ℕ} → readTerms n p left least s ≡ whole f k → Rises n p least f
 unfolding readTerms
-terms-rise n p zero least s {f} e = let is : f ≡ [] = cc in rw is none
+terms-rise n p zero least s {f} e = let is : f ≡ [] = cc in rw is noMore
 terms-rise n p (suc left) least s e =
     let T = term-whole n p left least s e in
     rw (T .is) (more (T .rises) (T .low) (T .positive) (T .below) (terms-rise n p left (suc (u16At s 0)) (drop 6 s) (T .read)))
 
-pub form-whole : (n p : ℕ) (s : List ℕ) {f : Form} {k : ℕ} → readForm n p s ≡ whole f k
-    → (1 ≤ length s) × (j : ℕ) × (readTerms n p (byteAt s 0) 0 (drop 1 s) ≡ whole f j)
+terms-counted : (n p left least : ℕ) (s : List ℕ) {f : Form} {k : ℕ} → readTerms n p left least s ≡ whole f k → length f ≡ left
+unfolding readTerms
+terms-counted n p zero least s {f} e = let is : f ≡ [] = cc in rw is
+terms-counted n p (suc left) least s e =
+    let T = term-whole n p left least s e in
+    rw (T .is) (ap suc (terms-counted n p left (suc (u16At s 0)) (drop 6 s) (T .read)))
+
+-- the count byte, and the terms after it
+pub record FormRead (n p : ℕ) (s : List ℕ) (f : Form) : Type 0 where
+  pub some : 1 ≤ length s
+  pub few : byteAt s 0 ≤ 32
+  pub size : ℕ
+  pub read : readTerms n p (byteAt s 0) 0 (drop 1 s) ≡ whole f size
+
+pub form-whole : (n p : ℕ) (s : List ℕ) {f : Form} {k : ℕ} → readForm n p s ≡ whole f k → FormRead n p s f
 unfolding readForm
 form-whole n p s e =
     let some = require-whole (leb 1 (length s)) 6 _ e in
     let few = require-whole (leb (byteAt s 0) 32) 7 _ (some .1) in
     let rest = after-whole 1 _ (few .1) in
-    (leb-true _ _ (some .0), rest .0, rest .1)
+    record { some = leb-true _ _ (some .0); few = leb-true _ _ (few .0); size = rest .0; read = rest .1 }
 
 form-rises : (n p : ℕ) (s : List ℕ) {f : Form} {k : ℕ} → readForm n p s ≡ whole f k → Rises n p 0 f
-form-rises n p s e = terms-rise n p (byteAt s 0) 0 (drop 1 s) (form-whole n p s e .2)
+form-rises n p s e = terms-rise n p (byteAt s 0) 0 (drop 1 s) (form-whole n p s e .read)
+
+form-few : (n p : ℕ) (s : List ℕ) {f : Form} {k : ℕ} → readForm n p s ≡ whole f k → length f ≤ 32
+form-few n p s e =
+    let F = form-whole n p s e in
+    omega (arith, F .few, terms-counted n p (byteAt s 0) 0 (drop 1 s) (F .read))
 
 pub form-after : (n p : ℕ) (s : List ℕ) {f : Form} {k : ℕ} → readForm n p s ≡ whole f k → afterForm s ≡ drop k s
 unfolding afterForm
@@ -150,6 +169,9 @@ constraint-formed n p s K R =
       rises-a = form-rises n p s (R .read-a);
       rises-b = form-rises n p (afterForm s) (R .read-b);
       rises-c = form-rises n p (afterForm (afterForm s)) (R .read-c);
+      few-a = form-few n p s (R .read-a);
+      few-b = form-few n p (afterForm s) (R .read-b);
+      few-c = form-few n p (afterForm (afterForm s)) (R .read-c);
     }
 
 -- the first of the constraints, and the constraints after it
@@ -259,7 +281,7 @@ unfolding readCircuit
 circuit-whole s {C} {size} e =
     let least = require-whole (leb 17 (length s)) 1 _ e in
     let most = require-whole (leb (length s) 60000) 1 _ (least .1) in
-    let mark = require-whole (marked 67 s) 2 _ (most .1) in
+    let mark = require-whole (hasMark circuitLetter s) 2 _ (most .1) in
     let version = require-whole (eqb (u16At s 3) 1) 3 _ (mark .1) in
     let prime = require-whole (oddPrime (u32At s 5)) 4 _ (version .1) in
     let fits = require-whole (sizesFit (u16At s 9) (u16At s 11) (u16At s 13) (u16At s 15)) 5 _ (prime .1) in
@@ -316,7 +338,8 @@ sizes-fit n i o m e =
     }
 
 no-constraint-formed : (n p : ℕ) → WellFormedConstraint n p noConstraint
-no-constraint-formed n p = record { rises-a = none; rises-b = none; rises-c = none }
+no-constraint-formed n p =
+    record { rises-a = noMore; rises-b = noMore; rises-c = noMore; few-a = omega arith; few-b = omega arith; few-c = omega arith }
 
 pub read-well-formed : (s : List ℕ) (C : Circuit) (size : ℕ) → readCircuit s ≡ whole C size → WellFormed C
 unfolding constraintAt

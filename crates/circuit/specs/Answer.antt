@@ -1,31 +1,37 @@
--- What the call on a circuit answers: document 01's number and place of a refusal, or the header's numbers.
-use Prim.Native.Nat.{ℕ}
-use mathlib.Core.List.{List}
-use Rattle.circuit.specs.Circuit.{Circuit}
-use Rattle.circuit.specs.Reading.{Reading, whole, fault, Size, sized, faulty}
-use Rattle.circuit.specs.Reader.{readCircuit}
+-- Rule 6.1: what a call answers, and the tests that lead to it in checking order.
+use Prim.Native.Nat.{ℕ, zero, suc, _+_}
+use mathlib.Core.Bool.{Bool, true, false}
+use Rattle.circuit.specs.Reading.{Size, sized, faulty}
+use Rattle.circuit.specs.declared.reader.Sizes.{Sizes}
 use Rattle.circuit.specs.declared.reader.CircuitAnswer.{CircuitAnswer}
-use Rattle.circuit.specs.declared.reader.CircuitAnswer.the-variants.{Refused, Sizes}
+use Rattle.circuit.specs.declared.reader.CircuitAnswer.the-variants as variants
 use Rattle.circuit.specs.declared.reader.Found.{Found}
 use Rattle.circuit.specs.declared.reader.Found.the-variants.{Whole, Fault}
 
--- the number and place, or p, n, i, o and m
-pub data CircuitResult : Type 0 where
-  refused : ℕ → ℕ → CircuitResult
-  sizes : ℕ → ℕ → ℕ → ℕ → ℕ → CircuitResult
+-- a refusal's number and place, or a result
+pub data Answer (A : Type 0) : Type 0 where
+  refused : ℕ → ℕ → Answer A
+  given : A → Answer A
 
-abbrev pub headerOf : Reading Circuit → CircuitResult
-headerOf (whole C size) = sizes (C .p) (C .n) (C .i) (C .o) (C .m)
-headerOf (fault number place) = refused number place
+-- go on where the test holds, else refuse with the number and place
+abbrev pub ask : {A : Type 0} → Bool → ℕ → ℕ → Answer A → Answer A
+ask true number place r = r
+ask false number place r = refused number place
 
--- the enum's cases in the paper's numbers
-abbrev pub paperOf : CircuitAnswer → CircuitResult
-paperOf (Refused number place) = refused number place
-paperOf (Sizes p n i o m) = sizes p n i o m
+-- go on where a search found nothing, which is 0, else refuse with the number; the place is what was found, counted on from `base`
+abbrev pub askNone : {A : Type 0} → ℕ → ℕ → ℕ → Answer A → Answer A
+askNone zero number base r = r
+askNone (suc k) number base r = refused number (base + suc k)
 
--- the call, on all bytes
-unfoldable pub circuitCall : List ℕ → CircuitResult
-circuitCall s = headerOf (readCircuit s)
+-- go on with what was given
+abbrev pub andThen : {A B : Type 0} → Answer A → (A → Answer B) → Answer B
+andThen (refused number place) f = refused number place
+andThen (given x) f = f x
+
+-- the enum of the circuit call as an answer
+abbrev pub paperOf : CircuitAnswer → Answer Sizes
+paperOf (variants.Refused number place) = refused number place
+paperOf (variants.Sizes p n i o m) = given (record { p = p; n = n; i = i; o = o; m = m })
 
 abbrev pub foundOf : Found → Size
 foundOf (Whole size) = sized size

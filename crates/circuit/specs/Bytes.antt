@@ -1,4 +1,4 @@
--- Numbers in bytes. "Little-endian throughout." Past the end of a list every byte is 0.
+-- Rule 1.1: numbers in bytes, little-endian. Past the end of a list every byte is 0.
 use Prim.Native.Nat.{ℕ, _+_, _*_}
 use mathlib.Core.List.{List}
 use lib.ListN.{getD}

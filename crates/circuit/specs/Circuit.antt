@@ -1,29 +1,29 @@
--- Circuits, runs and satisfaction, after definitions 4.1 to 4.6 of source document 001 in the words of document 01.
-use Prim.Native.Nat.{ℕ, zero, suc, _+_, _*_, _-_, _%_, _≤_, _<_}
+-- Circuits (rank-1 constraint systems), runs (witnesses) and satisfaction: rules 1.2 to 1.7.
+use Prim.Native.Nat.{ℕ, suc, _+_, _*_, _-_, _≤_, _<_}
 use mathlib.Core.Path.{_≡_}
-use mathlib.Core.Bool.{Bool, true, false, cond, _&&_, _||_}
+use mathlib.Core.Bool.{Bool, false, cond, _||_}
 use mathlib.Core.List.{List, [], _∷_}
 use lib.Dec.{eqb}
 use lib.ListN.{length, getD}
 use Rattle.field.specs.Prime.{Prime}
 use Rattle.field.specs.Residue.{Congruent}
 
--- A term: a signal's number and its coefficient. "Signal number 0 stands for the constant one."
+-- Rule 1.3: a term is a signal's number and its coefficient. Rule 1.2: signal 0 is the constant one.
 pub record Term : Type 0 where
   pub signal : ℕ
   pub coefficient : ℕ
 
--- A form is a linear combination. "A form without terms is zero."
+-- Rule 1.3: a form is a linear combination, zero where it has no terms
 abbrev pub Form : Type 0
 Form = List Term
 
--- "Each constraint is three forms A, B, C."
+-- Rule 1.3: A · B = C
 pub record Constraint : Type 0 where
   pub a : Form
   pub b : Form
   pub c : Form
 
--- "prime p, .. n signals, i inputs, o outputs, m constraints": signals 1 to i are the inputs, i + 1 to i + o the outputs.
+-- Rules 1.1, 1.2: the prime, how many signals, inputs, outputs and constraints there are. Signals 1 to i are the inputs, i + 1 to i + o the outputs.
 pub record Circuit : Type 0 where
   pub p : ℕ
   pub n : ℕ
@@ -40,7 +40,7 @@ noConstraint = record { a = []; b = []; c = [] }
 unfoldable pub constraintAt : Circuit → ℕ → Constraint
 constraintAt C k = getD (C .constraints) (k - 1) noConstraint
 
--- the coefficient of signal s in a form: that of its term on s, 0 where the form doesn't name it
+-- the coefficient of signal s in a form: the sum of those of its terms on s, of which a form that was read has at most one; 0 where it has none
 unfoldable pub coef : Form → ℕ → ℕ
 coef [] s = 0
 coef (t ∷ f) s = cond (eqb (t .signal) s) (t .coefficient) 0 + coef f s
@@ -50,7 +50,7 @@ unfoldable pub names : Form → ℕ → Bool
 names [] s = false
 names (t ∷ f) s = eqb (t .signal) s || names f s
 
--- A run (a witness) gives each signal a value: the value of signal s, the constant one for signal 0.
+-- Rule 1.4: the value of signal s in a run (a witness), the list of the values of signals 1 to n: 1 for signal 0, and 0 past the end
 unfoldable pub valueOf : List ℕ → ℕ → ℕ
 valueOf run s = getD (1 ∷ run) s 0
 
@@ -59,36 +59,40 @@ unfoldable pub eval : Form → (ℕ → ℕ) → ℕ
 eval [] v = 0
 eval (t ∷ f) v = t .coefficient * v (t .signal) + eval f v
 
--- "It satisfies a constraint if A times B equals C modulo p"
+-- Rule 1.5
 abbrev pub Satisfies : ℕ → Constraint → (ℕ → ℕ) → Type 0
 Satisfies p K v = Congruent p (eval (K .a) v * eval (K .b) v) (eval (K .c) v)
 
--- "A run gives each signal a value from 0 to p - 1."
+-- Rule 1.4: n values, each below p
 pub record IsRun (C : Circuit) (run : List ℕ) : Type 0 where
   pub sized : length run ≡ C .n
   pub below : (s : ℕ) → 1 ≤ s → s ≤ C .n → valueOf run s < C .p
 
--- ".. and the circuit if it satisfies all m"
+-- Rule 1.5: a run that satisfies every constraint
 pub record Satisfying (C : Circuit) (run : List ℕ) : Type 0 where
   pub isRun : IsRun C run
   pub holds : (k : ℕ) → 1 ≤ k → k ≤ C .m → Satisfies (C .p) (constraintAt C k) (valueOf run)
 
--- "Runs share their inputs if they agree at signals 1 to i."
+-- Rule 1.6
 abbrev pub ShareInputs : Circuit → List ℕ → List ℕ → Type 0
 ShareInputs C run other = (s : ℕ) → 1 ≤ s → s ≤ C .i → valueOf run s ≡ valueOf other s
 
--- Terms in order: signal numbers from `least` strictly rising and at most n, coefficients 1 to p - 1.
+-- Rule 1.3: terms in order, signal numbers from `least` strictly rising and at most n, coefficients 1 to p - 1
 pub data Rises (n p : ℕ) : ℕ → Form → Type 0 where
-  none : {least : ℕ} → Rises n p least []
+  noMore : {least : ℕ} → Rises n p least []
   more : {least : ℕ} {t : Term} {f : Form} → least ≤ t .signal → t .signal ≤ n → 0 < t .coefficient → t .coefficient < p
       → Rises n p (suc (t .signal)) f → Rises n p least (t ∷ f)
 
+-- forms whose terms are in order, at most 32 of them
 pub record WellFormedConstraint (n p : ℕ) (K : Constraint) : Type 0 where
   pub rises-a : Rises n p 0 (K .a)
   pub rises-b : Rises n p 0 (K .b)
   pub rises-c : Rises n p 0 (K .c)
+  pub few-a : length (K .a) ≤ 32
+  pub few-b : length (K .b) ≤ 32
+  pub few-c : length (K .c) ≤ 32
 
--- "Sizes: p an odd prime, 3 to 2,147,483,647; n 1 to 256; o at least 1; i may be 0; i + o at most n; m 0 to 512"
+-- Rule 1.7: all of it but the length of the file, which is no matter of the circuit
 pub record WellFormed (C : Circuit) : Type 0 where
   pub prime : Prime (C .p)
   pub p-least : 3 ≤ C .p

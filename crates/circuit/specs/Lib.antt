@@ -3,4 +3,7 @@ pub mod Circuit
 pub mod Reading
 pub mod Reader
 pub mod Answer
+pub mod Call
 pub mod Run
+pub mod Runs
+pub mod Offsets

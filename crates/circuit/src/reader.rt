@@ -6,15 +6,45 @@ use crate::bytes::u32_at;
 use field::is_odd_prime;
 ghost use mathlib.Core.Path.{_≡_};
 ghost use Prim.Native.Nat.{_+_, _^_, _≤_, _<_};
-ghost use lib.ListN.{length, drop};
+ghost use lib.ListN.{length};
 ghost use Rattle.circuit.specs.Reading.{sizeOf, further, extent};
-ghost use Rattle.circuit.specs.Reader.{readForm, formFrom, readConstraint, readBody, afterForm, afterConstraint, marked, sizesFit};
-ghost use Rattle.circuit.specs.Answer.{foundOf, paperOf, circuitCall};
+ghost use Rattle.circuit.specs.Reader.{headerSize, readForm, formFrom, readConstraint, readBody, afterForm, afterConstraint, hasMark, sizesFit};
+ghost use Rattle.circuit.specs.Answer.{foundOf, paperOf};
+ghost use Rattle.circuit.specs.Call.{headerOf, circuitCall, SizedAnswer};
+
+// The sizes of rule 1.7, and those of the header and of a term.
+pub const HEADER_SIZE: usize = 17;
+
+const FILE_MOST: usize = 60000;
+
+pub(crate) const SIGNALS_MOST: u32 = 256;
+
+const CONSTRAINTS_MOST: u32 = 512;
+
+const TERMS_MOST: u32 = 32;
+
+pub(crate) const TERM_SIZE: usize = 6;
+
+// A file's mark: its letter, C for a circuit, then Q and T.
+const CIRCUIT_LETTER: u32 = 67;
+
+const LETTER_Q: u32 = 81;
+
+const LETTER_T: u32 = 84;
 
 // What reading a part finds: the value's size in bytes, or a refusal's number and its offset in the part.
-pub enum Found {
+pub(crate) enum Found {
     Whole { size: usize },
     Fault { number: u32, offset: usize },
+}
+
+// The header's numbers: the prime, how many signals, inputs, outputs and constraints there are.
+pub struct Sizes {
+    pub p: u32,
+    pub n: u32,
+    pub i: u32,
+    pub o: u32,
+    pub m: u32,
 }
 
 // The call's answer: a refusal's number and place, or the header's numbers.
@@ -43,7 +73,7 @@ pub(crate) fn check_form(part: &[u8], n: u32, p: u32) -> Found
         };
     }
     let count = byte_at(part, 0);
-    if 32 < count {
+    if TERMS_MOST < count {
         return Found::Fault {
             number: 7,
             offset: 0,
@@ -53,7 +83,7 @@ pub(crate) fn check_form(part: &[u8], n: u32, p: u32) -> Found
     let mut at: usize = 1;
     let mut least: u32 = 0;
     while 0 < left {
-        if part.len() - at < 6 {
+        if part.len() - at < TERM_SIZE {
             return Found::Fault {
                 number: 6,
                 offset: at,
@@ -86,7 +116,7 @@ pub(crate) fn check_form(part: &[u8], n: u32, p: u32) -> Found
             };
         }
         least = signal + 1;
-        at = at + 6;
+        at = at + TERM_SIZE;
         left = left - 1;
     }
     Found::Whole { size: at }
@@ -134,7 +164,7 @@ pub(crate) fn check_constraint(s: &[u8], n: u32, p: u32) -> Found
 pub fn after_form(s: &[u8]) -> &[u8]
     ensures { λ r. ⌜ now r ≡ afterForm (now (s .entry)) ⌝ }
 {
-    let size = 1 + 6 * (byte_at(s, 0) as usize);
+    let size = 1 + TERM_SIZE * (byte_at(s, 0) as usize);
     if s.len() < size {
         return &s[s.len()..];
     }
@@ -151,13 +181,15 @@ pub fn after_constraint(s: &[u8]) -> &[u8]
 }
 
 // The constraints after the header, each read from the part after the one before it, and nothing after them.
-fn check_body(s: &[u8], n: u32, p: u32, m: u32) -> Found
-    requires { ⌜ 17 ≤ length (now s) ⌝ }
-    ensures { λ r. ⌜ foundOf r ≡ sizeOf (readBody n p m (now (s .entry))) ⌝ }
+fn check_body(s: &[u8], sizes: Sizes) -> Found
+    requires { ⌜ headerSize ≤ length (now s) ⌝ }
+    ensures { λ r. ⌜ foundOf r ≡ sizeOf (readBody (sizes .n) (sizes .p) (sizes .m) (now (s .entry))) ⌝ }
 {
-    let mut rest = &s[17..];
-    let mut at: usize = 17;
-    let mut left = m;
+    let n = sizes.n;
+    let p = sizes.p;
+    let mut rest = &s[HEADER_SIZE..];
+    let mut at: usize = HEADER_SIZE;
+    let mut left = sizes.m;
     while 0 < left {
         let constraint = check_constraint(rest, n, p);
         let found = shifted(constraint, at);
@@ -178,87 +210,90 @@ fn check_body(s: &[u8], n: u32, p: u32, m: u32) -> Found
     Found::Whole { size: at }
 }
 
-// Whether a file starts with a letter and `QT`.
+// Whether a file starts with its mark.
 pub fn has_mark(s: &[u8], letter: u32) -> bool
-    ensures { λ r. ⌜ r ≡ marked letter (now (s .entry)) ⌝ }
+    ensures { λ r. ⌜ r ≡ hasMark letter (now (s .entry)) ⌝ }
 {
     if byte_at(s, 0) != letter {
         return false;
     }
-    if byte_at(s, 1) != 81 {
+    if byte_at(s, 1) != LETTER_Q {
         return false;
     }
-    byte_at(s, 2) == 84
+    byte_at(s, 2) == LETTER_T
+}
+
+// The numbers in the header.
+fn sizes_at(s: &[u8]) -> Sizes
+    ensures { λ r. ⌜ r ≡ headerOf (now (s .entry)) ⌝ }
+{
+    Sizes {
+        p: u32_at(s, 5),
+        n: u16_at(s, 9),
+        i: u16_at(s, 11),
+        o: u16_at(s, 13),
+        m: u16_at(s, 15),
+    }
 }
 
 // Whether n, o, i + o and m keep their sizes.
-fn fits(n: u32, i: u32, o: u32, m: u32) -> bool
-    requires { ⌜ (i < 65536) × (o < 65536) ⌝ }
-    ensures { λ r. ⌜ r ≡ sizesFit n i o m ⌝ }
+fn fits(sizes: Sizes) -> bool
+    ensures { λ r. ⌜ r ≡ sizesFit (sizes .n) (sizes .i) (sizes .o) (sizes .m) ⌝ }
 {
-    if n < 1 {
+    if sizes.n < 1 {
         return false;
     }
-    if 256 < n {
+    if SIGNALS_MOST < sizes.n {
         return false;
     }
-    if o < 1 {
+    if sizes.o < 1 {
         return false;
     }
-    if n < i + o {
+    if (sizes.n as u64) < sizes.i as u64 + sizes.o as u64 {
         return false;
     }
-    m <= 512
+    sizes.m <= CONSTRAINTS_MOST
 }
 
-// Reads a circuit file: refusals 1 to 10 in the paper's order, or the header's numbers.
-pub fn check_circuit(s: &[u8]) -> CircuitAnswer
-    ensures { λ r. ⌜ paperOf r ≡ circuitCall (now (s .entry)) ⌝ }
+fn refusal(number: u32) -> CircuitAnswer
+    ensures { λ r. ⌜ r ≡ CircuitAnswer.Refused number 0 ⌝ }
 {
-    if s.len() < 17 {
-        return CircuitAnswer::Refused {
-            number: 1,
-            place: 0,
-        };
+    CircuitAnswer::Refused { number, place: 0 }
+}
+
+// The circuit call (rule 6.5): refusals 1 to 10 in reading order, or the header's numbers.
+pub fn check_circuit(s: &[u8]) -> CircuitAnswer
+    ensures answer { λ r. ⌜ paperOf r ≡ circuitCall (now (s .entry)) ⌝ }
+    ensures sized { λ r. ⌜ SizedAnswer (now (s .entry)) (paperOf r) ⌝ }
+{
+    if s.len() < HEADER_SIZE {
+        return refusal(1);
     }
-    if 60000 < s.len() {
-        return CircuitAnswer::Refused {
-            number: 1,
-            place: 0,
-        };
+    if FILE_MOST < s.len() {
+        return refusal(1);
     }
-    if !has_mark(s, 67) {
-        return CircuitAnswer::Refused {
-            number: 2,
-            place: 0,
-        };
+    if !has_mark(s, CIRCUIT_LETTER) {
+        return refusal(2);
     }
     if u16_at(s, 3) != 1 {
-        return CircuitAnswer::Refused {
-            number: 3,
-            place: 0,
-        };
+        return refusal(3);
     }
-    let p = u32_at(s, 5);
-    if !is_odd_prime(p) {
-        return CircuitAnswer::Refused {
-            number: 4,
-            place: 0,
-        };
+    let sizes = sizes_at(s);
+    if !is_odd_prime(sizes.p) {
+        return refusal(4);
     }
-    let n = u16_at(s, 9);
-    let i = u16_at(s, 11);
-    let o = u16_at(s, 13);
-    let m = u16_at(s, 15);
-    if !fits(n, i, o, m) {
-        return CircuitAnswer::Refused {
-            number: 5,
-            place: 0,
-        };
+    if !fits(sizes) {
+        return refusal(5);
     }
-    let body = check_body(s, n, p, m);
+    let body = check_body(s, sizes);
     match body {
-        Found::Whole { size: _ } => CircuitAnswer::Sizes { p, n, i, o, m },
+        Found::Whole { size: _ } => CircuitAnswer::Sizes {
+            p: sizes.p,
+            n: sizes.n,
+            i: sizes.i,
+            o: sizes.o,
+            m: sizes.m,
+        },
         Found::Fault { number, offset } => CircuitAnswer::Refused {
             number,
             place: offset,

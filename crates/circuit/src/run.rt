@@ -3,14 +3,16 @@
 use crate::bytes::byte_at;
 use crate::bytes::u16_at;
 use crate::bytes::u32_at;
+use crate::reader::SIGNALS_MOST;
+use crate::reader::TERM_SIZE;
 use crate::reader::after_form;
 ghost use mathlib.Core.Path.{_≡_};
 ghost use Prim.Native.Nat.{_+_, _*_, _≤_, _<_};
-ghost use Rattle.circuit.specs.Reader.{formIn, constraintIn};
+ghost use Rattle.circuit.specs.Reader.{formMost, formIn, constraintIn};
 ghost use Rattle.circuit.specs.Run.{valuesIn, plusTerm, evalMod, holds};
 
 // The value of a signal, 0 past the end.
-fn value_at(values: &[u32], signal: u32) -> u32
+pub(crate) fn value_of(values: &[u32], signal: u32) -> u32
     ensures { λ r. ⌜ r ≡ valuesIn (now (values .entry)) signal ⌝ }
 {
     let s = signal as usize;
@@ -19,20 +21,20 @@ fn value_at(values: &[u32], signal: u32) -> u32
 
 // A sum modulo p and the term at an offset. A term on a signal that no circuit has is passed over.
 fn plus_term(sum: u32, part: &[u8], at: usize, values: &[u32], p: u32) -> u32
-    requires { ⌜ (sum < p) × (at ≤ 4096) ⌝ }
+    requires { ⌜ (sum < p) × (at ≤ formMost) ⌝ }
     ensures { λ r. ⌜ r ≡ plusTerm p sum (now (part .entry)) at (valuesIn (now (values .entry))) ⌝ }
 {
     let signal = u16_at(part, at);
-    if 256 < signal {
+    if SIGNALS_MOST < signal {
         return sum;
     }
     let coefficient = u32_at(part, at + 2) as u64;
-    let value = value_at(values, signal) as u64;
+    let value = value_of(values, signal) as u64;
     ((sum as u64 + coefficient * value) % (p as u64)) as u32
 }
 
 // The value of a form modulo p, one remainder a term; 0 where p is 0.
-pub fn eval_form(part: &[u8], values: &[u32], p: u32) -> u32
+fn eval_form(part: &[u8], values: &[u32], p: u32) -> u32
     ensures { λ r. ⌜ r ≡ evalMod p (formIn (now (part .entry))) (valuesIn (now (values .entry))) ⌝ }
 {
     if p == 0 {
@@ -43,13 +45,13 @@ pub fn eval_form(part: &[u8], values: &[u32], p: u32) -> u32
     let mut sum: u32 = 0;
     while 0 < left {
         sum = plus_term(sum, part, at, values, p);
-        at = at + 6;
+        at = at + TERM_SIZE;
         left = left - 1;
     }
     sum
 }
 
-// Whether A times B equals C modulo p in the constraint that a part starts with; no where p is 0.
+// Whether A times B equals C modulo p in the constraint that a part starts with; false where p is 0.
 pub fn satisfied(part: &[u8], values: &[u32], p: u32) -> bool
     ensures { λ r. ⌜ r ≡ holds p (constraintIn (now (part .entry))) (valuesIn (now (values .entry))) ⌝ }
 {

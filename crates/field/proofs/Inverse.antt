@@ -1,6 +1,6 @@
 -- The inverse modulo p: it is the only one below p, and modulo a prime every number but 0 has one. Cancellation and Euclid's lemma follow.
 -- Assumes nothing.
-use mathlib.Core.Path.{_≡_}
+use mathlib.Core.Path.{_≡_, refl, _∙_}
 use mathlib.Core.Logic.{_⊎_, inl, inr, ⊎-elim}
 use Prim.Native.Nat.{ℕ, zero, suc, _*_, _%_, _<_}
 use native.Mathlib.Nat.{zero-mod, mul-le-mul-left, dvd-mul-left, pos-of-ne-zero, eq-zero-or-pos}
@@ -8,7 +8,7 @@ use native.Mathlib.Decide.{ℕ-discrete}
 use native.Mathlib.Omega.{arith}
 use Rattle.field.specs.Residue.{Congruent}
 use Rattle.field.specs.Prime.{Prime}
-use Rattle.field.specs.Inverse.{IsInverse, inverse}
+use Rattle.field.specs.Inverse.{IsInverse, TheInverse, inverse}
 use Rattle.field.proofs.Residue.{
   congruent-refl,
   congruent-sym,
@@ -82,6 +82,36 @@ inverse-none {p} c d h e i =
         (congruent-plus (congruent-times (congruent-refl p (S .left)) (congruent-sym (i .one))) (congruent-times (S .kills) (congruent-refl p d)))
         (omega arith) in
         omega (arith, congruent-below (omega (arith, mul-le-mul-left (S .left) (S .above))) (omega arith) z)
+
+-- wherever there is an inverse, the algorithm gives it
+inverse-found : (p c e : ℕ) → IsInverse p c e → inverse p c ≡ e
+unfolding inverse
+inverse-found zero c e i = absurd (omega (arith, i .below))
+inverse-found (suc zero) c e i = omega (arith, i .below)
+inverse-found (suc (suc p)) c e i =
+    let h : 1 < suc (suc p) = omega arith in
+    ⊎-elim (λ j. inverse-only j i) (λ w. absurd (inverse-none c e h (w .0) i))
+    (inverse-cases (suc (suc p)) c h (pos-of-ne-zero (invertible-nonzero h i)))
+
+-- where there is none, it gives 0
+inverse-absent : (p c : ℕ) → ((e : ℕ) → IsInverse p c e → ⊥) → inverse p c ≡ 0
+unfolding inverse
+inverse-absent zero c n = refl
+inverse-absent (suc zero) c n = refl
+inverse-absent (suc (suc p)) c n =
+    ⊎-elim (λ (e : c % suc (suc p) ≡ 0). inverse-zero (suc (suc p)) c e)
+    (λ (g : 0 < c % suc (suc p)). ⊎-elim (λ j. absurd (n _ j)) (λ w. w .0) (inverse-cases (suc (suc p)) c (omega arith) g))
+    (eq-zero-or-pos (c % suc (suc p)))
+
+pub the-inverse : {p c d : ℕ} → d ≡ inverse p c → (d ≡ inverse p c) × TheInverse p c d
+the-inverse {p} {c} {d} h = (
+  h,
+  record {
+    prime = λ P n. rw h (inverse-is c P n);
+    only = λ e i. h ∙ inverse-found p c e i;
+    absent = λ n. h ∙ inverse-absent p c n;
+  },
+)
 
 -- ---- modulo a prime
 

@@ -3,7 +3,7 @@
 use mathlib.Core.Path.{_≡_, refl, sym, ap, _∙_}
 use mathlib.Core.Logic.{_⊎_, inl, inr, ⊎-elim}
 use mathlib.Core.Bool.{Bool, true, false, _&&_, true≢false}
-use Prim.Native.Nat.{ℕ, zero, suc, _+_, _*_, _/_, _%_, _≤_, _<_, _∣_}
+use Prim.Native.Nat.{ℕ, zero, suc, _+_, _*_, _/_, _%_, _≤_, _<_}
 use native.Mathlib.Nat.{
   add-mod-right,
   div-add-mod',
@@ -23,7 +23,7 @@ use native.Mathlib.Decide.{decLe, ℕ-discrete}
 use native.Mathlib.Omega.{arith}
 use borrow.Author.Tests.{lt-ltb, le-ltb, eq-eqb, ne-eqb, le-leb, lt-leb, eqb-true, leb-true}
 use lib.Dec.{leb, eqb}
-use Rattle.field.specs.Prime.{Prime, trial, noDivisor, oddPrime}
+use Rattle.field.specs.Prime.{Prime, OddPrime, TellsOddPrime, trial, noDivisor, oddPrime}
 use Rattle.field.proofs.Residue.{mod-mul-mod}
 
 -- ---- one trial division
@@ -183,6 +183,15 @@ odd-prime-divisors p l h o = rw (le-leb 3 p l, le-leb p 2147483647 h, eq-eqb (p 
 pub prime-odd : (p : ℕ) → Prime p → 3 ≤ p → p ≤ 2147483647 → oddPrime p ≡ true
 prime-odd p P l h =
     odd-prime-divisors p l h (prime-odd-number p P l) ∙ clear-no-divisor p 3 p (omega arith) refl (prime-clear p P)
+
+-- the test holds exactly of the odd primes in range
+pub odd-prime-told : {p : ℕ} {b : Bool} → b ≡ oddPrime p → (b ≡ oddPrime p) × TellsOddPrime p b
+odd-prime-told {p} {b} e = (e, record { yes = yes; no = λ P. e ∙ prime-odd p (P .prime) (P .least) (P .most) })
+  where
+    yes : b ≡ true → OddPrime p
+    yes t =
+        let q : oddPrime p ≡ true = sym e ∙ t in
+        record { prime = odd-prime p q; least = odd-prime-range p q .0; most = odd-prime-range p q .1 }
 
 -- ---- out of range, even, divided, and the paper's cases
 

@@ -5,7 +5,7 @@ ghost use Prim.Native.Nat.{_*_, _%_, _≤_, _<_};
 ghost use lib.Dec.{leb};
 ghost use lib.ListN.{length};
 ghost use Rattle.field.specs.Divisors.{Enough, Next, paired};
-ghost use Rattle.field.specs.Prime.{oddPrime};
+ghost use Rattle.field.specs.Prime.{oddPrime, TellsOddPrime};
 
 pub mod modular;
 mod table;
@@ -14,6 +14,14 @@ use table::DIVISORS;
 use table::INVERSES;
 use table::SMALL_DIVISORS;
 use table::SMALL_INVERSES;
+
+// The largest prime that a circuit may have, and where the short tables end: the square of 1,031, the first prime that they lack.
+const PRIME_MOST: u32 = 2147483647;
+
+const SMALL_END: u32 = 1062961;
+
+// How many divisors are passed over before p is compared with a square again.
+const RUN: usize = 128;
 
 // Whether v times p is at most q modulo 4,294,967,296.
 fn at_most(p: u32, v: u32, q: u32) -> bool
@@ -43,12 +51,12 @@ fn next_candidate(inverses: &[u32], p: u32, q: u32, start: usize, end: usize) ->
     if at_most(p, inverses[i], q) { i } else { end }
 }
 
-// The end of a run of at most 128 places after i: any would do, and this soon compares p with a square again.
-fn run_end(i: usize, length: usize) -> usize
-    requires { ⌜ i < length ⌝ }
-    ensures { λ r. ⌜ (i < r) × (r ≤ length) ⌝ }
+// The end of a run of places after i: any would do, and this soon compares p with a square again.
+fn run_end(i: usize, end: usize) -> usize
+    requires { ⌜ i < end ⌝ }
+    ensures { λ r. ⌜ (i < r) × (r ≤ end) ⌝ }
 {
-    if length - i < 129 { length } else { i + 129 }
+    if end - i <= RUN { end } else { i + 1 + RUN }
 }
 
 // Whether p is an odd prime, by trial division with a table that is enough for p. After d, which doesn't divide p, divisors are passed over
@@ -87,12 +95,13 @@ fn large_odd_prime(p: u32) -> bool
 
 // Whether p is an odd prime, 3 to 2,147,483,647. The short tables serve below the square of 1,031.
 pub fn is_odd_prime(p: u32) -> bool
-    ensures { λ r. ⌜ r ≡ oddPrime p ⌝ }
+    ensures test { λ r. ⌜ r ≡ oddPrime p ⌝ }
+    ensures prime { λ r. ⌜ TellsOddPrime p r ⌝ }
 {
-    if p < 1062961 {
+    if p < SMALL_END {
         return odd_prime_by(&SMALL_DIVISORS, &SMALL_INVERSES, p);
     }
-    if 2147483647 < p {
+    if PRIME_MOST < p {
         return false;
     }
     large_odd_prime(p)

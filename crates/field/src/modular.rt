@@ -4,7 +4,8 @@ ghost use Rattle.field.specs.Inverse as specs;
 
 // The inverse of c modulo p, 0 where there is none.
 pub fn inverse(p: u32, c: u32) -> u32
-    ensures { λ r. ⌜ r ≡ specs.inverse p c ⌝ }
+    ensures algorithm { λ r. ⌜ r ≡ specs.inverse p c ⌝ }
+    ensures meaning { λ r. ⌜ specs.TheInverse p c r ⌝ }
 {
     if p < 2 {
         return 0;

@@ -1,56 +1,54 @@
--- A well-formed pair is accepted exactly if both runs satisfy the circuit, agree on all inputs and differ at q.
-use Prim.Native.Nat.{ℕ, _+_, _*_, _≤_, _<_}
+-- EXACT: a well-formed pair is accepted exactly if both runs satisfy the circuit, agree on all inputs and differ at q.
+use Prim.Native.Nat.{ℕ, _+_, _*_, _<_}
 use mathlib.Core.Path.{_≡_, refl, sym, _∙_}
 use mathlib.Core.Bool.{Bool, true, false}
 use mathlib.Core.List.{List}
 use native.Mathlib.Omega.{arith}
+use lib.ListN.{drop}
 use Rattle.circuit.specs.Circuit.{Circuit, constraintAt, valueOf, IsRun, Satisfying}
 use Rattle.circuit.specs.Reading.{Reading, whole, fault}
 use Rattle.circuit.specs.Reader.{readCircuit}
+use Rattle.circuit.specs.Runs.{firstFrom, below, satisfiedBy, agree}
+use Rattle.circuit.specs.Answer.{Answer, refused, given, andThen}
+use Rattle.circuit.specs.Call.{sizesOf, onCircuit, circuitCall}
 use Rattle.circuit.proofs.WellFormed.{read-well-formed}
 use Rattle.circuit.proofs.RunLaws.{holds-satisfies, satisfies-holds}
-use Rattle.pair.specs.Call.{
-  PairResult,
-  refused,
-  accepted,
-  next,
-  firstFrom,
-  valuesAfter,
-  firstRun,
-  secondRun,
-  signalOf,
-  below,
-  satisfiedBy,
-  agree,
-  fileOn,
-  runsOn,
-  pairOn,
-  pairOf,
-  pairCall,
-}
+use Rattle.circuit.proofs.SearchLaws.{passed, none, below-yes, agree-yes, agree-is}
+use Rattle.circuit.proofs.CopyLaws.{run-length, run-value, value-drop}
+use Rattle.circuit.proofs.Sized.{on-refused}
+use Rattle.pair.specs.Call.{firstRun, secondRun, signalOf, valuesOf, fileOn, runsOn, pairOn, pairCall}
 use Rattle.pair.specs.Exact.{WellFormedPair, Shown, Exact}
-use Rattle.pair.proofs.SearchLaws.{passed, none, below-yes, agree-yes, agree-is}
-use Rattle.pair.proofs.RunLaws.{run-length, run-value}
-use Rattle.pair.proofs.CallLaws.{file-whole, FileWhole, file-accepted, runs-differ, runs-accepted, pair-read}
+use Rattle.pair.proofs.CallLaws.{FileFramed, FileWhole, file-whole, file-given, runs-differ, runs-given}
 
 -- the file of a well-formed pair
-file-formed : (s t : List ℕ) (C : Circuit) → WellFormedPair s t C → fileOn (C .p) (C .n) (C .i) (C .o) t ≡ accepted (signalOf t)
+file-formed : (s t : List ℕ) (C : Circuit) → WellFormedPair s t C → fileOn (sizesOf C) t ≡ given (signalOf t)
 file-formed s t C W =
+    let F : FileFramed (sizesOf C) t = record { least = W .least; mark = W .mark; version = W .version; sized = W .sized } in
     sym
-    (file-whole (C .p) (C .n) (C .i) (C .o) t (W .least) (W .mark) (W .version) (W .sized) (signalOf t) refl (W .output-least) (W .output-most) _ refl
-    (none (below (C .p) t) (2 * C .n) (λ j l m. below-yes (C .p) t j _ refl (W .below j l m))))
+    (file-whole (sizesOf C) t F (signalOf t) refl (W .output-least) (W .output-most) _ refl
+    (none (below (C .p) (valuesOf t)) (2 * C .n) (λ j l m. below-yes (C .p) (valuesOf t) j _ refl (W .below j l m))))
 
 formed-call : (s t : List ℕ) (C : Circuit) → WellFormedPair s t C → pairCall s t
-    ≡ runsOn (C .p) (C .i) (C .m) (constraintAt C) (valueOf (firstRun (C .n) t)) (valueOf (secondRun (C .n) t)) (signalOf t)
-unfolding pairOn
-formed-call s t C W = pair-read s t C (W .size) (W .read) ∙ rw (file-formed s t C W)
+    ≡ runsOn (sizesOf C) (constraintAt C) (valueOf (firstRun (C .n) t)) (valueOf (secondRun (C .n) t)) (signalOf t)
+unfolding pairCall pairOn
+formed-call s t C W = rw (W .read, file-formed s t C W)
 
--- the n values after the first k, of 2n values below p, are a run
-is-run : (s t : List ℕ) (C : Circuit) → WellFormedPair s t C → (k : ℕ) → k ≤ C .n → IsRun C (valuesAfter t k (C .n))
-is-run s t C W k h =
+-- the first values, and those after them, are runs
+first-run : (s t : List ℕ) (C : Circuit) → WellFormedPair s t C → IsRun C (firstRun (C .n) t)
+first-run s t C W =
     record {
-      sized = run-length t k (C .n);
-      below = λ j l m. rw (run-value t k (C .n) j l m) (W .below (k + j) (omega arith) (omega arith));
+      sized = run-length (valuesOf t) (C .n);
+      below = λ j l m. rw (run-value (valuesOf t) (C .n) j l m) (W .below j l (omega arith));
+    }
+
+second-run : (s t : List ℕ) (C : Circuit) → WellFormedPair s t C → IsRun C (secondRun (C .n) t)
+second-run s t C W =
+    let second = drop (4 * C .n) (valuesOf t) in
+    record {
+      sized = run-length second (C .n);
+      below =
+          λ j l m.
+          rw (run-value second (C .n) j l m, value-drop (valuesOf t) (C .n) j l) (W .below (C .n + j) (omega arith) (omega arith));
     }
 
 -- a run satisfies the circuit exactly if no constraint is found unsatisfied
@@ -70,58 +68,58 @@ unfolding satisfiedBy
 none-unsatisfied C run h S =
     none (held C run) (C .m) (λ k l m. satisfies-holds (C .p) (constraintAt C k) (valueOf run) h (S .holds k l m))
 
-accepts : (s t : List ℕ) (C : Circuit) → WellFormedPair s t C → Shown C t → pairCall s t ≡ accepted (signalOf t)
+accepts : (s t : List ℕ) (C : Circuit) → WellFormedPair s t C → Shown C t → pairCall s t ≡ given (signalOf t)
 accepts s t C W S =
     let v = valueOf (firstRun (C .n) t) in
     let w = valueOf (secondRun (C .n) t) in
     let positive : 0 < C .p = omega (arith, read-well-formed s C (W .size) (W .read) .p-least) in
     formed-call s t C W
     ∙ sym
-    (runs-differ (C .p) (C .i) (C .m) (constraintAt C) v w (signalOf t)
+    (runs-differ (sizesOf C) (constraintAt C) v w (signalOf t)
     (none-unsatisfied C _ positive (S .first)) (none-unsatisfied C _ positive (S .second))
     (none (agree v w) (C .i) (λ k l m. agree-yes v w k (S .share k l m))) (S .differ))
 
-shows : (s t : List ℕ) (C : Circuit) → WellFormedPair s t C → pairCall s t ≡ accepted (signalOf t) → Shown C t
+shows : (s t : List ℕ) (C : Circuit) → WellFormedPair s t C → pairCall s t ≡ given (signalOf t) → Shown C t
 shows s t C W e =
     let v = valueOf (firstRun (C .n) t) in
     let w = valueOf (secondRun (C .n) t) in
-    let runs = runs-accepted (C .p) (C .i) (C .m) (constraintAt C) v w (signalOf t) (signalOf t) (sym (formed-call s t C W) ∙ e) .0 in
+    let runs = runs-given (sizesOf C) (constraintAt C) v w (signalOf t) (signalOf t) (sym (formed-call s t C W) ∙ e) .0 in
     record {
-      first = satisfying C _ (is-run s t C W 0 (omega arith)) (runs .none-first);
-      second = satisfying C _ (is-run s t C W (C .n) (omega arith)) (runs .none-second);
+      first = satisfying C _ (first-run s t C W) (runs .none-first);
+      second = satisfying C _ (second-run s t C W) (runs .none-second);
       share = λ k l m. agree-is v w k (passed (agree v w) (C .i) (runs .none-input) k l m);
       differ = λ same. let z : true ≡ false = sym (agree-yes v w (signalOf t) same) ∙ runs .differ in let y : _≡_ {A = ℕ} 0 1 = cc in omega arith;
     }
 
 -- what is accepted is a well-formed pair, at its signal
-only : (s t : List ℕ) (q : ℕ) → pairCall s t ≡ accepted q → (q ≡ signalOf t) × (C : Circuit) × WellFormedPair s t C
+only : (s t : List ℕ) (q : ℕ) → pairCall s t ≡ given q → (q ≡ signalOf t) × (C : Circuit) × WellFormedPair s t C
 unfolding pairCall pairOn
 only s t q e = go (readCircuit s) refl e
   where
-    formed : (C : Circuit) (size x : ℕ) → readCircuit s ≡ whole C size → FileWhole (C .p) (C .n) (C .i) (C .o) t x → WellFormedPair s t C
-    formed C size x r F =
+    formed : (C : Circuit) (size : ℕ) → readCircuit s ≡ whole C size → FileWhole (sizesOf C) t → WellFormedPair s t C
+    formed C size r F =
         record {
           size = size;
           read = r;
-          least = F .least;
-          mark = F .mark;
-          version = F .version;
-          sized = F .sized;
+          least = F .framed .least;
+          mark = F .framed .mark;
+          version = F .framed .version;
+          sized = F .framed .sized;
           output-least = F .above;
           output-most = F .within;
           below = F .values;
         }
 
-    file : (C : Circuit) (size : ℕ) → readCircuit s ≡ whole C size → (f : PairResult) → fileOn (C .p) (C .n) (C .i) (C .o) t ≡ f
-        → next f (runsOn (C .p) (C .i) (C .m) (constraintAt C) (valueOf (firstRun (C .n) t)) (valueOf (secondRun (C .n) t))) ≡ accepted q
+    file : (C : Circuit) (size : ℕ) → readCircuit s ≡ whole C size → (f : Answer ℕ) → fileOn (sizesOf C) t ≡ f
+        → andThen f (runsOn (sizesOf C) (constraintAt C) (valueOf (firstRun (C .n) t)) (valueOf (secondRun (C .n) t))) ≡ given q
         → (q ≡ signalOf t) × (C : Circuit) × WellFormedPair s t C
     file C size r (refused number place) h e = let z : _≡_ {A = ℕ} 0 1 = cc in absurd (omega arith)
-    file C size r (accepted x) h e =
-        let F = file-accepted (C .p) (C .n) (C .i) (C .o) t x h in
-        (runs-accepted (C .p) (C .i) (C .m) (constraintAt C) _ _ x q e .1 ∙ F .is, C, formed C size x r F)
+    file C size r (given x) h e =
+        let F = file-given (sizesOf C) t x h in
+        (runs-given (sizesOf C) (constraintAt C) _ _ x q e .1 ∙ F .1, C, formed C size r (F .0))
 
-    go : (r : Reading Circuit) → readCircuit s ≡ r → pairOf r t ≡ accepted q → (q ≡ signalOf t) × (C : Circuit) × WellFormedPair s t C
-    go (whole C size) h e = file C size h (fileOn (C .p) (C .n) (C .i) (C .o) t) refl e
+    go : (r : Reading Circuit) → readCircuit s ≡ r → onCircuit r (λ C. pairOn C t) ≡ given q → (q ≡ signalOf t) × (C : Circuit) × WellFormedPair s t C
+    go (whole C size) h e = file C size h (fileOn (sizesOf C) t) refl e
     go (fault number place) h e = let z : _≡_ {A = ℕ} 0 1 = cc in absurd (omega arith)
 
 -- EXACT, for all bytes
@@ -129,5 +127,10 @@ pub exact : (s t : List ℕ) → Exact s t (pairCall s t)
 exact s t = record { accepts = accepts s t; shows = shows s t; only = only s t }
 
 -- an answer that is the call's
-pub exactly : (s t : List ℕ) (r : PairResult) → r ≡ pairCall s t → (r ≡ pairCall s t) × Exact s t r
+pub exactly : (s t : List ℕ) (r : Answer ℕ) → r ≡ pairCall s t → (r ≡ pairCall s t) × Exact s t r
 exactly s t r e = (e, rw e (exact s t))
+
+-- the circuit's refusal is the call's
+pub circuit-refused : (s t : List ℕ) {number place : ℕ} → refused number place ≡ circuitCall s → refused number place ≡ pairCall s t
+unfolding pairCall
+circuit-refused s t e = on-refused s (λ C. pairOn C t) e

@@ -1,4 +1,2 @@
-pub mod SearchLaws
-pub mod RunLaws
 pub mod CallLaws
 pub mod Exact

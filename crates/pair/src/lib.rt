@@ -1,21 +1,31 @@
 // The pair call: two runs of a circuit that share their inputs and differ at an output.
 
-mod runs;
-
-use crate::runs::copy_run;
-use crate::runs::first_difference;
-use crate::runs::first_large;
-use crate::runs::first_unsatisfied;
 use circuit::bytes::u16_at;
 use circuit::reader::CircuitAnswer;
+use circuit::reader::HEADER_SIZE;
+use circuit::reader::Sizes;
 use circuit::reader::check_circuit;
 use circuit::reader::has_mark;
+use circuit::runs::VALUE_SIZE;
+use circuit::runs::copy_run;
+use circuit::runs::first_difference;
+use circuit::runs::first_large;
+use circuit::runs::first_unsatisfied;
 ghost use mathlib.Core.Path.{_≡_};
-ghost use Prim.Native.Nat.{_+_, _≤_, _<_};
+ghost use Prim.Native.Nat.{_+_, _*_, _≤_, _<_};
+ghost use lib.ListN.{length, drop};
 ghost use Rattle.circuit.specs.Circuit.{valueOf};
-ghost use Rattle.pair.specs.Call.{firstRun, secondRun, fileOn, runsOn, pairCall};
+ghost use Rattle.circuit.specs.Reader.{signalsMost, constraintOf};
+ghost use Rattle.circuit.specs.Runs.{valueSize, runIn};
+ghost use Rattle.circuit.specs.Call.{Sized};
+ghost use Rattle.pair.specs.Call.{fileOn, runsOn, pairCall};
 ghost use Rattle.pair.specs.Exact.{Exact};
-ghost use Rattle.pair.specs.Answer.{paperOf, constraintOf};
+ghost use Rattle.pair.specs.Answer.{paperOf};
+
+// The letter P of a pair's mark, and the size of its header.
+const PAIR_LETTER: u32 = 80;
+
+const PAIR_HEADER: usize = 7;
 
 // The call's answer: a refusal's number and place, or the signal at which the runs differ.
 pub enum PairAnswer {
@@ -23,87 +33,76 @@ pub enum PairAnswer {
     Accepted { q: u32 },
 }
 
-// Refusals 18 to 21, or q.
-fn check_file(pair: &[u8], p: u32, n: u32, i: u32, o: u32) -> PairAnswer
-    requires { ⌜ (n ≤ 256) × (i + o ≤ n) ⌝ }
-    ensures { λ r. ⌜ paperOf r ≡ fileOn p n i o (now (pair .entry)) ⌝ }
+fn refusal(number: u32) -> PairAnswer
+    ensures { λ r. ⌜ r ≡ PairAnswer.Refused number 0 ⌝ }
 {
-    if pair.len() < 7 {
-        return PairAnswer::Refused {
-            number: 18,
-            place: 0,
-        };
+    PairAnswer::Refused { number, place: 0 }
+}
+
+// Refusals 18 to 21, or q.
+fn check_file(pair: &[u8], sizes: Sizes) -> PairAnswer
+    requires { ⌜ sizes .n ≤ signalsMost ⌝ }
+    ensures { λ r. ⌜ paperOf r ≡ fileOn sizes (now (pair .entry)) ⌝ }
+{
+    if pair.len() < PAIR_HEADER {
+        return refusal(18);
     }
-    if !has_mark(pair, 80) {
-        return PairAnswer::Refused {
-            number: 18,
-            place: 0,
-        };
+    if !has_mark(pair, PAIR_LETTER) {
+        return refusal(18);
     }
     if u16_at(pair, 3) != 1 {
-        return PairAnswer::Refused {
-            number: 19,
-            place: 0,
-        };
+        return refusal(19);
     }
-    if pair.len() != 7 + 8 * (n as usize) {
-        return PairAnswer::Refused {
-            number: 20,
-            place: 0,
-        };
+    if pair.len() != PAIR_HEADER + 2 * VALUE_SIZE * (sizes.n as usize) {
+        return refusal(20);
     }
     let q = u16_at(pair, 5);
-    if q <= i {
-        return PairAnswer::Refused {
-            number: 20,
-            place: 0,
-        };
+    if q <= sizes.i {
+        return refusal(20);
     }
-    if i + o < q {
-        return PairAnswer::Refused {
-            number: 20,
-            place: 0,
-        };
+    if sizes.i as u64 + (sizes.o as u64) < q as u64 {
+        return refusal(20);
     }
-    let large = first_large(pair, p, 2 * (n as usize));
+    let large = first_large(&pair[PAIR_HEADER..], sizes.p, 2 * sizes.n);
     if large != 0 {
         return PairAnswer::Refused {
             number: 21,
-            place: large,
+            place: large as usize,
         };
     }
     PairAnswer::Accepted { q }
 }
 
-// Refusals 22 to 24, or q. The constraints are lent as the part of the circuit after its header.
-fn check_runs(body: &[u8], pair: &[u8], p: u32, n: u32, i: u32, m: u32, q: u32) -> PairAnswer
-    requires { ⌜ (n ≤ 256) × (i ≤ n) × (m ≤ 512) × (q ≤ 256) ⌝ }
-    ensures { λ r.
-        ⌜ paperOf r
-        ≡ runsOn p i m (constraintOf (now (body .entry))) (valueOf (firstRun n (now (pair .entry)))) (valueOf (secondRun n (now (pair .entry)))) q
-        ⌝ }
+// Refusals 22 to 24, or q. The constraints are lent as the part of the circuit after its header, the values as that of the pair.
+fn check_runs(body: &[u8], values: &[u8], sizes: Sizes, q: u32) -> PairAnswer
+    requires { ⌜ (sizes .n ≤ signalsMost) × (valueSize * sizes .n ≤ length (now values)) × (q ≤ signalsMost) ⌝ }
+    ensures { λ r. ⌜ paperOf r
+        ≡ runsOn sizes (constraintOf (now (body .entry))) (valueOf (runIn (now (values .entry)) (sizes .n)))
+        (valueOf (runIn (drop (valueSize * sizes .n) (now (values .entry))) (sizes .n))) q ⌝ }
 {
-    let first = copy_run(pair, 0, n as usize);
-    let second = copy_run(pair, n as usize, n as usize);
-    let in_first = first_unsatisfied(body, &first, p, m as usize);
+    let n = sizes.n;
+    let start = VALUE_SIZE * (n as usize);
+    let first = copy_run(values, n);
+    let second = copy_run(&values[start..], n);
+    let in_first = first_unsatisfied(body, &first, sizes.p, sizes.m);
     if in_first != 0 {
         return PairAnswer::Refused {
             number: 22,
-            place: in_first,
+            place: in_first as usize,
         };
     }
-    let in_second = first_unsatisfied(body, &second, p, m as usize);
+    let in_second = first_unsatisfied(body, &second, sizes.p, sizes.m);
     if in_second != 0 {
         return PairAnswer::Refused {
             number: 22,
-            place: m as usize + in_second,
+            place: sizes.m as usize + in_second as usize,
         };
     }
-    let input = first_difference(&first, &second, i as usize);
+    let input = first_difference(&first, &second, sizes.i);
     if input != 0 {
         return PairAnswer::Refused {
             number: 23,
-            place: input,
+            place: input as usize,
         };
     }
     let at = q as usize;
@@ -116,20 +115,28 @@ fn check_runs(body: &[u8], pair: &[u8], p: u32, n: u32, i: u32, m: u32, q: u32) 
     PairAnswer::Accepted { q }
 }
 
-// Reads a pair for a circuit: the circuit's refusals 1 to 10, then 18 to 24 in the paper's order, or q.
+// The call on a circuit that isn't refused.
+fn check_on(circuit: &[u8], pair: &[u8], sizes: Sizes) -> PairAnswer
+    requires { ⌜ Sized (now circuit) sizes ⌝ }
+    ensures { λ r. ⌜ paperOf r ≡ pairCall (now (circuit .entry)) (now (pair .entry)) ⌝ }
+{
+    let file = check_file(pair, sizes);
+    let PairAnswer::Accepted { q } = file else {
+        return file;
+    };
+    check_runs(&circuit[HEADER_SIZE..], &pair[PAIR_HEADER..], sizes, q)
+}
+
+// The pair call (rule 6.8): the circuit's refusals 1 to 10, then 18 to 24 in reading order, or q.
 pub fn check_pair(circuit: &[u8], pair: &[u8]) -> PairAnswer
-    ensures equation { λ r. ⌜ paperOf r ≡ pairCall (now (circuit .entry)) (now (pair .entry)) ⌝ }
+    ensures answer { λ r. ⌜ paperOf r ≡ pairCall (now (circuit .entry)) (now (pair .entry)) ⌝ }
     ensures exact { λ r. ⌜ Exact (now (circuit .entry)) (now (pair .entry)) (paperOf r) ⌝ }
 {
-    let sizes = check_circuit(circuit);
-    match sizes {
+    let answer = check_circuit(circuit);
+    match answer {
         CircuitAnswer::Refused { number, place } => PairAnswer::Refused { number, place },
         CircuitAnswer::Sizes { p, n, i, o, m } => {
-            let file = check_file(pair, p, n, i, o);
-            let PairAnswer::Accepted { q } = file else {
-                return file;
-            };
-            check_runs(&circuit[17..], pair, p, n, i, m, q)
+            check_on(circuit, pair, Sizes { p, n, i, o, m })
         }
     }
 }

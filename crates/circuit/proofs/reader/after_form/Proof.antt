@@ -1,9 +1,5 @@
 -- `circuit::reader::after_form`: the size by the count byte, or all that is left.
-use Prim.Native.Nat.{ℕ, _+_, _*_}
-use mathlib.Core.Path.{sym, ap, _∙_}
-use native.Mathlib.Omega.{arith}
 use borrow.Author.Needs.{needs}
-use Rattle.circuit.specs.Reader.{afterForm}
 use Rattle.circuit.proofs.ReaderLaws as laws
 use Rattle.circuit.proofs.reader.after_form.Statement.{statement}
 use Rattle.circuit.proofs.reader.after_form.Tie as tie

@@ -4,7 +4,7 @@ use mathlib.Core.Path.{_≡_, sym, ap, _∙_}
 use lib.ListN.{length, drop}
 use native.Mathlib.Omega.{arith}
 use borrow.Author.Needs.{needs}
-use Rattle.circuit.specs.Reading.{sizeOf, further, extent}
+use Rattle.circuit.specs.Reading.{sizeOf, extent}
 use Rattle.circuit.specs.Reader.{readBody, afterConstraint}
 use Rattle.circuit.specs.Answer.{foundOf}
 use Rattle.circuit.proofs.ReaderLaws as laws
@@ -13,11 +13,11 @@ use Rattle.circuit.proofs.reader.check_body.Statement.{statement}
 use Rattle.circuit.proofs.reader.check_body.Tie as tie
 
 abbrev Inv-loop : tie.InvT-loop
-Inv-loop s n p m rest₀ at₀ left₀ rest at left =
-    (at ≤ length s) × (rest ≡ drop at s) × (sizeOf (readBody n p m s) ≡ body.bodyFrom n p s left at)
+Inv-loop s n p rest₀ at₀ left₀ rest at left =
+    (at ≤ length s) × (rest ≡ drop at s) × (sizeOf (readBody n p left₀ s) ≡ body.bodyFrom n p s left at)
 
 abbrev μ-loop : tie.MeasureT-loop
-μ-loop s n p m rest₀ at₀ left₀ rest at left = left
+μ-loop s n p rest₀ at₀ left₀ rest at left = left
 
 loop-holds : tie.Need-loop-holds Inv-loop μ-loop
 loop-holds c = (c .before .before .pre, laws.part-drop (c .before .before .args .s .now) 17 (c .before .before .pre), body.body-start _ _ _ _)
@@ -55,7 +55,7 @@ loop-again c =
     let told = ap foundOf (c .before .before .found .given .1) in
     let l = c7 .loop in
     let read =
-    body.rest-read (c10 .args .n) (c10 .args .p) (c10 .args .s .now) (l .at) (l .inv .0) _ (l .inv .1) _ _ (c5 .check-constraint .ensures)
+    body.rest-read (c10 .args .sizes .n) (c10 .args .sizes .p) (c10 .args .s .now) (l .at) (l .inv .0) _ (l .inv .1) _ _ (c5 .check-constraint .ensures)
     (sym told ∙ c4 .shifted .ensures)
     in
     let near =

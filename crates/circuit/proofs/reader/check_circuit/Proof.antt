@@ -1,120 +1,104 @@
--- `circuit::reader::check_circuit`: the tests in the paper's order; each way out is one law.
-use mathlib.Core.Path.{sym, ap, _∙_}
-use native.Mathlib.Omega.{arith}
+-- `circuit::reader::check_circuit`: the tests in reading order; each way out is one law.
+use mathlib.Core.Path.{_≡_, sym, ap, _∙_}
+use mathlib.Core.Bool.{true}
 use borrow.Author.Needs.{needs}
 use borrow.Author.Tests.{not-true, not-false}
 use Rattle.field.specs.Prime.{oddPrime}
-use Rattle.circuit.specs.Answer.{foundOf}
+use Rattle.circuit.specs.Reader.{sizesFit}
+use Rattle.circuit.specs.Answer.{foundOf, paperOf}
 use Rattle.circuit.proofs.HeaderLaws as laws
+use Rattle.circuit.proofs.Sized.{answered}
 use Rattle.circuit.proofs.reader.check_circuit.Statement.{statement}
 use Rattle.circuit.proofs.reader.check_circuit.Tie as tie
 
+-- what the tests before those of the numbers show
+versioned : (c : tie.After-sizes-at) → laws.Versioned (c .before .before .before .before .before .before .before .before .args .s .now)
+versioned c =
+    let u = c .before .before in
+    let h = u .before .before in
+    record {
+      long = h .before .before .if1 .left;
+      short = h .before .if2 .left;
+      mark = sym (h .has-mark .ensures) ∙ not-false _ (u .before .if3 .left);
+      version = sym (u .u16-at .ensures .0) ∙ c .before .if4 .left;
+    }
+
+prime : (c : tie.Else5) → oddPrime (c .before .before .sizes-at .result .p) ≡ true
+prime c = sym (c .before .is-odd-prime .ensures .0) ∙ not-false _ (c .if5 .left)
+
+fit : (c : tie.Else6) → let z = c .before .before .before .before .sizes-at .result in sizesFit (z .n) (z .i) (z .o) (z .m) ≡ true
+fit c = sym (c .before .fits2 .ensures) ∙ not-false _ (c .if6 .left)
+
 returns : tie.Need-returns
-returns c = laws.call-short _ (c .if1 .taken)
+returns c = answered _ _ (ap paperOf (c .refusal .ensures) ∙ laws.call-short _ (c .before .if1 .taken))
 
 returns-2 : tie.Need-returns-2
-returns-2 c = laws.call-long _ (c .before .if1 .left) (c .if2 .taken)
-
--- what the tests before those of the sizes show
-headed : (c : tie.Else5) → laws.Headed (c .before .before .before .before .before .before .before .before .before .before .args .s .now)
-headed c =
-    let u = c .before .before .before .before in
-    record {
-      long = u .before .before .before .before .if1 .left;
-      short = u .before .before .before .if2 .left;
-      mark = sym (u .before .before .has-mark .ensures) ∙ not-false _ (u .before .if3 .left);
-      version = sym (u .u16-at .ensures .0) ∙ c .before .before .before .if4 .left;
-      prime = sym (c .before .is-odd-prime .ensures ∙ ap oddPrime (c .before .before .u32-at .ensures)) ∙ not-false _ (c .if5 .left);
-    }
+returns-2 c = answered _ _ (ap paperOf (c .refusal2 .ensures) ∙ laws.call-long _ (c .before .before .if1 .left) (c .before .if2 .taken))
 
 returns-3 : tie.Need-returns-3
 returns-3 c =
-    laws.call-mark _ (c .before .before .before .if1 .left) (c .before .before .if2 .left)
-    (sym (c .before .has-mark .ensures) ∙ not-true _ (c .if3 .taken))
+    let h = c .before .before in
+    answered _ _
+    (ap paperOf (c .refusal3 .ensures)
+    ∙ laws.call-mark _ (h .before .before .if1 .left) (h .before .if2 .left) (sym (h .has-mark .ensures) ∙ not-true _ (c .before .if3 .taken)))
 
 returns-4 : tie.Need-returns-4
 returns-4 c =
-    let c3 = c .before .before .before in
-    let h = c3 in
-    laws.call-version _ (h .before .before .if1 .left) (h .before .if2 .left)
-    (sym (h .has-mark .ensures) ∙ not-false _ (c .before .before .if3 .left))
-    (λ e. c .if4 .taken (c .before .u16-at .ensures .0 ∙ e))
+    let u = c .before .before in
+    let h = u .before .before in
+    answered _ _
+    (ap paperOf (c .refusal4 .ensures)
+    ∙ laws.call-version _ (h .before .before .if1 .left) (h .before .if2 .left) (sym (h .has-mark .ensures) ∙ not-false _ (u .before .if3 .left))
+    (λ e. c .before .if4 .taken (u .u16-at .ensures .0 ∙ e)))
 
 returns-5 : tie.Need-returns-5
 returns-5 c =
-    let h = c .before .before .before .before .before .before in
-    laws.call-prime _ (h .before .before .if1 .left) (h .before .if2 .left)
-    (sym (h .has-mark .ensures) ∙ not-false _ (c .before .before .before .before .before .if3 .left))
-    (sym (c .before .before .before .before .u16-at .ensures .0) ∙ c .before .before .before .if4 .left)
-    (sym (c .before .is-odd-prime .ensures ∙ ap oddPrime (c .before .before .u32-at .ensures)) ∙ not-true _ (c .if5 .taken))
+    let z = c .before .before .before in
+    answered _ _
+    (ap paperOf (c .refusal5 .ensures)
+    ∙ laws.call-prime _ (versioned z) _ (z .sizes-at .ensures) (sym (c .before .before .is-odd-prime .ensures .0) ∙ not-true _ (c .before .if5 .taken)))
 
 returns-6 : tie.Need-returns-6
 returns-6 c =
-    let m = c .before .before in
-    laws.call-sizes _ (headed (m .before .before .before .before))
-    (rw (
-      ← (m .before .before .before .u16-at2 .ensures .0),
-      ← (m .before .before .u16-at3 .ensures .0),
-      ← (m .before .u16-at4 .ensures .0),
-      ← (m .u16-at5 .ensures .0),
-    )
-    (sym (c .before .fits2 .ensures) ∙ not-true _ (c .if6 .taken)))
+    let p = c .before .before .before in
+    let z = p .before .before in
+    answered _ _
+    (ap paperOf (c .refusal6 .ensures)
+    ∙ laws.call-sizes _ (versioned z) _ (z .sizes-at .ensures) (prime p) (sym (c .before .before .fits2 .ensures) ∙ not-true _ (c .before .if6 .taken)))
 
 returns-7 : tie.Need-returns-7
 returns-7 c =
     let b = c .before .before in
-    let m = b .before .before .before in
-    let p = m .before .before .before .before .before .before in
-    rw (
-      p .u32-at .ensures,
-      m .before .before .before .u16-at2 .ensures .0,
-      m .before .before .u16-at3 .ensures .0,
-      m .before .u16-at4 .ensures .0,
-      m .u16-at5 .ensures .0,
-    )
-    (laws.call-whole (p .before .before .before .before .before .before .before .before .args .s .now) (headed (m .before .before .before .before))
-    (rw (
-      ← (m .before .before .before .u16-at2 .ensures .0),
-      ← (m .before .before .u16-at3 .ensures .0),
-      ← (m .before .u16-at4 .ensures .0),
-      ← (m .u16-at5 .ensures .0),
-    )
-    (sym (b .before .before .fits2 .ensures) ∙ not-false _ (b .before .if6 .left)))
-    (c .enum-told .given .0 .0)
-    (rw (← (m .before .before .before .u16-at2 .ensures .0), ← (p .u32-at .ensures), ← (m .u16-at5 .ensures .0))
-    (sym (b .check-body .ensures) ∙ ap foundOf (c .enum-told .given .1))))
+    let p = b .before .before .before in
+    let z = p .before .before in
+    answered _ _
+    (laws.call-whole _ (versioned z) _ (z .sizes-at .ensures) (prime p) (fit (b .before))
+    (c .enum-told .given .0 .0) (sym (b .check-body .ensures) ∙ ap foundOf (c .enum-told .given .1)))
 
 returns-8 : tie.Need-returns-8
 returns-8 c =
-    let c3 = c .before .before .before in
-    let b = c3 in
-    let m = b .before .before .before in
-    let p = m .before .before .before .before .before .before in
-    laws.call-fault _ (headed (m .before .before .before .before))
-    (rw (
-      ← (m .before .before .before .u16-at2 .ensures .0),
-      ← (m .before .before .u16-at3 .ensures .0),
-      ← (m .before .u16-at4 .ensures .0),
-      ← (m .u16-at5 .ensures .0),
-    )
-    (sym (b .before .before .fits2 .ensures) ∙ not-false _ (b .before .if6 .left)))
-    _ _
-    (rw (← (m .before .before .before .u16-at2 .ensures .0), ← (p .u32-at .ensures), ← (m .u16-at5 .ensures .0))
-    (sym (b .check-body .ensures) ∙ ap foundOf (c .before .body .given .1)))
+    let b = c .before .before .before in
+    let p = b .before .before .before in
+    let z = p .before .before in
+    answered _ _
+    (laws.call-fault _ (versioned z) _ (z .sizes-at .ensures) (prime p) (fit (b .before))
+    _ _ (sym (b .check-body .ensures) ∙ ap foundOf (c .before .body .given .1)))
 
 pub check-circuit-spec : {M : Type 1} → statement M
 check-circuit-spec =
     tie.close
     (tie.spec
+    (λ c κs. search needs)
     returns
+    (λ c κs. search needs)
     returns-2
-    (λ c κs. search needs)
-    returns-3
-    (λ c κs. search needs)
-    returns-4
     (λ c κs. search needs) (λ c κs. search needs)
+    returns-3
+    (λ c κs. search needs) (λ c κs. search needs)
+    returns-4
+    (λ c κs. search needs) (λ c κs. search needs) (λ c κs. search needs)
     returns-5
-    (λ c κs. search needs) (λ c κs. search needs) (λ c κs. search needs) (λ c κs. search needs) (λ c κs. search needs)
+    (λ c κs. search needs) (λ c κs. search needs)
     returns-6
     (λ c κs. search needs) (λ c. search needs) (λ c. search needs)
     returns-7

@@ -1,11 +1,10 @@
 -- `circuit::reader::check_form`: at each turn the whole answer is what is still to be read.
-use Prim.Native.Nat.{_≤_, _+_, _-_}
-use mathlib.Core.Path.{_≡_, sym, ap, _∙_}
+use Prim.Native.Nat.{_≤_, _-_}
+use mathlib.Core.Path.{_≡_, _∙_}
 use lib.ListN.{length}
 use native.Mathlib.Omega.{arith}
 use borrow.Author.Needs.{needs}
-use borrow.Author.Tests.{le-leb, lt-leb}
-use Rattle.circuit.specs.Reading.{sizeOf, faulty}
+use Rattle.circuit.specs.Reading.{sizeOf}
 use Rattle.circuit.specs.Reader.{readForm}
 use Rattle.circuit.proofs.ReaderLaws as laws
 use Rattle.circuit.proofs.reader.check_form.Statement.{statement}

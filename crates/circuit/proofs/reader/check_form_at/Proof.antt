@@ -2,7 +2,6 @@
 use mathlib.Core.Path.{_∙_}
 use native.Mathlib.Omega.{arith}
 use borrow.Author.Needs.{needs}
-use Rattle.circuit.specs.Reading.{extent}
 use Rattle.circuit.specs.Answer.{foundOf}
 use Rattle.circuit.proofs.ReaderLaws as laws
 use Rattle.circuit.proofs.reader.check_form_at.Statement.{statement}

@@ -2,7 +2,7 @@
 use mathlib.Core.Path.{sym, ap}
 use native.Mathlib.Omega.{arith}
 use borrow.Author.Needs.{needs}
-use Rattle.circuit.specs.Reading.{extent, further}
+use Rattle.circuit.specs.Reading.{further}
 use Rattle.circuit.specs.Answer.{foundOf}
 use Rattle.circuit.proofs.reader.shifted.Statement.{statement}
 use Rattle.circuit.proofs.reader.shifted.Tie as tie

@@ -11,7 +11,7 @@ use Rattle.circuit.proofs.run.eval_form.Tie as tie
 
 abbrev Inv-loop : tie.InvT-loop
 Inv-loop part values p left₀ at₀ sum₀ left at sum =
-    (at + 6 * left ≤ 4096) × (sum < p) × (evalMod p (formIn part) (valuesIn values) ≡ laws.sumFrom p part (valuesIn values) left at sum)
+    (at + 6 * left ≤ 1531) × (sum < p) × (evalMod p (formIn part) (valuesIn values) ≡ laws.sumFrom p part (valuesIn values) left at sum)
 
 abbrev μ-loop : tie.MeasureT-loop
 μ-loop part values p left₀ at₀ sum₀ left at sum = left

@@ -11,19 +11,19 @@ returns : tie.Need-returns
 returns c = laws.term-passed _ _ _ _ _ (omega arith)
 
 mul-result : tie.Need-mul-result
-mul-result c = omega (arith, laws.product-most (c .before .u32-at .result) (c .value-at .result) (omega arith) (omega arith))
+mul-result c = omega (arith, laws.product-most (c .before .u32-at .result) (c .value-of .result) (omega arith) (omega arith))
 
 add-result : tie.Need-add-result
-add-result c = omega (arith, laws.product-most (c .before .u32-at .result) (c .value-at .result) (omega arith) (omega arith))
+add-result c = omega (arith, laws.product-most (c .before .u32-at .result) (c .value-of .result) (omega arith) (omega arith))
 
 cast-result : tie.Need-cast-result
 cast-result c =
     let a = c .before .before .before .before .before .before .args in
-    omega (arith, mod-lt (a .sum + c .before .u32-at .result * c .value-at .result) {m = a .p} (omega arith))
+    omega (arith, mod-lt (a .sum + c .before .u32-at .result * c .value-of .result) {m = a .p} (omega arith))
 
 returns-2 : tie.Need-returns-2
 returns-2 c =
-    laws.term-added _ _ _ _ _ _ _ _ (c .before .before .before .u16-at .ensures .0) (c .before .u32-at .ensures) (c .value-at .ensures)
+    laws.term-added _ _ _ _ _ _ _ _ (c .before .before .before .u16-at .ensures .0) (c .before .u32-at .ensures) (c .value-of .ensures)
     (c .before .before .if1 .left)
 
 pub plus-term-spec : {M : Type 1} → statement M

@@ -3,6 +3,7 @@
 use native.Mathlib.Nat.{mod-lt}
 use native.Mathlib.Omega.{arith}
 use Rattle.field.proofs.Euclid.{Running, inverse-small, running-again, running-found, running-none, running-start, sizes-fit}
+use Rattle.field.proofs.Inverse.{the-inverse}
 use Rattle.field.proofs.modular.inverse.Statement.{statement}
 use Rattle.field.proofs.modular.inverse.Tie as tie
 
@@ -13,7 +14,7 @@ abbrev μ-loop : tie.MeasureT-loop
 μ-loop p c a₀ b₀ s₀ t₀ even₀ a b s t even = b
 
 returns : tie.Need-returns Inv-loop μ-loop
-returns c = inverse-small _ _ (c .if1 .taken)
+returns c = the-inverse (inverse-small _ _ (c .if1 .taken))
 
 rem-b : tie.Need-rem-b Inv-loop μ-loop
 rem-b c = omega arith
@@ -40,7 +41,7 @@ loop-again : tie.Need-loop-again Inv-loop μ-loop
 loop-again c = running-again (c .loop-test .taken) (c .before .loop .inv)
 
 returns-2 : tie.Need-returns-2 Inv-loop μ-loop
-returns-2 c = running-none (c .if2 .taken) (c .before .before .loop .inv)
+returns-2 c = the-inverse (running-none (c .if2 .taken) (c .before .before .loop .inv))
 
 sub-result : tie.Need-sub-result Inv-loop μ-loop
 sub-result c = omega (arith, sizes-fit (c .before .before .before .loop .inv .sizes))
@@ -48,12 +49,12 @@ sub-result c = omega (arith, sizes-fit (c .before .before .before .loop .inv .si
 returns-3 : tie.Need-returns-3 Inv-loop μ-loop
 returns-3 c =
     let b = c .before .before in
-    rw (c .if3 .taken) at (running-found (b .loop-test .left) (c .before .if2 .left) (b .before .loop .inv))
+    the-inverse (rw (c .if3 .taken) at (running-found (b .loop-test .left) (c .before .if2 .left) (b .before .loop .inv)))
 
 returns-4 : tie.Need-returns-4 Inv-loop μ-loop
 returns-4 c =
     let b = c .before .before in
-    rw (c .if3 .left) at (running-found (b .loop-test .left) (c .before .if2 .left) (b .before .loop .inv))
+    the-inverse (rw (c .if3 .left) at (running-found (b .loop-test .left) (c .before .if2 .left) (b .before .loop .inv)))
 
 pub inverse-spec : {M : Type 1} → statement M
 inverse-spec =

@@ -1,16 +1,15 @@
--- `pair::runs::first_unsatisfied`: at each turn the answer is what is found after constraint k, and `rest` is the part after it.
+-- `circuit::runs::first_unsatisfied`: at each turn the answer is what is found after constraint k, and `rest` is the part after it.
 use Prim.Native.Nat.{_+_, _-_, _≤_}
 use mathlib.Core.Path.{_≡_, _∙_}
 use native.Mathlib.Omega.{arith}
 use borrow.Author.Needs.{needs}
 use borrow.Author.Tests.{not-true, not-false}
-use Rattle.circuit.specs.Reader.{partFrom}
+use Rattle.circuit.specs.Reader.{partFrom, constraintOf}
 use Rattle.circuit.specs.Run.{valuesIn}
-use Rattle.pair.specs.Call.{firstFrom, satisfiedBy}
-use Rattle.pair.specs.Answer.{constraintOf}
-use Rattle.pair.proofs.SearchLaws as laws
-use Rattle.pair.proofs.runs.first_unsatisfied.Statement.{statement}
-use Rattle.pair.proofs.runs.first_unsatisfied.Tie as tie
+use Rattle.circuit.specs.Runs.{firstFrom, satisfiedBy}
+use Rattle.circuit.proofs.SearchLaws as laws
+use Rattle.circuit.proofs.runs.first_unsatisfied.Statement.{statement}
+use Rattle.circuit.proofs.runs.first_unsatisfied.Tie as tie
 
 abbrev Inv-loop : tie.InvT-loop
 Inv-loop body values p m rest₀ k₀ rest k =
@@ -26,11 +25,9 @@ loop-holds c = (omega arith, laws.part-zero _, laws.first-start _ _)
 
 returns : tie.Need-returns Inv-loop μ-loop
 returns c =
-    let l = c .before .before .before .loop in (
-      laws.first-found _ _ _ _ (l .inv .2) (c .before .before .loop-test .taken)
-          (laws.satisfied-part _ _ _ _ _ _ (l .inv .1) (c .before .satisfied .ensures) ∙ not-true _ (c .if1 .taken)),
-      omega arith,
-    )
+    let l = c .before .before .before .loop in
+    laws.first-found _ _ _ _ (l .inv .2) (c .before .before .loop-test .taken)
+    (laws.satisfied-part _ _ _ _ _ _ (l .inv .1) (c .before .satisfied .ensures) ∙ not-true _ (c .if1 .taken))
 
 loop-again : tie.Need-loop-again Inv-loop μ-loop
 loop-again c =
@@ -42,7 +39,7 @@ loop-again c =
     )
 
 returns-2 : tie.Need-returns-2 Inv-loop μ-loop
-returns-2 c = (laws.first-none _ _ _ _ (c .before .loop .inv .2) (c .loop-test .left), omega arith)
+returns-2 c = laws.first-none _ _ _ _ (c .before .loop .inv .2) (c .loop-test .left)
 
 pub first-unsatisfied-spec : {M : Type 1} → statement M
 first-unsatisfied-spec =

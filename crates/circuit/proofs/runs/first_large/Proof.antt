@@ -1,18 +1,18 @@
--- `pair::runs::first_large`: at each turn the answer is what is found after value j.
+-- `circuit::runs::first_large`: at each turn the answer is what is found after value j.
 use Prim.Native.Nat.{_+_, _-_, _≤_}
 use mathlib.Core.Path.{_≡_}
 use native.Mathlib.Omega.{arith}
 use borrow.Author.Needs.{needs}
-use Rattle.pair.specs.Call.{firstFrom, below}
-use Rattle.pair.proofs.SearchLaws as laws
-use Rattle.pair.proofs.runs.first_large.Statement.{statement}
-use Rattle.pair.proofs.runs.first_large.Tie as tie
+use Rattle.circuit.specs.Runs.{firstFrom, below}
+use Rattle.circuit.proofs.SearchLaws as laws
+use Rattle.circuit.proofs.runs.first_large.Statement.{statement}
+use Rattle.circuit.proofs.runs.first_large.Tie as tie
 
 abbrev Inv-loop : tie.InvT-loop
-Inv-loop pair p count j₀ j = (j ≤ count) × (firstFrom (below p pair) 1 count ≡ firstFrom (below p pair) (j + 1) (count - j))
+Inv-loop values p count j₀ j = (j ≤ count) × (firstFrom (below p values) 1 count ≡ firstFrom (below p values) (j + 1) (count - j))
 
 abbrev μ-loop : tie.MeasureT-loop
-μ-loop pair p count j₀ j = count - j
+μ-loop values p count j₀ j = count - j
 
 loop-holds : tie.Need-loop-holds Inv-loop μ-loop
 loop-holds c = (omega arith, laws.first-start _ _)

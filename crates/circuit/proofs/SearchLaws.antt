@@ -7,11 +7,10 @@ use native.Mathlib.Omega.{arith}
 use native.Mathlib.Decide.{ℕ-discrete}
 use mathlib.Core.List.{List}
 use borrow.Author.Tests.{lt-ltb, le-ltb, ltb-true, eq-eqb, ne-eqb, eqb-true}
-use Rattle.circuit.specs.Reader.{constraintIn, afterConstraint, partFrom}
+use Rattle.circuit.specs.Reader.{constraintIn, constraintOf, afterConstraint, partFrom}
 use Rattle.circuit.specs.Run.{holds}
 use Rattle.circuit.proofs.Stored.{part-next}
-use Rattle.pair.specs.Call.{firstFrom, valueAt, below, satisfiedBy, agree}
-use Rattle.pair.specs.Answer.{constraintOf}
+use Rattle.circuit.specs.Runs.{firstFrom, valueAt, below, satisfiedBy, agree}
 
 module _ (test : ℕ → Bool) where
   first-pass : (k left : ℕ) → test k ≡ true → firstFrom test k (suc left) ≡ firstFrom test (suc k) left

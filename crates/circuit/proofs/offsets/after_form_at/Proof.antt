@@ -1,0 +1,13 @@
+-- `circuit::offsets::after_form_at`.
+use borrow.Author.Needs.{needs}
+use Rattle.circuit.specs.Reader.{offsetAfter}
+use Rattle.circuit.proofs.offsets.after_form_at.Statement.{statement}
+use Rattle.circuit.proofs.offsets.after_form_at.Tie as tie
+
+returns : tie.Need-returns
+unfolding offsetAfter
+returns c = search needs
+
+pub after-form-at-spec : {M : Type 1} → statement M
+after-form-at-spec =
+    tie.close (tie.spec (λ c κs. search needs) (λ c. search needs) (λ c. search needs) (λ c. search needs) (λ c. search needs) returns)
