@@ -1,29 +1,27 @@
 -- Laws of the call in the code's terms: the header's tests, the turns of the walk, and what the call answers and leaves.
 use Prim.Native.Nat.{ℕ, suc, _+_, _*_, _-_, _≤_, _<_, min}
 use mathlib.Core.Path.{_≡_, refl, sym, ap, _∙_}
-use mathlib.Core.Bool.{Bool, true, false}
+use mathlib.Core.Bool.{true, false}
 use mathlib.Core.List.{List, _++_}
-use mathlib.Core.Option.{Option, none, some}
 use native.Mathlib.Numerals.{add-one}
 use native.Mathlib.Omega.{arith}
 use borrow.Author.Tests.{le-leb, lt-leb, eq-eqb, ne-eqb}
 use lib.ListN.{length, drop}
-use Rattle.circuit.specs.Bytes.{byteAt, u16At}
+use Rattle.circuit.specs.Bytes.{u16At}
 use Rattle.circuit.specs.Circuit.{Circuit}
 use Rattle.circuit.specs.Reading.{Reading, whole, fault}
-use Rattle.circuit.specs.Reader.{readCircuit, marked}
-use Rattle.circuit.specs.Answer as circuit
-use Rattle.circuit.proofs.WellFormed.{read-well-formed}
+use Rattle.circuit.specs.Reader.{signalsMost, readCircuit, derivationLetter, hasMark}
+use Rattle.circuit.specs.Answer.{Answer, refused, given, andThen}
+use Rattle.circuit.specs.Call.{onCircuit, circuitCall, circuitOf, Sized}
+use Rattle.circuit.specs.declared.reader.Sizes.{Sizes}
+use Rattle.circuit.proofs.Sized.{on-refused}
 use Rattle.laws.specs.Sum.{all}
-use Rattle.laws.specs.Standing.{Standing, largest, isInput, start}
-use Rattle.laws.specs.Step.{Kind, inRange, met, after}
-use Rattle.derivation.specs.Steps.{kindOf, stepStart, stepAt, Walk, stopped, ended, demand, tried, walkFrom, stepsOf}
+use Rattle.laws.specs.Problem.{Problem, largest, problem}
+use Rattle.laws.specs.Standing.{Standing, isInput, start}
+use Rattle.derivation.specs.Steps.{headSize, stepSize, stepsMost, readStep, tried, walkFrom, stepsOf}
 use Rattle.derivation.specs.Call.{
-  Verdict,
   Open,
-  DerivationResult,
-  refused,
-  accepted,
+  Judgement,
   marksFrom,
   marksOf,
   total,
@@ -33,7 +31,6 @@ use Rattle.derivation.specs.Call.{
   judged,
   headed,
   derivationOn,
-  onCircuit,
   derivationCall,
   lastOf,
   leftOn,
@@ -42,56 +39,54 @@ use Rattle.derivation.specs.Call.{
 use Rattle.derivation.specs.declared.step.Way.{Way}
 use Rattle.derivation.specs.declared.step.Way.the-variants.{On, Stopped}
 use Rattle.derivation.specs.Exact.{Framed, ExactCall, SoundCall}
-use Rattle.derivation.specs.Offsets.{Offsets}
-use Rattle.derivation.specs.Inner.{circuitOf, Sized, walkBy, answerBy}
+use Rattle.derivation.specs.Inner.{problemOf, byWay, Answers}
 use Rattle.derivation.proofs.Walks.{walk-accepted}
-use Rattle.derivation.proofs.Exact.{framed-headed, headed-accepted, call-on, exact-call}
+use Rattle.derivation.proofs.Exact.{framed-headed, headed-given, call-on, exact-call}
 use Rattle.derivation.proofs.Sound.{marks-left, sound-call}
-use Rattle.derivation.proofs.OffsetLaws.{fewer}
 
 -- The header
 
 -- the tests before those of the count
 pub record Versioned (d : List ℕ) : Type 0 where
-  pub long : 7 ≤ length d
-  pub mark : marked 68 d ≡ true
+  pub long : headSize ≤ length d
+  pub mark : hasMark derivationLetter d ≡ true
   pub version : u16At d 3 ≡ 1
 
-module _ (d : List ℕ) (n room : ℕ) (x : DerivationResult) where
-  pub head-short : length d < 7 → refused 11 0 ≡ headed d n room x
+module _ (d : List ℕ) (n room : ℕ) (x : Answer Judgement) where
+  pub head-short : length d < headSize → refused 11 0 ≡ headed d n room x
   unfolding headed
-  head-short h = sym (rw (lt-leb 7 (length d) h))
+  head-short h = sym (rw (lt-leb headSize (length d) h))
 
-  pub head-mark : 7 ≤ length d → marked 68 d ≡ false → refused 11 0 ≡ headed d n room x
+  pub head-mark : headSize ≤ length d → hasMark derivationLetter d ≡ false → refused 11 0 ≡ headed d n room x
   unfolding headed
-  head-mark long h = sym (rw (le-leb 7 (length d) long, h))
+  head-mark long h = sym (rw (le-leb headSize (length d) long, h))
 
-  pub head-version : 7 ≤ length d → marked 68 d ≡ true → (u16At d 3 ≡ 1 → ⊥) → refused 12 0 ≡ headed d n room x
+  pub head-version : headSize ≤ length d → hasMark derivationLetter d ≡ true → (u16At d 3 ≡ 1 → ⊥) → refused 12 0 ≡ headed d n room x
   unfolding headed
-  head-version long mark h = sym (rw (le-leb 7 (length d) long, mark, ne-eqb (u16At d 3) 1 h))
+  head-version long mark h = sym (rw (le-leb headSize (length d) long, mark, ne-eqb (u16At d 3) 1 h))
 
   -- then the count, as it was read
   module _ (H : Versioned d) (count : ℕ) (is-count : count ≡ u16At d 5) where
-    pub head-count : 4096 < count → refused 13 0 ≡ headed d n room x
+    pub head-count : stepsMost < count → refused 13 0 ≡ headed d n room x
     unfolding headed
     head-count h =
-        sym (rw (le-leb _ _ (H .long), H .mark, eq-eqb _ _ (H .version), lt-leb (u16At d 5) 4096 (omega (arith, is-count))))
+        sym (rw (le-leb _ _ (H .long), H .mark, eq-eqb _ _ (H .version), lt-leb (u16At d 5) stepsMost (omega (arith, is-count))))
 
-    module _ (few : count ≤ 4096) where
-      pub head-length : (length d ≡ 7 + 7 * count → ⊥) → refused 13 0 ≡ headed d n room x
+    module _ (few : count ≤ stepsMost) where
+      pub head-length : (length d ≡ headSize + stepSize * count → ⊥) → refused 13 0 ≡ headed d n room x
       unfolding headed
       head-length h =
-          let other : length d ≡ 7 + 7 * u16At d 5 → ⊥ = λ (e : length d ≡ 7 + 7 * u16At d 5). h (omega (arith, e, is-count)) in
+          let other : length d ≡ headSize + stepSize * u16At d 5 → ⊥ = λ (e : length d ≡ headSize + stepSize * u16At d 5). h (omega (arith, e, is-count)) in
           sym
           (rw (
             le-leb _ _ (H .long),
             H .mark,
             eq-eqb _ _ (H .version),
-            le-leb (u16At d 5) 4096 (omega (arith, is-count)),
+            le-leb (u16At d 5) stepsMost (omega (arith, is-count)),
             ne-eqb _ _ other,
           ))
 
-      module _ (sized : length d ≡ 7 + 7 * count) where
+      module _ (sized : length d ≡ headSize + stepSize * count) where
         framed : (k : ℕ) → k ≤ room → Framed d k room
         framed k h =
             record {
@@ -122,153 +117,125 @@ module _ (d : List ℕ) (n room : ℕ) (x : DerivationResult) where
 
 -- The turns of the walk
 
-tried-then : (C : Circuit) (S : Standing) (d : List ℕ) (k : ℕ) (o : Option Kind) (on : Standing → Walk) {S′ : Standing}
-    → ended S′ ≡ tried C S d k o ended → tried C S d k o on ≡ on S′
-tried-then C S d k none on e = cc
-tried-then C S d k (some q) on e = go (inRange C (stepAt q d k)) (met C S (stepAt q d k)) e
-  where
-    go : (a b : Bool) {S′ : Standing} → ended S′ ≡ demand a 16 (suc k) (demand b 17 (suc k) (ended (after C S (stepAt q d k))))
-        → demand a 16 (suc k) (demand b 17 (suc k) (on (after C S (stepAt q d k)))) ≡ on S′
-    go true true {S′} h = let is : S′ ≡ after C S (stepAt q d k) = cc in ap on (sym is)
-    go true false h = cc
-    go false b h = cc
+pub walk-whole : (P : Problem) (d : List ℕ) (S : Standing) (count : ℕ) → count ≡ u16At d 5
+    → walkFrom P d 0 (u16At d 5) S ≡ walkFrom P d 0 (count - 0) S
+walk-whole P d S count e = let all : count - 0 ≡ u16At d 5 = omega (arith, e) in rw all
 
-tried-stopped : (C : Circuit) (S : Standing) (d : List ℕ) (k : ℕ) (o : Option Kind) (on : Standing → Walk) {number place : ℕ}
-    → stopped number place ≡ tried C S d k o ended → stopped number place ≡ tried C S d k o on
-tried-stopped C S d k none on e = e
-tried-stopped C S d k (some q) on e = go (inRange C (stepAt q d k)) (met C S (stepAt q d k)) e
-  where
-    go : (a b : Bool) {number place : ℕ} → stopped number place ≡ demand a 16 (suc k) (demand b 17 (suc k) (ended (after C S (stepAt q d k))))
-        → stopped number place ≡ demand a 16 (suc k) (demand b 17 (suc k) (on (after C S (stepAt q d k))))
-    go true true h = cc
-    go true false h = h
-    go false b h = h
-
-module _ (C : Circuit) (d : List ℕ) (count k : ℕ) (S : Standing) (w : Walk) (inv : w ≡ walkFrom C d k (count - k) S) where
+module _ (P : Problem) (d : List ℕ) (count k : ℕ) (S : Standing) (w : Answer Standing) (inv : w ≡ walkFrom P d k (count - k) S) where
   module _ (some-left : k < count) where
-    turn : w ≡ tried C S d k (kindOf (byteAt d (stepStart k))) (walkFrom C d (k + 1) (count - (k + 1)))
+    turn : w ≡ andThen (tried P S (readStep d k) (suc k)) (walkFrom P d (k + 1) (count - (k + 1)))
     unfolding walkFrom
     turn = inv ∙ (let z : count - k ≡ suc (count - (k + 1)) = omega arith in rw (z, add-one k))
 
-    pub walk-on : (S′ : Standing) → ended S′ ≡ tried C S d k (kindOf (byteAt d (stepStart k))) ended → w ≡ walkFrom C d (k + 1) (count - (k + 1)) S′
-    walk-on S′ e = turn ∙ tried-then C S d k (kindOf (byteAt d (stepStart k))) (walkFrom C d (k + 1) (count - (k + 1))) e
+    pub walk-on : (S′ : Standing) → given S′ ≡ tried P S (readStep d k) (suc k) → w ≡ walkFrom P d (k + 1) (count - (k + 1)) S′
+    walk-on S′ e = turn ∙ rw (← e)
 
-    pub walk-stopped : (number place : ℕ) → stopped number place ≡ tried C S d k (kindOf (byteAt d (stepStart k))) ended → stopped number place ≡ w
-    walk-stopped number place e =
-        tried-stopped C S d k (kindOf (byteAt d (stepStart k))) (walkFrom C d (k + 1) (count - (k + 1))) e ∙ sym turn
+    pub walk-stopped : (number place : ℕ) → refused number place ≡ tried P S (readStep d k) (suc k) → refused number place ≡ w
+    walk-stopped number place e = sym (turn ∙ rw (← e))
 
-  pub walk-ended : count ≤ k → ended S ≡ w
+  pub walk-ended : count ≤ k → given S ≡ w
   unfolding walkFrom
   walk-ended h = sym (inv ∙ (let z : count - k ≡ 0 = omega arith in rw z))
 
--- the start and the table, on a circuit that isn't refused
-module _ (c : List ℕ) (p n m : ℕ) (Z : Sized c p n m) where
-  pub walk-start : (d : List ℕ) (i count : ℕ) (S : Standing) → i ≡ circuitOf c .i → count ≡ u16At d 5
-      → S ≡ record { bound = largest p; marked = isInput (min i 256) }
-      → walkFrom (circuitOf c) d 0 (u16At d 5) (start (circuitOf c)) ≡ walkFrom (circuitOf c) d 0 (count - 0) S
+-- the start, on a circuit that isn't refused
+module _ (c : List ℕ) (z : Sizes) (Z : Sized c z) where
+  pub few-signals : z .n ≤ signalsMost
+  few-signals = omega (arith, Z .formed .n-most, Z .is-n)
+
+  -- a walk from the start, whatever the first bounds say
+  pub walk-start : (d : List ℕ) (w : Answer Standing) (S : Standing) → S ≡ record { bound = largest (z .p); marked = isInput (min (z .i) 256) }
+      → ((first : ℕ → ℕ) → w ≡ walkFrom (problemOf c first) d 0 (u16At d 5) S)
+      → w ≡ walkFrom (problem (circuitOf c)) d 0 (u16At d 5) (start (problem (circuitOf c)))
   unfolding start
-  walk-start d i count S e f is =
-      let W = read-well-formed c (circuitOf c) (Z .size) (Z .read) in
-      let few : min i 256 ≡ circuitOf c .i = omega (arith, W .n-most, W .fits, e) in
-      let all : count - 0 ≡ u16At d 5 = omega (arith, f) in
-      rw (all, is, few, Z .is-p)
-
-  pub few-signals : n ≤ 256
-  few-signals = omega (arith, read-well-formed c (circuitOf c) (Z .size) (Z .read) .n-most, Z .is-n)
-
-  pub few-outputs : (i o : ℕ) → i ≡ circuitOf c .i → o ≡ circuitOf c .o → i + o ≤ 256
-  few-outputs i o e f =
-      let W = read-well-formed c (circuitOf c) (Z .size) (Z .read) in
-      omega (arith, W .n-most, W .fits, e, f)
-
-  pub offsets-all : (table : List ℕ) → Offsets c (min m 512) table → Offsets c m table
-  offsets-all table O =
-      let few = read-well-formed c (circuitOf c) (Z .size) (Z .read) .m-most in
-      fewer c table m (min m 512) O (omega (arith, few, Z .is-m))
+  walk-start d w S e h =
+      let few : min (z .i) 256 ≡ circuitOf c .i = omega (arith, Z .formed .n-most, Z .formed .fits, Z .is-i) in
+      let is : S ≡ record { bound = largest (circuitOf c .p); marked = isInput (circuitOf c .i) } = e ∙ rw (few, Z .is-p) in
+      rw is at (h (largest (circuitOf c .p)))
 
 -- The answer, and what is left in the buffer
 
-pub left-refused : (c d marks : List ℕ) {number place : ℕ} → refused number place ≡ derivationCall c d (length marks)
+left-refused : (c d marks : List ℕ) {number place : ℕ} → refused number place ≡ derivationCall c d (length marks)
     → marks ≡ derivationMarks c d marks
 unfolding derivationCall derivationMarks
 left-refused c d marks e = go (readCircuit c) e
   where
-    go : (R : Reading Circuit) {number place : ℕ} → refused number place ≡ onCircuit R d (length marks) → marks ≡ leftOn R d marks
+    go : (R : Reading Circuit) {number place : ℕ}
+        → refused number place ≡ onCircuit R (λ (C : Circuit). derivationOn (problem C) d (length marks)) → marks ≡ leftOn R d marks
     go (whole C size) h = rw (← h)
     go (fault number place) h = refl
 
-module _ (c d marks : List ℕ) (p n m : ℕ) (Z : Sized c p n m) (way : Way)
-    (head : (x : DerivationResult) → answerBy way x ≡ headed d n (length marks) x) where
-  call-headed : (w : Walk) → w ≡ walkFrom (circuitOf c) d 0 (u16At d 5) (start (circuitOf c))
-      → derivationCall c d (length marks) ≡ answerBy way (judged (circuitOf c) w)
+answers-refused : (c d marks : List ℕ) (number place : ℕ) → refused number place ≡ derivationCall c d (length marks)
+    → Answers c d marks (refused number place) marks
+answers-refused c d marks number place e = record { answer = e; written = left-refused c d marks e }
+
+-- after the header's tests
+pub record Checked (c d marks : List ℕ) (z : Sizes) (way : Way) : Type 0 where
+  pub sized : Sized c z
+  pub head : (x : Answer Judgement) → byWay way x ≡ headed d (z .n) (length marks) x
+
+-- after the steps
+pub record Walked (c d marks : List ℕ) (z : Sizes) (way on : Way) (S : Standing) : Type 0 where
+  pub checked : Checked c d marks z way
+  pub fine : way ≡ On
+  pub walk : byWay on (given S) ≡ walkFrom (problem (circuitOf c)) d 0 (u16At d 5) (start (problem (circuitOf c)))
+
+module _ {c d marks : List ℕ} {z : Sizes} {way : Way} (H : Checked c d marks z way) where
+  call-headed : (w : Answer Standing) → w ≡ walkFrom (problem (circuitOf c)) d 0 (u16At d 5) (start (problem (circuitOf c)))
+      → derivationCall c d (length marks) ≡ byWay way (andThen w (λ (S : Standing). given (judged (problem (circuitOf c)) S)))
   unfolding derivationOn
   call-headed w e =
-      let C = circuitOf c in
+      let P = problem (circuitOf c) in
       let room = length marks in
-      call-on c d room (Z .read)
-      ∙ ap (λ (k : ℕ). headed d k room (judged C (walkFrom C d 0 (u16At d 5) (start C)))) (sym (Z .is-n))
-      ∙ ap (λ (v : Walk). headed d n room (judged C v)) (sym e)
-      ∙ sym (head (judged C w))
+      let then : Answer Standing → Answer Judgement = λ (v : Answer Standing). andThen v (λ (S : Standing). given (judged P S)) in
+      call-on c d room (H .sized .read)
+      ∙ ap (λ (k : ℕ). headed d k room (then (walkFrom P d 0 (u16At d 5) (start P)))) (sym (H .sized .is-n))
+      ∙ ap (λ (v : Answer Standing). headed d (z .n) room (then v)) (sym e)
+      ∙ sym (H .head (then w))
 
-  pub head-refused : (number place : ℕ) → way ≡ Stopped number place
-      → (refused number place ≡ derivationCall c d (length marks)) × (marks ≡ derivationMarks c d marks)
-  head-refused number place e =
-      let r : refused number place ≡ derivationCall c d (length marks) = sym (call-headed _ refl ∙ rw e) in (r, left-refused c d marks r)
+  pub head-refused : (number place : ℕ) → way ≡ Stopped number place → Answers c d marks (refused number place) marks
+  head-refused number place e = answers-refused c d marks number place (sym (call-headed _ refl ∙ rw e))
 
-  module _ (fine : way ≡ On) where
-    pub head-roomy : n ≤ length marks
-    head-roomy =
-        let e : headed d n (length marks) (accepted 0 Open) ≡ accepted 0 Open = sym (head (accepted 0 Open)) ∙ rw fine in
-        headed-accepted d n (length marks) (accepted 0 Open) e .0 .roomy
+  pub head-roomy : way ≡ On → z .n ≤ length marks
+  head-roomy fine =
+      let any : Judgement = record { count = 0; verdict = Open } in
+      let e : headed d (z .n) (length marks) (given any) ≡ given any = sym (H .head (given any)) ∙ rw fine in
+      headed-given d (z .n) (length marks) (given any) e .0 .roomy
 
-    module _ (next : Way) (S : Standing) (walk : walkBy next S ≡ walkFrom (circuitOf c) d 0 (u16At d 5) (start (circuitOf c))) where
-      pub walk-refused : (number place : ℕ) → next ≡ Stopped number place
-          → (refused number place ≡ derivationCall c d (length marks)) × (marks ≡ derivationMarks c d marks)
-      walk-refused number place e =
-          let r : refused number place ≡ derivationCall c d (length marks) = sym (call-headed (walkBy next S) walk ∙ rw (fine, e)) in
-          (r, left-refused c d marks r)
+module _ {c d marks : List ℕ} {z : Sizes} {way on : Way} {S : Standing} (W : Walked c d marks z way on S) where
+  pub walk-refused : (number place : ℕ) → on ≡ Stopped number place → Answers c d marks (refused number place) marks
+  walk-refused number place e =
+      answers-refused c d marks number place (sym (call-headed (W .checked) (byWay on (given S)) (W .walk) ∙ rw (W .fine, e)))
 
-      -- the standing after the last step
-      last-is : next ≡ On → lastOf (circuitOf c) d ≡ S
-      unfolding lastOf stepsOf
-      last-is e = walk-accepted (circuitOf c) d 0 (u16At d 5) (start (circuitOf c)) S (sym (rw e at walk)) .leads
+  module _ (ended : on ≡ On) where
+    -- the standing after the last step
+    last-is : lastOf (problem (circuitOf c)) d ≡ S
+    unfolding lastOf stepsOf
+    last-is = walk-accepted (problem (circuitOf c)) d 0 (u16At d 5) (start (problem (circuitOf c))) S (sym (rw ended at (W .walk))) .leads
 
-      pub walk-accepts : next ≡ On → (i o count : ℕ) (verdict : Verdict) (out : List ℕ) → i ≡ circuitOf c .i → o ≡ circuitOf c .o
-          → count ≡ total (marksFrom (S .marked) 0 n) → verdict ≡ verdictBy (all o (outputMarked (S .marked) i))
-          → out ≡ marksFrom (S .marked) 0 n ++ drop n marks
-          → (accepted count verdict ≡ derivationCall c d (length marks)) × (out ≡ derivationMarks c d marks)
-      unfolding marksOf verdictOf
-      walk-accepts e i o count verdict out is-i is-o counted judged is =
-          let answer : accepted count verdict ≡ derivationCall c d (length marks)
-          = sym (call-headed (walkBy next S) walk ∙ rw (fine, e, counted, judged, is-i, is-o, Z .is-n)) in
-          let left = marks-left c d marks (Z .read) (sym (call-on c d (length marks) (Z .read)) ∙ sym answer) in
-          (answer, is ∙ sym (left ∙ rw (last-is e, ← (Z .is-n))))
+    pub walk-accepts : (r : Answer Judgement) (out : List ℕ)
+        → r ≡ given (record {
+          count = total (marksFrom (S .marked) 0 (z .n));
+          verdict = verdictBy (all (z .o) (outputMarked (S .marked) (z .i)));
+        }) → out ≡ marksFrom (S .marked) 0 (z .n) ++ drop (z .n) marks → Answers c d marks r out
+    unfolding judged marksOf verdictOf
+    walk-accepts r out e is =
+        let P = problem (circuitOf c) in
+        let Z = W .checked .sized in
+        let given-is : r ≡ given (judged P S) = e ∙ rw (Z .is-i, Z .is-o, Z .is-n) in
+        let answer : r ≡ derivationCall c d (length marks)
+        = given-is ∙ sym (call-headed (W .checked) (byWay on (given S)) (W .walk) ∙ rw (W .fine, ended)) in
+        let left = marks-left c d marks (Z .read) (sym (call-on c d (length marks) (Z .read)) ∙ sym answer ∙ given-is) in
+        record { answer = answer; written = is ∙ sym (left ∙ rw (last-is, ← (Z .is-n))) }
 
 -- The whole call
 
-pub circuit-sized : (c : List ℕ) {p n i o m : ℕ} → circuit.sizes p n i o m ≡ circuit.circuitCall c
-    → Sized c p n m × (i ≡ circuitOf c .i) × (o ≡ circuitOf c .o)
-unfolding circuitOf circuit.circuitCall
-circuit-sized c e = go (readCircuit c) refl e
-  where
-    go : (R : Reading Circuit) → readCircuit c ≡ R → {p n i o m : ℕ} → circuit.sizes p n i o m ≡ circuit.headerOf R
-        → Sized c p n m × (i ≡ circuitOf c .i) × (o ≡ circuitOf c .o)
-    go (whole C size) h e =
-        let is : circuitOf c ≡ C = rw h in
-        rw is (record { size = size; read = rw is h; is-p = rw is (cc); is-n = rw is (cc); is-m = rw is (cc) }, cc, cc)
-    go (fault number place) h e = let z : _≡_ {A = ℕ} 0 1 = cc in absurd (omega arith)
-
-pub circuit-refused : (c d marks : List ℕ) {number place : ℕ} → circuit.refused number place ≡ circuit.circuitCall c
-    → (refused number place ≡ derivationCall c d (length marks)) × (marks ≡ derivationMarks c d marks)
-unfolding circuit.circuitCall derivationCall derivationMarks
-circuit-refused c d marks e = go (readCircuit c) e
-  where
-    go : (R : Reading Circuit) {number place : ℕ} → circuit.refused number place ≡ circuit.headerOf R
-        → (refused number place ≡ onCircuit R d (length marks)) × (marks ≡ leftOn R d marks)
-    go (whole C size) h = let z : _≡_ {A = ℕ} 0 1 = cc in absurd (omega arith)
-    go (fault number place) h = (cc, refl)
+pub circuit-refused : (c d marks : List ℕ) {number place : ℕ} → refused number place ≡ circuitCall c → Answers c d marks (refused number place) marks
+unfolding derivationCall
+circuit-refused c d marks e =
+    answers-refused c d marks _ _ (on-refused c (λ (C : Circuit). derivationOn (problem C) d (length marks)) e)
 
 -- EXACT and SOUND follow from the answer and what is left
-pub call-keeps : (c d marks out : List ℕ) (r : DerivationResult) → r ≡ derivationCall c d (length marks) → out ≡ derivationMarks c d marks
+pub call-keeps : (c d marks out : List ℕ) (r : Answer Judgement) → Answers c d marks r out
     → (r ≡ derivationCall c d (length marks)) × ((out ≡ derivationMarks c d marks) × (ExactCall c d (length marks) r × SoundCall c d r out))
-call-keeps c d marks out r e f = (e, (f, (rw e (exact-call c d (length marks)), rw (e, f) (sound-call c d marks))))
+call-keeps c d marks out r A =
+    (A .answer, (A .written, (rw (A .answer) (exact-call c d (length marks)), rw (A .answer, A .written) (sound-call c d marks))))

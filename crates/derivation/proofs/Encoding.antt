@@ -9,13 +9,12 @@ use native.Mathlib.Omega.{arith}
 use lib.ListN.{length, drop}
 use lib.Seq.{drop-drop}
 use Rattle.circuit.specs.Bytes.{byteAt, u16At}
-use Rattle.circuit.specs.Circuit.{Circuit}
-use Rattle.circuit.specs.Reader.{marked}
+use Rattle.circuit.specs.Reader.{hasMark}
 use Rattle.circuit.proofs.ByteLaws.{byte-drop, u16-drop}
+use Rattle.laws.specs.Problem.{Problem}
 use Rattle.laws.specs.Standing.{start}
-use Rattle.laws.specs.Step.{Kind, Root, Sum, Zero, Product, Digits, Step, met, replay, accepted}
-use Rattle.laws.specs.Solver.{kindNumber}
-use Rattle.derivation.specs.Steps.{kindOf, stepStart, stepAt, stepsFrom, stepsOf}
+use Rattle.laws.specs.Step.{Kind, Root, Sum, Zero, Product, Digits, kindNumber, Step, replay, accepted}
+use Rattle.derivation.specs.Steps.{stepsMost, numbered, kindOf, stepStart, stepAt, readStep, stepsFrom, stepsOf}
 use Rattle.derivation.specs.Call.{Accepted, lastOf}
 use Rattle.derivation.specs.Encoded.{low, high, stepBytes, stepsBytes, encoded}
 use Rattle.derivation.proofs.Walks.{steps-known}
@@ -24,8 +23,9 @@ use Rattle.derivation.proofs.Exact.{Lists, lists-accepted}
 low-high : (x : ℕ) → low x + 256 * high x ≡ x
 low-high x = omega (arith, div-add-mod' x 256)
 
-kind-numbered : (q : Kind) → kindOf (kindNumber q) ≡ some q
-unfolding kindOf
+-- each kind is found by its number
+pub kind-numbered : (q : Kind) → kindOf (kindNumber q) ≡ some q
+unfolding kindOf numbered
 kind-numbered Root = refl
 kind-numbered Sum = refl
 kind-numbered Zero = refl
@@ -60,6 +60,10 @@ module _ (d : List ℕ) where
         ∙ ap (λ (s : ℕ). record { kind = x .kind; target = x .target; constraint = s; reference = u16At d (stepStart k + 5) }) con
         ∙ ap (λ (s : ℕ). record { kind = x .kind; target = x .target; constraint = x .constraint; reference = s }) r
 
+    known : readStep d k ≡ some x
+    unfolding readStep
+    known = rw kind-read (ap some step-read)
+
     rest-read : drop (stepStart (suc k)) d ≡ rest
     unfolding stepStart stepBytes
     rest-read =
@@ -70,11 +74,11 @@ module _ (d : List ℕ) where
   unfolding stepsFrom stepsBytes
   steps-listed k [] e = refl
   steps-listed k (x ∷ xs) e =
-      steps-known d k (length xs) (kind-read k x (stepsBytes xs) e)
-      ∙ rw (step-read k x (stepsBytes xs) e, steps-listed (suc k) xs (rest-read k x (stepsBytes xs) e))
+      steps-known d k (length xs) (known k x (stepsBytes xs) e)
+      ∙ ap (λ (ys : List Step). x ∷ ys) (steps-listed (suc k) xs (rest-read k x (stepsBytes xs) e))
 
 pub encoded-lists : (xs : List Step) → Lists (encoded xs) xs
-unfolding encoded marked u16At byteAt stepsOf stepStart
+unfolding encoded hasMark u16At byteAt stepsOf stepStart
 encoded-lists xs =
     record {
       mark = refl;
@@ -85,6 +89,6 @@ encoded-lists xs =
     }
 
 -- steps that are accepted, written as bytes, are an accepted derivation that leads where they lead
-pub encoded-accepted : (C : Circuit) (xs : List Step) → length xs ≤ 4096 → accepted C (start C) xs ≡ true
-    → Accepted C (encoded xs) × (lastOf C (encoded xs) ≡ replay C (start C) xs)
-encoded-accepted C xs few met = lists-accepted C (encoded xs) xs (encoded-lists xs) few met
+pub encoded-accepted : (P : Problem) (xs : List Step) → length xs ≤ stepsMost → accepted P (start P) xs ≡ true
+    → Accepted P (encoded xs) × (lastOf P (encoded xs) ≡ replay P (start P) xs)
+encoded-accepted P xs few met = lists-accepted P (encoded xs) xs (encoded-lists xs) few met

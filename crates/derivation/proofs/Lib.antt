@@ -2,7 +2,8 @@ pub mod Walks
 pub mod Exact
 pub mod Sound
 pub mod Encoding
-pub mod OffsetLaws
+pub mod Written
 pub mod MarkLaws
+pub mod KindLaws
 pub mod StepLaws
 pub mod CallLaws

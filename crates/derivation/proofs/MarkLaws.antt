@@ -25,6 +25,14 @@ unfolding total
 total-more [] x = omega arith
 total-more (y ∷ xs) x = omega (arith, total-more xs x)
 
+-- s of the marks of m are written and counted
+pub record Written (m : ℕ → Bool) (out₀ : List ℕ) (end : ℕ) (out : List ℕ) (count s : ℕ) : Type 0 where
+  pub most : s ≤ end
+  pub room : length out ≡ length out₀
+  pub few : count ≤ s
+  pub counted : count ≡ total (marksFrom m 0 s)
+  pub written : out ≡ marksFrom m 0 s ++ drop s out₀
+
 module _ (m : ℕ → Bool) (s : ℕ) where
   next-mark : marksFrom m 0 (s + 1) ≡ marksFrom m 0 s ++ (bit (m (s + 1)) ∷ [])
   next-mark = ap (marksFrom m 0) (add-one s) ∙ marks-more m 0 s ∙ ap (λ (t : ℕ). marksFrom m 0 s ++ (bit (m t) ∷ [])) (omega arith)

@@ -8,12 +8,14 @@ use lib.ListN.{length, drop, getD, List·getD-append}
 use Rattle.circuit.specs.Circuit.{Circuit, Satisfying}
 use Rattle.circuit.specs.Reading.{whole}
 use Rattle.circuit.specs.Reader.{readCircuit}
+use Rattle.circuit.specs.Answer.{given}
 use Rattle.circuit.proofs.WellFormed.{read-well-formed}
-use Rattle.laws.specs.Standing.{Standing, start}
+use Rattle.laws.specs.Problem.{problem}
+use Rattle.laws.specs.Standing.{Standing}
 use Rattle.laws.specs.Sound.{Sound}
-use Rattle.laws.proofs.Sound.{sound, start-sound}
+use Rattle.laws.proofs.Plain.{accepted-sound}
 use Rattle.derivation.specs.Steps.{stepsOf}
-use Rattle.derivation.specs.Call.{Verdict, accepted, bit, marksFrom, marksOf, derivationOn, derivationCall, lastOf, derivationMarks}
+use Rattle.derivation.specs.Call.{Judgement, bit, marksFrom, marksOf, derivationOn, derivationCall, lastOf, derivationMarks}
 use Rattle.derivation.specs.Exact.{SoundCall}
 use Rattle.derivation.proofs.Exact.{derivation-accepted, call-on}
 
@@ -42,25 +44,24 @@ bit-one true e = refl
 bit-one false e = absurd (omega arith)
 
 -- what the call leaves where it accepts
-pub marks-left : (c d marks : List ℕ) {C : Circuit} {size count : ℕ} {verdict : Verdict} → readCircuit c ≡ whole C size
-    → derivationOn C d (length marks) ≡ accepted count verdict → derivationMarks c d marks ≡ marksOf (C .n) (lastOf C d) ++ drop (C .n) marks
+pub marks-left : (c d marks : List ℕ) {C : Circuit} {size : ℕ} {judgement : Judgement} → readCircuit c ≡ whole C size
+    → derivationOn (problem C) d (length marks) ≡ given judgement
+    → derivationMarks c d marks ≡ marksOf (C .n) (lastOf (problem C) d) ++ drop (C .n) marks
 unfolding derivationMarks
 marks-left c d marks e h = rw (e, h)
 
 -- an accepted derivation leads to a sound standing
-pub last-sound : (c d : List ℕ) (C : Circuit) (size room : ℕ) {count : ℕ} {verdict : Verdict} → readCircuit c ≡ whole C size
-    → derivationOn C d room ≡ accepted count verdict → Sound C (Satisfying C) (lastOf C d)
+pub last-sound : (c d : List ℕ) (C : Circuit) (size room : ℕ) {judgement : Judgement} → readCircuit c ≡ whole C size
+    → derivationOn (problem C) d room ≡ given judgement → Sound (problem C) (Satisfying C) (lastOf (problem C) d)
 unfolding lastOf
-last-sound c d C size room e h =
-    let W = read-well-formed c C size e in
-    sound W (λ run a. a) (start C) (start-sound W (λ run a. a)) (stepsOf d) (derivation-accepted C d room h .met)
+last-sound c d C size room e h = accepted-sound (read-well-formed c C size e) (stepsOf d) (derivation-accepted (problem C) d room h .met)
 
 pub sound-call : (c d marks : List ℕ) → SoundCall c d (derivationCall c d (length marks)) (derivationMarks c d marks)
-sound-call c d marks C size count verdict e h =
-    let on : derivationOn C d (length marks) ≡ accepted count verdict = sym (call-on c d (length marks) e) ∙ h in
+sound-call c d marks C size judgement e h =
+    let on : derivationOn (problem C) d (length marks) ≡ given judgement = sym (call-on c d (length marks) e) ∙ h in
     let H = last-sound c d C size (length marks) e on in
-    let at : (s : ℕ) → 1 ≤ s → s ≤ C .n → getD (derivationMarks c d marks) (s - 1) 0 ≡ bit (lastOf C d .marked s)
-    = λ s l m. rw (marks-left c d marks e on) (marks-at (C .n) (lastOf C d) (drop (C .n) marks) s l m) in
+    let at : (s : ℕ) → 1 ≤ s → s ≤ C .n → getD (derivationMarks c d marks) (s - 1) 0 ≡ bit (lastOf (problem C) d .marked s)
+    = λ s l m. rw (marks-left c d marks e on) (marks-at (C .n) (lastOf (problem C) d) (drop (C .n) marks) s l m) in
     record {
       written = at;
       bounded = H .bounded;

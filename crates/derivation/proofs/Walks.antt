@@ -1,99 +1,115 @@
 -- Walks over a derivation's bytes against the derivation as a list of steps.
 use Prim.Native.Nat.{ℕ, zero, suc, _≤_}
 use mathlib.Core.Path.{_≡_, refl, ap}
-use mathlib.Core.Bool.{Bool, true, false, _&&_}
+use mathlib.Core.Bool.{Bool, true, false}
 use mathlib.Core.List.{List, _∷_}
 use mathlib.Core.Option.{Option, none, some}
 use native.Mathlib.Omega.{arith}
 use lib.ListN.{length}
-use Rattle.circuit.specs.Bytes.{byteAt}
-use Rattle.circuit.specs.Circuit.{Circuit}
+use Rattle.circuit.specs.Answer.{Answer, refused, given, ask, andThen}
+use Rattle.laws.specs.Problem.{Problem}
 use Rattle.laws.specs.Standing.{Standing}
-use Rattle.laws.specs.Step.{Kind, Step, inRange, met, after, replay, accepted}
+use Rattle.laws.specs.Step.{Step, inRange, met, after, replay, fits, accepted}
 use Rattle.laws.proofs.Sum.{and-left, and-right, and-both}
-use Rattle.derivation.specs.Steps.{kindOf, stepStart, stepAt, Walk, ended, demand, tried, walkFrom, listed, stepsFrom}
+use Rattle.laws.proofs.Optimum.{fits-says, fits-holds}
+use Rattle.derivation.specs.Steps.{readStep, tried, walkFrom, listed, stepsFrom}
 
-pub demand-ended : (b : Bool) (number place : ℕ) (w : Walk) {S : Standing} → demand b number place w ≡ ended S → (b ≡ true) × (w ≡ ended S)
-demand-ended true number place w e = (refl, e)
-demand-ended false number place w e = let z : _≡_ {A = ℕ} 0 1 = cc in absurd (omega arith)
+-- Chains
 
--- a step of a walk that comes to its end
-record Taken (C : Circuit) (S : Standing) (d : List ℕ) (k : ℕ) (o : Option Kind) (on : Standing → Walk) (S′ : Standing) : Type 0 where
-  kind : Kind
-  known : o ≡ some kind
-  ranged : inRange C (stepAt kind d k) ≡ true
-  meets : met C S (stepAt kind d k) ≡ true
-  rest : on (after C S (stepAt kind d k)) ≡ ended S′
+pub ask-given : {A : Type 0} (b : Bool) (number place : ℕ) (r : Answer A) {x : A} → ask b number place r ≡ given x → (b ≡ true) × (r ≡ given x)
+ask-given true number place r e = (refl, e)
+ask-given false number place r e = let z : _≡_ {A = ℕ} 0 1 = cc in absurd (omega arith)
 
-tried-ended : (C : Circuit) (S : Standing) (d : List ℕ) (k : ℕ) (o : Option Kind) (on : Standing → Walk) {S′ : Standing}
-    → tried C S d k o on ≡ ended S′ → Taken C S d k o on S′
-tried-ended C S d k none on e = let z : _≡_ {A = ℕ} 0 1 = cc in absurd (omega arith)
-tried-ended C S d k (some q) on e =
-    let range = demand-ended (inRange C (stepAt q d k)) 16 (suc k) _ e in
-    let rule = demand-ended (met C S (stepAt q d k)) 17 (suc k) _ (range .1) in
-    record { kind = q; known = refl; ranged = range .0; meets = rule .0; rest = rule .1 }
+pub record Came {A B : Type 0} (r : Answer A) (f : A → Answer B) (y : B) : Type 0 where
+  pub result : A
+  pub first : r ≡ given result
+  pub then : f result ≡ given y
 
-pub steps-known : (d : List ℕ) (k left : ℕ) {q : Kind} → kindOf (byteAt d (stepStart k)) ≡ some q
-    → stepsFrom d k (suc left) ≡ stepAt q d k ∷ stepsFrom d (suc k) left
+pub next-given : {A B : Type 0} (r : Answer A) (f : A → Answer B) {y : B} → andThen r f ≡ given y → Came r f y
+next-given (refused number place) f e = let z : _≡_ {A = ℕ} 0 1 = cc in absurd (omega arith)
+next-given (given x) f e = record { result = x; first = refl; then = e }
+
+-- One step
+
+-- a step that isn't refused
+record Taken (P : Problem) (S : Standing) (o : Option Step) (S′ : Standing) : Type 0 where
+  step : Step
+  known : o ≡ some step
+  fit : fits P S step ≡ true
+  gives : after P S step ≡ S′
+
+tried-given : (P : Problem) (S : Standing) (o : Option Step) (place : ℕ) {S′ : Standing} → tried P S o place ≡ given S′ → Taken P S o S′
+tried-given P S none place e = let z : _≡_ {A = ℕ} 0 1 = cc in absurd (omega arith)
+tried-given P S (some x) place e =
+    let range = ask-given (inRange P x) 16 place _ e in
+    let rule = ask-given (met P S x) 17 place _ (range .1) in
+    record { step = x; known = refl; fit = fits-holds P S x (range .0) (rule .0); gives = cc }
+
+tried-fits : (P : Problem) (S : Standing) (x : Step) (place : ℕ) → fits P S x ≡ true → tried P S (some x) place ≡ given (after P S x)
+tried-fits P S x place e = let f = fits-says P S x e in rw (f .0, f .1)
+
+pub steps-known : (d : List ℕ) (k left : ℕ) {x : Step} → readStep d k ≡ some x → stepsFrom d k (suc left) ≡ x ∷ stepsFrom d (suc k) left
 unfolding stepsFrom
 steps-known d k left e = rw e
 
-steps-unknown : (d : List ℕ) (k left : ℕ) → kindOf (byteAt d (stepStart k)) ≡ none → stepsFrom d k (suc left) ≡ stepsFrom d (suc k) left
+steps-unknown : (d : List ℕ) (k left : ℕ) → readStep d k ≡ none → stepsFrom d k (suc left) ≡ stepsFrom d (suc k) left
 unfolding stepsFrom
 steps-unknown d k left e = rw e
 
+-- All steps
+
 -- a walk that comes to its end has taken each of its steps, all of known kinds
-pub record Walked (C : Circuit) (S : Standing) (d : List ℕ) (k left : ℕ) (S′ : Standing) : Type 0 where
-  pub accepts : accepted C S (stepsFrom d k left) ≡ true
-  pub leads : replay C S (stepsFrom d k left) ≡ S′
+pub record Walked (P : Problem) (S : Standing) (d : List ℕ) (k left : ℕ) (S′ : Standing) : Type 0 where
+  pub accepts : accepted P S (stepsFrom d k left) ≡ true
+  pub leads : replay P S (stepsFrom d k left) ≡ S′
   pub counted : length (stepsFrom d k left) ≡ left
 
-pub walk-accepted : (C : Circuit) (d : List ℕ) (k left : ℕ) (S S′ : Standing) → walkFrom C d k left S ≡ ended S′ → Walked C S d k left S′
+pub walk-accepted : (P : Problem) (d : List ℕ) (k left : ℕ) (S S′ : Standing) → walkFrom P d k left S ≡ given S′ → Walked P S d k left S′
 unfolding walkFrom accepted replay stepsFrom
-walk-accepted C d k zero S S′ e = record { accepts = refl; leads = cc; counted = refl }
-walk-accepted C d k (suc left) S S′ e =
-    let T = tried-ended C S d k (kindOf (byteAt d (stepStart k))) (walkFrom C d (suc k) left) e in
-    let x = stepAt (T .kind) d k in
-    let W = walk-accepted C d (suc k) left (after C S x) S′ (T .rest) in
+walk-accepted P d k zero S S′ e = record { accepts = refl; leads = cc; counted = refl }
+walk-accepted P d k (suc left) S S′ e =
+    let N = next-given (tried P S (readStep d k) (suc k)) (walkFrom P d (suc k) left) e in
+    let T = tried-given P S (readStep d k) (suc k) (N .first) in
+    let x = T .step in
+    let W = walk-accepted P d (suc k) left (after P S x) S′ (rw (T .gives) (N .then)) in
     let is = steps-known d k left (T .known) in
     record {
-      accepts = rw is (and-both (inRange C x && met C S x) _ (and-both (inRange C x) _ (T .ranged) (T .meets)) (W .accepts));
+      accepts = rw is (and-both (fits P S x) _ (T .fit) (W .accepts));
       leads = rw is (W .leads);
       counted = rw is (ap suc (W .counted));
     }
 
-listed-most : (o : Option Kind) (d : List ℕ) (k : ℕ) (rest : List Step) (left : ℕ) → length rest ≤ left → length (listed o d k rest) ≤ suc left
-listed-most none d k rest left h = omega arith
-listed-most (some q) d k rest left h = omega arith
+listed-most : (o : Option Step) (rest : List Step) (left : ℕ) → length rest ≤ left → length (listed o rest) ≤ suc left
+listed-most none rest left h = omega arith
+listed-most (some x) rest left h = omega arith
 
 steps-most : (d : List ℕ) (k left : ℕ) → length (stepsFrom d k left) ≤ left
 unfolding stepsFrom
 steps-most d k zero = omega arith
-steps-most d k (suc left) = listed-most (kindOf (byteAt d (stepStart k))) d k _ left (steps-most d (suc k) left)
+steps-most d k (suc left) = listed-most (readStep d k) _ left (steps-most d (suc k) left)
 
 -- as many steps as are read, so the first has a known kind
 record First (d : List ℕ) (k left : ℕ) : Type 0 where
-  kind : Kind
-  known : kindOf (byteAt d (stepStart k)) ≡ some kind
+  step : Step
+  known : readStep d k ≡ some step
   counted : length (stepsFrom d (suc k) left) ≡ left
 
 first-known : (d : List ℕ) (k left : ℕ) → length (stepsFrom d k (suc left)) ≡ suc left → First d k left
-first-known d k left e = go (kindOf (byteAt d (stepStart k))) refl
+first-known d k left e = go (readStep d k) refl
   where
-    go : (o : Option Kind) → kindOf (byteAt d (stepStart k)) ≡ o → First d k left
+    go : (o : Option Step) → readStep d k ≡ o → First d k left
     go none h = absurd (omega (arith, ap length (steps-unknown d k left h), steps-most d (suc k) left))
-    go (some q) h = record { kind = q; known = h; counted = omega (arith, ap length (steps-known d k left h)) }
+    go (some x) h = record { step = x; known = h; counted = omega (arith, ap length (steps-known d k left h)) }
 
 -- where all kinds are known, steps that are accepted are walked to their end
-pub accepted-walk : (C : Circuit) (d : List ℕ) (k left : ℕ) (S : Standing) → length (stepsFrom d k left) ≡ left
-    → accepted C S (stepsFrom d k left) ≡ true → walkFrom C d k left S ≡ ended (replay C S (stepsFrom d k left))
+pub accepted-walk : (P : Problem) (d : List ℕ) (k left : ℕ) (S : Standing) → length (stepsFrom d k left) ≡ left
+    → accepted P S (stepsFrom d k left) ≡ true → walkFrom P d k left S ≡ given (replay P S (stepsFrom d k left))
 unfolding walkFrom accepted replay stepsFrom
-accepted-walk C d k zero S n e = refl
-accepted-walk C d k (suc left) S n e =
+accepted-walk P d k zero S n e = refl
+accepted-walk P d k (suc left) S n e =
     let F = first-known d k left n in
-    let x = stepAt (F .kind) d k in
+    let x = F .step in
     let is = steps-known d k left (F .known) in
-    let all : (inRange C x && met C S x && accepted C (after C S x) (stepsFrom d (suc k) left)) ≡ true = rw is at e in
-    let here = and-left (inRange C x && met C S x) _ all in
-    rw (is, F .known, and-left (inRange C x) _ here, and-right (inRange C x) _ here)
-    (accepted-walk C d (suc k) left (after C S x) (F .counted) (and-right (inRange C x && met C S x) _ all))
+    let all : accepted P S (x ∷ stepsFrom d (suc k) left) ≡ true = rw is at e in
+    rw (is, F .known, tried-fits P S x (suc k) (and-left (fits P S x) _ all))
+    (accepted-walk P d (suc k) left (after P S x) (F .counted) (and-right (fits P S x) _ all))

@@ -1,14 +1,15 @@
--- The answers of the code in document 01's numbers and values.
-use Rattle.derivation.specs.Call as paper
+-- The answers of the code as those of the definition.
+use Rattle.circuit.specs.Answer.{Answer, refused, given}
+use Rattle.derivation.specs.Call as call
 use Rattle.derivation.specs.declared.answer.Verdict.{Verdict}
 use Rattle.derivation.specs.declared.answer.Verdict.the-variants.{Fixed, Open}
 use Rattle.derivation.specs.declared.answer.DerivationAnswer.{DerivationAnswer}
 use Rattle.derivation.specs.declared.answer.DerivationAnswer.the-variants.{Refused, Accepted}
 
-abbrev pub verdictIn : Verdict → paper.Verdict
-verdictIn Fixed = paper.Fixed
-verdictIn Open = paper.Open
+abbrev pub verdictIn : Verdict → call.Verdict
+verdictIn Fixed = call.Fixed
+verdictIn Open = call.Open
 
-abbrev pub paperOf : DerivationAnswer → paper.DerivationResult
-paperOf (Refused number place) = paper.refused number place
-paperOf (Accepted count verdict) = paper.accepted count (verdictIn verdict)
+abbrev pub paperOf : DerivationAnswer → Answer call.Judgement
+paperOf (Refused number place) = refused number place
+paperOf (Accepted count verdict) = given (record { count = count; verdict = verdictIn verdict })

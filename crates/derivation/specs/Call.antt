@@ -1,4 +1,4 @@
--- The derivation call of document 01, on all bytes: its answer, and what it leaves in the lent buffer for marks.
+-- The derivation call on all bytes: its answer, and what it leaves in the lent buffer for marks.
 use Prim.Native.Nat.{ℕ, zero, suc, _+_, _*_}
 use mathlib.Core.Path.{_≡_}
 use mathlib.Core.Bool.{Bool, true, false}
@@ -8,27 +8,30 @@ use lib.ListN.{length, drop}
 use Rattle.circuit.specs.Bytes.{u16At}
 use Rattle.circuit.specs.Circuit.{Circuit}
 use Rattle.circuit.specs.Reading.{Reading, whole, fault}
-use Rattle.circuit.specs.Reader.{readCircuit, marked}
+use Rattle.circuit.specs.Reader.{readCircuit, derivationLetter, hasMark}
+use Rattle.circuit.specs.Answer.{Answer, refused, given, ask, andThen}
+use Rattle.circuit.specs.Call.{onCircuit}
 use Rattle.laws.specs.Sum.{all}
+use Rattle.laws.specs.Problem.{Problem, problem}
 use Rattle.laws.specs.Standing.{Standing, start}
 use Rattle.laws.specs.Step.{replay}
-use Rattle.derivation.specs.Steps.{Walk, stopped, ended, walkFrom, stepsOf}
+use Rattle.derivation.specs.Steps.{headSize, stepSize, stepsMost, walkFrom, stepsOf}
 
--- "fixed" if every output is marked, else "open"
+-- Rule 6.6: fixed where every output is marked, else open.
 pub data Verdict : Type 0 where
   Fixed Open : Verdict
 
--- a refusal's number and place, or how many signals are marked and the verdict
-pub data DerivationResult : Type 0 where
-  refused : ℕ → ℕ → DerivationResult
-  accepted : ℕ → Verdict → DerivationResult
+-- Rule 6.6: how many signals are marked, and the verdict.
+pub record Judgement : Type 0 where
+  pub count : ℕ
+  pub verdict : Verdict
 
 -- 1 for marked and 0 for not
 abbrev pub bit : Bool → ℕ
 bit true = 1
 bit false = 0
 
--- "n bytes, one for each signal from 1 to n in that order": those after signal s, `left` of them
+-- Rule 6.4: a byte for each signal; those of the signals after s, `left` of them
 unfoldable pub marksFrom : (ℕ → Bool) → ℕ → ℕ → List ℕ
 marksFrom marked s zero = []
 marksFrom marked s (suc left) = bit (marked (suc s)) ∷ marksFrom marked (suc s) left
@@ -36,7 +39,7 @@ marksFrom marked s (suc left) = bit (marked (suc s)) ∷ marksFrom marked (suc s
 unfoldable pub marksOf : ℕ → Standing → List ℕ
 marksOf n S = marksFrom (S .marked) 0 n
 
--- "how many are marked (inputs included)": counted from the bytes written
+-- how many are marked, inputs among them: counted from the bytes written
 unfoldable pub total : List ℕ → ℕ
 total [] = 0
 total (x ∷ xs) = x + total xs
@@ -49,58 +52,47 @@ abbrev pub verdictBy : Bool → Verdict
 verdictBy true = Fixed
 verdictBy false = Open
 
--- "fixed" if every output is marked
-unfoldable pub verdictOf : Circuit → Standing → Verdict
-verdictOf C S = verdictBy (all (C .o) (outputMarked (S .marked) (C .i)))
+unfoldable pub verdictOf : Problem → Standing → Verdict
+verdictOf P S = verdictBy (all (P .o) (outputMarked (S .marked) (P .i)))
 
-abbrev pub judged : Circuit → Walk → DerivationResult
-judged C (stopped number place) = refused number place
-judged C (ended S) = accepted (total (marksOf (C .n) S)) (verdictOf C S)
+-- Rule 6.6: what is answered of the standing after the last step.
+unfoldable pub judged : Problem → Standing → Judgement
+judged P S = record { count = total (marksOf (P .n) S); verdict = verdictOf P S }
 
-abbrev pub check : Bool → ℕ → DerivationResult → DerivationResult
-check true number r = r
-check false number r = refused number 0
-
--- refusals 11 to 14, and then r; room is the length of the lent buffer
-unfoldable pub headed : List ℕ → ℕ → ℕ → DerivationResult → DerivationResult
+-- Refusals 11 to 14, and then r; room is the length of the lent buffer.
+unfoldable pub headed : {A : Type 0} → List ℕ → ℕ → ℕ → Answer A → Answer A
 headed d n room r =
-    check (leb 7 (length d)) 11
-    (check (marked 68 d) 11
-    (check (eqb (u16At d 3) 1) 12
-    (check (leb (u16At d 5) 4096) 13 (check (eqb (length d) (7 + 7 * u16At d 5)) 13 (check (leb n room) 14 r)))))
+    ask (leb headSize (length d)) 11 0
+    (ask (hasMark derivationLetter d) 11 0
+    (ask (eqb (u16At d 3) 1) 12 0
+    (ask (leb (u16At d 5) stepsMost) 13 0 (ask (eqb (length d) (headSize + stepSize * u16At d 5)) 13 0 (ask (leb n room) 14 0 r)))))
 
--- refusals 11 to 17 on a circuit that isn't refused
-unfoldable pub derivationOn : Circuit → List ℕ → ℕ → DerivationResult
-derivationOn C d room = headed d (C .n) room (judged C (walkFrom C d 0 (u16At d 5) (start C)))
+-- Rule 6.6: the header, the steps, then the judgement; refusals 11 to 17.
+unfoldable pub derivationOn : Problem → List ℕ → ℕ → Answer Judgement
+derivationOn P d room = headed d (P .n) room (andThen (walkFrom P d 0 (u16At d 5) (start P)) (λ S. given (judged P S)))
 
-abbrev pub onCircuit : Reading Circuit → List ℕ → ℕ → DerivationResult
-onCircuit (whole C size) d room = derivationOn C d room
-onCircuit (fault number place) d room = refused number place
+-- The call's answer: the circuit first, refusals 1 to 10.
+unfoldable pub derivationCall : List ℕ → List ℕ → ℕ → Answer Judgement
+derivationCall c d room = onCircuit (readCircuit c) (λ C. derivationOn (problem C) d room)
 
--- the call's answer
-unfoldable pub derivationCall : List ℕ → List ℕ → ℕ → DerivationResult
-derivationCall c d room = onCircuit (readCircuit c) d room
+-- Rule 3.5: the standing after the last step, whose bounds and marks are those that the derivation reaches.
+unfoldable pub lastOf : Problem → List ℕ → Standing
+lastOf P d = replay P (start P) (stepsOf d)
 
--- "The bounds that a derivation reaches and the signals that it marks are those of the standing after its last step"
-unfoldable pub lastOf : Circuit → List ℕ → Standing
-lastOf C d = replay C (start C) (stepsOf d)
-
--- "An accepted derivation writes n bytes .. Later bytes don't change." "A refusal writes into no buffer"
-abbrev pub leftBy : DerivationResult → Circuit → List ℕ → List ℕ → List ℕ
-leftBy (refused number place) C d marks = marks
-leftBy (accepted count verdict) C d marks = marksOf (C .n) (lastOf C d) ++ drop (C .n) marks
+-- Rule 6.4: an accepted derivation writes a byte for each signal and leaves the bytes after them; a refusal writes nothing.
+abbrev pub leftBy : Answer Judgement → Problem → List ℕ → List ℕ → List ℕ
+leftBy (refused number place) P d marks = marks
+leftBy (given judgement) P d marks = marksOf (P .n) (lastOf P d) ++ drop (P .n) marks
 
 abbrev pub leftOn : Reading Circuit → List ℕ → List ℕ → List ℕ
-leftOn (whole C size) d marks = leftBy (derivationOn C d (length marks)) C d marks
+leftOn (whole C size) d marks = leftBy (derivationOn (problem C) d (length marks)) (problem C) d marks
 leftOn (fault number place) d marks = marks
 
 -- what the call leaves in the buffer that held `marks`
 unfoldable pub derivationMarks : List ℕ → List ℕ → List ℕ → List ℕ
 derivationMarks c d marks = leftOn (readCircuit c) d marks
 
--- "A derivation is accepted for such a circuit if the derivation call, given the two and a buffer for marks that is long enough,
--- meets none of its refusals"
-pub record Accepted (C : Circuit) (d : List ℕ) : Type 0 where
-  pub count : ℕ
-  pub verdict : Verdict
-  pub is : derivationOn C d (C .n) ≡ accepted count verdict
+-- Rule 3.6: the derivation call, with room for all marks, meets none of its refusals.
+pub record Accepted (P : Problem) (d : List ℕ) : Type 0 where
+  pub judgement : Judgement
+  pub is : derivationOn P d (P .n) ≡ given judgement

@@ -1,63 +1,71 @@
--- What the functions inside the call promise one another.
+-- How the functions inside the call run: what they promise one another, not what the call means.
 use Prim.Native.Nat.{ℕ}
 use mathlib.Core.Path.{_≡_}
-use mathlib.Core.Bool.{Bool}
 use mathlib.Core.List.{List, []}
 use mathlib.Core.Option.{Option, none, some}
-use Rattle.circuit.specs.Circuit.{Circuit, Constraint}
-use Rattle.circuit.specs.Reading.{Reading, whole, fault}
-use Rattle.circuit.specs.Reader.{readCircuit}
-use Rattle.laws.specs.Standing.{Standing, lower, mark}
-use Rattle.laws.specs.Rules.{reduced, rootMet, rootBound, sumMet, sumBound, zeroMet, productMet, digitsMet}
-use Rattle.laws.specs.Step.{Kind, Root, Sum, Zero, Product, Digits}
-use Rattle.rules.specs.Promise as promise
-use Rattle.derivation.specs.Steps.{Walk, stopped, ended}
-use Rattle.derivation.specs.Call.{DerivationResult, refused}
+use lib.ListN.{length}
+use Rattle.circuit.specs.Answer.{Answer, refused}
+use Rattle.circuit.specs.Call.{circuitOf}
+use Rattle.circuit.specs.Offsets.{partOf}
+use Rattle.laws.specs.Problem as laws
+use Rattle.laws.specs.Problem.{Problem}
+use Rattle.laws.specs.Standing as standing
+use Rattle.laws.specs.Step as step
+use Rattle.rules.specs.Promise.{subjectIn, kindOf}
+use Rattle.derivation.specs.Call.{Judgement, derivationCall, derivationMarks}
+use Rattle.derivation.specs.declared.kinds.KindByte.{KindByte}
+use Rattle.derivation.specs.declared.kinds.KindByte.the-variants.{Known, Unknown}
+use Rattle.derivation.specs.declared.kinds.Names.{Names}
+use Rattle.derivation.specs.declared.kinds.Names.the-variants.{Nothing, AConstraint}
+use Rattle.derivation.specs.declared.kinds.Range.{Range}
+use Rattle.derivation.specs.declared.kinds.Range.the-variants.{OnlyZero, FromOne}
+use Rattle.derivation.specs.declared.step.Step.{Step}
+use Rattle.derivation.specs.declared.step.StepBytes.{StepBytes}
+use Rattle.derivation.specs.declared.step.StepBytes.the-variants as bytes
 use Rattle.derivation.specs.declared.step.Way.{Way}
 use Rattle.derivation.specs.declared.step.Way.the-variants.{On, Stopped}
-use Rattle.derivation.specs.declared.step.KindByte.{KindByte}
-use Rattle.derivation.specs.declared.step.KindByte.the-variants.{Known, Unknown}
 
--- the circuit in the bytes
-abbrev pub readAs : Reading Circuit → Circuit
-readAs (whole C size) = C
-readAs (fault number place) = record { p = 0; n = 0; i = 0; o = 0; m = 0; constraints = [] }
+-- the circuit with any first bounds: no step looks at them but through the standing
+abbrev pub problemOf : List ℕ → (ℕ → ℕ) → Problem
+problemOf c first = laws.given (circuitOf c) first
 
-unfoldable pub circuitOf : List ℕ → Circuit
-circuitOf c = readAs (readCircuit c)
+-- The code's enums and structs as what they stand for
 
--- the bytes are a circuit that isn't refused, with these sizes
-pub record Sized (c : List ℕ) (p n m : ℕ) : Type 0 where
-  pub size : ℕ
-  pub read : readCircuit c ≡ whole (circuitOf c) size
-  pub is-p : p ≡ circuitOf c .p
-  pub is-n : n ≡ circuitOf c .n
-  pub is-m : m ≡ circuitOf c .m
-
-abbrev pub kindFound : KindByte → Option Kind
-kindFound (Known kind) = some (promise.kindOf kind)
+abbrev pub kindFound : KindByte → Option step.Kind
+kindFound (Known kind) = some (kindOf kind)
 kindFound Unknown = none
 
--- a rule over one constraint
-abbrev pub ruleMet : Kind → ℕ → ℕ → Constraint → Standing → ℕ → ℕ → Bool
-ruleMet Root p n K S t r = rootMet K t
-ruleMet Sum p n K S t r = sumMet p n K S t
-ruleMet Zero p n K S t r = zeroMet S t
-ruleMet Product p n K S t r = productMet K S t
-ruleMet Digits p n K S t r = digitsMet p n K S t r
+abbrev pub namesIn : Names → laws.Names
+namesIn Nothing = laws.nothing
+namesIn AConstraint = laws.aConstraint
 
-abbrev pub ruleGives : Kind → ℕ → ℕ → Constraint → Standing → ℕ → Standing
-ruleGives Root p n K S t = lower S t (rootBound p K t)
-ruleGives Sum p n K S t = lower S t (sumBound p n (reduced p K) S t)
-ruleGives Zero p n K S t = mark S t
-ruleGives Product p n K S t = mark S t
-ruleGives Digits p n K S t = mark S t
+abbrev pub rangeIn : Range → step.Range
+rangeIn OnlyZero = step.only-zero
+rangeIn (FromOne most) = step.from-one most
 
--- where steps lead: on to a standing, or to a refusal
-abbrev pub walkBy : Way → Standing → Walk
-walkBy On S = ended S
-walkBy (Stopped number place) S = stopped number place
+abbrev pub stepIn : Step → step.Step
+stepIn x = record { kind = kindOf (x .kind); target = x .target; constraint = x .constraint; reference = x .reference }
 
-abbrev pub answerBy : Way → DerivationResult → DerivationResult
-answerBy On r = r
-answerBy (Stopped number place) r = refused number place
+abbrev pub stepFound : StepBytes → Option step.Step
+stepFound (bytes.Known x) = some (stepIn x)
+stepFound bytes.Unknown = none
+
+-- go on with r, or stopped by a refusal
+abbrev pub byWay : {A : Type 0} → Way → Answer A → Answer A
+byWay On r = r
+byWay (Stopped number place) r = refused number place
+
+-- the call's answer, and what it leaves in the buffer that held `marks`
+pub record Answers (c d marks : List ℕ) (r : Answer Judgement) (left : List ℕ) : Type 0 where
+  pub answer : r ≡ derivationCall c d (length marks)
+  pub written : left ≡ derivationMarks c d marks
+
+-- the part of the circuit bytes that a step looks at, by what its constraint field names
+abbrev pub partNamed : laws.Names → List ℕ → List ℕ → ℕ → List ℕ
+partNamed laws.nothing c table k = []
+partNamed laws.aConstraint c table k = partOf c table k
+
+-- a step's rule, over that part
+unfoldable pub ruleIn : ℕ → ℕ → List ℕ → List ℕ → standing.Standing → step.Step → step.Rule
+ruleIn p n c table S x =
+    step.rule (x .kind) (subjectIn p n (partNamed (step.namesOf (x .kind)) c table (x .constraint))) S (x .target) (x .reference)

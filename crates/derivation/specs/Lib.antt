@@ -2,6 +2,5 @@ pub mod Steps
 pub mod Call
 pub mod Exact
 pub mod Answer
-pub mod Offsets
 pub mod Encoded
 pub mod Inner

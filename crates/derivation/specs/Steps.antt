@@ -1,24 +1,39 @@
 -- A derivation's steps, read from its bytes and taken one after the other: refusals 15 to 17, each step checked in full before the next.
 use Prim.Native.Nat.{ℕ, zero, suc, _+_, _*_}
-use mathlib.Core.Bool.{Bool, true, false, cond}
+use mathlib.Core.Bool.{cond}
 use mathlib.Core.List.{List, [], _∷_}
 use mathlib.Core.Option.{Option, none, some}
 use lib.Dec.{eqb}
 use Rattle.circuit.specs.Bytes.{byteAt, u16At}
-use Rattle.circuit.specs.Circuit.{Circuit}
+use Rattle.circuit.specs.Answer.{Answer, refused, given, ask, andThen}
+use Rattle.laws.specs.Problem.{Problem}
 use Rattle.laws.specs.Standing.{Standing}
-use Rattle.laws.specs.Step.{Kind, Root, Sum, Zero, Product, Digits, Step, inRange, met, after}
+use Rattle.laws.specs.Step.{Kind, kinds, kindNumber, Step, inRange, met, after}
 
--- "Kinds: 1 root, 2 sum, 3 zero, 4 product, 5 digits."
+-- the first of the kinds that has a number
+unfoldable pub numbered : List Kind → ℕ → Option Kind
+numbered [] x = none
+numbered (q ∷ qs) x = cond (eqb x (kindNumber q)) (some q) (numbered qs x)
+
+-- Rule 2.2: the kind with a number, by the table of kinds.
 unfoldable pub kindOf : ℕ → Option Kind
-kindOf x =
-    cond (eqb x 1) (some Root)
-    (cond (eqb x 2) (some Sum) (cond (eqb x 3) (some Zero) (cond (eqb x 4) (some Product) (cond (eqb x 5) (some Digits) none))))
+kindOf x = numbered kinds x
 
--- "s steps of 7 bytes: kind (one byte), target, constraint (from 1), reference (16 bits each)", after the header's 7 bytes; k from 0
+-- Rule 2.1: the sizes of a derivation
+abbrev pub headSize : ℕ
+headSize = 7
+
+abbrev pub stepSize : ℕ
+stepSize = 7
+
+abbrev pub stepsMost : ℕ
+stepsMost = 4096
+
+-- where step k starts, counted from 0; with k the number of steps, where the derivation ends
 unfoldable pub stepStart : ℕ → ℕ
-stepStart k = 7 + 7 * k
+stepStart k = headSize + stepSize * k
 
+-- Rule 2.2: the fields of a step.
 unfoldable pub stepAt : Kind → List ℕ → ℕ → Step
 stepAt q d k =
     record {
@@ -28,36 +43,32 @@ stepAt q d k =
       reference = u16At d (stepStart k + 5);
     }
 
--- what steps lead to: a refusal's number and the step's, or the last standing
-pub data Walk : Type 0 where
-  stopped : ℕ → ℕ → Walk
-  ended : Standing → Walk
+abbrev pub ofKind : Option Kind → List ℕ → ℕ → Option Step
+ofKind none d k = none
+ofKind (some q) d k = some (stepAt q d k)
 
--- go on where the test holds, else stop with the number at the place
-abbrev pub demand : Bool → ℕ → ℕ → Walk → Walk
-demand true number place w = w
-demand false number place w = stopped number place
+-- step k, where its kind is known
+unfoldable pub readStep : List ℕ → ℕ → Option Step
+readStep d k = ofKind (kindOf (byteAt d (stepStart k))) d k
 
--- "A step's kind isn't 1 to 5 .. A field is out of range or not 0 where it must be .. The rule isn't met": 15, 16, 17
-abbrev pub tried : Circuit → Standing → List ℕ → ℕ → Option Kind → (Standing → Walk) → Walk
-tried C S d k none on = stopped 15 (suc k)
-tried C S d k (some q) on =
-    demand (inRange C (stepAt q d k)) 16 (suc k)
-    (demand (met C S (stepAt q d k)) 17 (suc k) (on (after C S (stepAt q d k))))
+-- Rules 3.3 and 3.4: one step, refused with 15, 16 or 17, or the standing that it gives.
+abbrev pub tried : Problem → Standing → Option Step → ℕ → Answer Standing
+tried P S none place = refused 15 place
+tried P S (some x) place = ask (inRange P x) 16 place (ask (met P S x) 17 place (given (after P S x)))
 
--- the steps from k (counted from 0) on, `left` of them
-unfoldable pub walkFrom : Circuit → List ℕ → ℕ → ℕ → Standing → Walk
-walkFrom C d k zero S = ended S
-walkFrom C d k (suc left) S = tried C S d k (kindOf (byteAt d (stepStart k))) (walkFrom C d (suc k) left)
+-- Rule 3.5: the steps from k (counted from 0) on, `left` of them, each taken on what the one before it gave.
+unfoldable pub walkFrom : Problem → List ℕ → ℕ → ℕ → Standing → Answer Standing
+walkFrom P d k zero S = given S
+walkFrom P d k (suc left) S = andThen (tried P S (readStep d k) (suc k)) (walkFrom P d (suc k) left)
 
 -- the same steps as a list, those of an unknown kind left out
-abbrev pub listed : Option Kind → List ℕ → ℕ → List Step → List Step
-listed none d k rest = rest
-listed (some q) d k rest = stepAt q d k ∷ rest
+abbrev pub listed : Option Step → List Step → List Step
+listed none rest = rest
+listed (some x) rest = x ∷ rest
 
 unfoldable pub stepsFrom : List ℕ → ℕ → ℕ → List Step
 stepsFrom d k zero = []
-stepsFrom d k (suc left) = listed (kindOf (byteAt d (stepStart k))) d k (stepsFrom d (suc k) left)
+stepsFrom d k (suc left) = listed (readStep d k) (stepsFrom d (suc k) left)
 
 -- the steps of a derivation
 unfoldable pub stepsOf : List ℕ → List Step

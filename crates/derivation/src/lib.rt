@@ -1,7 +1,8 @@
-// The derivation call: where constraints stand, the steps, the marks written, and the whole.
+// The derivation call: the steps read and taken, the marks written, and the whole; and a writer of derivations.
 
 pub mod answer;
 pub mod call;
+mod kinds;
 pub mod marks;
-pub mod offsets;
-pub mod step;
+mod step;
+pub mod writer;

@@ -1,15 +1,20 @@
 // What an accepted derivation hands over: the marks, written and counted, and the verdict.
 
+use crate::answer::DerivationAnswer;
 use crate::answer::Verdict;
+use circuit::reader::Sizes;
+use rules::standing::Standing;
 use rules::view::mark_at;
 ghost use mathlib.Core.Path.{_≡_};
 ghost use mathlib.Core.List.{_++_};
 ghost use Prim.Native.Nat.{_+_, _≤_, _<_};
 ghost use lib.ListN.{length, drop};
+ghost use Rattle.circuit.specs.Reader.{signalsMost};
+ghost use Rattle.circuit.specs.Answer.{given};
 ghost use Rattle.laws.specs.Sum.{all};
 ghost use Rattle.rules.specs.View.{markIn};
 ghost use Rattle.derivation.specs.Call.{bit, marksFrom, total, outputMarked, verdictBy};
-ghost use Rattle.derivation.specs.Answer.{verdictIn};
+ghost use Rattle.derivation.specs.Answer.{verdictIn, paperOf};
 
 // 1 for marked and 0 for not.
 fn bit_of(marked: bool) -> u8
@@ -50,4 +55,20 @@ pub fn verdict_of(marks: &[bool], i: u32, o: u32) -> Verdict
         j = j + 1;
     }
     Verdict::Fixed
+}
+
+// What is answered and written of the standing after the last step.
+pub(crate) fn hand_over(last: Standing, marks: &mut [u8], sizes: Sizes) -> DerivationAnswer
+    requires { ⌜ (sizes .n ≤ signalsMost) × (sizes .n ≤ length (now marks)) ⌝ }
+    ensures answer { λ r. ⌜ paperOf r
+        ≡ given (record {
+          count = total (marksFrom (markIn (last .marks)) 0 (sizes .n));
+          verdict = verdictBy (all (sizes .o) (outputMarked (markIn (last .marks)) (sizes .i)));
+        }) ⌝ }
+    ensures written { λ r. ⌜ now (marks .exit) ≡ marksFrom (markIn (last .marks)) 0 (sizes .n) ++ drop (sizes .n) (now (marks .entry)) ⌝ }
+{
+    let marked = last.marks;
+    let count = write_marks(marks, &marked, sizes.n);
+    let verdict = verdict_of(&marked, sizes.i, sizes.o);
+    DerivationAnswer::Accepted { count, verdict }
 }

@@ -6,12 +6,13 @@ use mathlib.Core.Option.{Option, none, some}
 use native.Mathlib.Omega.{arith}
 use native.Mathlib.Decide.{ℕ-discrete}
 use lib.Dec.{ltb, eqb}
-use borrow.Author.Tests.{ltb-true, ltb-false, lt-ltb, le-ltb, eq-eqb, ne-eqb, eqb-true}
-use Rattle.circuit.specs.Circuit.{Circuit}
-use Rattle.laws.specs.Standing.{Standing}
-use Rattle.laws.specs.Step.{Kind, Root, Sum, Zero, Product, Digits, Step, within, fields, inRange, met}
+use borrow.Author.Tests.{ltb-true, ltb-false, le-ltb, eq-eqb, ne-eqb, eqb-true, lt-leb, leb-false}
+use Rattle.laws.specs.Problem.{Problem, Subject, subject}
+use Rattle.laws.specs.Standing.{Standing, Change, atMost, fixed, idle, bounds, value}
+use Rattle.laws.specs.Step.{namesOf, Kind, Root, Sum, Zero, Product, Digits, Step, within, inside, constraints, references, rule, ruleOf, inRange, met, change, adds}
 use Rattle.laws.specs.Solver.{
   step,
+  addsBy,
   newBound,
   lowers,
   firstBy,
@@ -33,7 +34,8 @@ use Rattle.laws.proofs.Sum.{
   true-or-false,
   false-by,
 }
-use Rattle.laws.proofs.Turns.{within-says, target-within, fields-fit}
+use Rattle.laws.proofs.Turns.{within-says, target-within, adds-says, adds-holds}
+use Rattle.laws.proofs.Optimum.{fits-says, fits-holds}
 
 -- The order by several keys
 
@@ -75,48 +77,79 @@ ltb-trans a b c e f = le-ltb c a (omega (arith, ltb-false b a e, ltb-false c b f
 
 -- A step that lowers a bound
 
-pub record Lowering (C : Circuit) (S : Standing) (x : Step) : Type 0 where
-  pub in-range : inRange C x ≡ true
-  pub is-met : met C S x ≡ true
-  pub less : newBound C S x < S .bound (x .target)
+pub record Lowering (P : Problem) (S : Standing) (x : Step) : Type 0 where
+  pub in-range : inRange P x ≡ true
+  pub is-met : met P S x ≡ true
+  pub is-bound : bounds (change P S x) ≡ true
+  pub less : newBound P S x < S .bound (x .target)
 
 -- the kinds that give bounds
 pub data Bounding : Kind → Type 0 where
   by-root : Bounding Root
   by-sum : Bounding Sum
 
-module _ (C : Circuit) (S : Standing) where
-  pub lowers-says : (x : Step) → lowers C S x ≡ true → Lowering C S x
-  unfolding lowers
+-- what each kind gives
+pub data Sorted : Kind → Change → Type 0 where
+  root : {x : ℕ} → Sorted Root (atMost x)
+  sum : {x : ℕ} → Sorted Sum (atMost x)
+  marker : {q : Kind} → Sorted q fixed
+
+pub sorted : (q : Kind) (J : Subject) (S : Standing) (t r : ℕ) → Sorted q (rule q J S t r .change)
+sorted Root J S t r = root
+sorted Sum J S t r = sum
+sorted Zero J S t r = marker
+sorted Product J S t r = marker
+sorted Digits J S t r = marker
+
+pub bounding : {q : Kind} {c : Change} → Sorted q c → bounds c ≡ true → Bounding q
+bounding root e = by-root
+bounding sum e = by-sum
+bounding marker e = true-or-false false e refl
+
+busy-less : (c : Change) (S : Standing) (t : ℕ) → bounds c ≡ true → idle c S t ≡ false → value c < S .bound t
+busy-less (atMost x) S t e i = leb-false (S .bound t) x i
+busy-less fixed S t e i = true-or-false false e refl
+
+less-busy : (c : Change) (S : Standing) (t : ℕ) → bounds c ≡ true → value c < S .bound t → idle c S t ≡ false
+less-busy (atMost x) S t e l = lt-leb (S .bound t) x l
+less-busy fixed S t e l = true-or-false false e refl
+
+module _ (P : Problem) (S : Standing) where
+  pub lowers-says : (x : Step) → lowers P S x ≡ true → Lowering P S x
+  unfolding addsBy newBound
   lowers-says x e =
-      let less = ltb (newBound C S x) (S .bound (x .target)) in
-      let both = and-left (inRange C x && met C S x) less e in
-      record {
-        in-range = and-left (inRange C x) (met C S x) both;
-        is-met = and-right (inRange C x) (met C S x) both;
-        less = ltb-true _ _ (and-right (inRange C x && met C S x) less e);
-      }
+      let a = adds-says P S x (and-left _ (bounds (change P S x)) e) in
+      let f = fits-says P S x (a .0) in
+      let b = and-right (adds P S x) _ e in
+      record { in-range = f .0; is-met = f .1; is-bound = b; less = busy-less (change P S x) S (x .target) b (a .1) }
 
-  pub lowers-holds : (x : Step) → Lowering C S x → lowers C S x ≡ true
-  unfolding lowers
-  lowers-holds x l = and-both _ _ (and-both _ _ (l .in-range) (l .is-met)) (lt-ltb _ _ (l .less))
+  pub lowers-holds : (x : Step) → Lowering P S x → lowers P S x ≡ true
+  unfolding addsBy newBound
+  lowers-holds x l =
+      and-both _ _
+      (adds-holds P S x (fits-holds P S x (l .in-range) (l .is-met)) (less-busy (change P S x) S (x .target) (l .is-bound) (l .less)))
+      (l .is-bound)
 
-  precedes-asym : (x y : Step) → precedes C S x y ≡ true → precedes C S y x ≡ false
+  pub lowers-adds : (x : Step) → lowers P S x ≡ true → adds P S x ≡ true
+  unfolding addsBy
+  lowers-adds x e = and-left _ (bounds (change P S x)) e
+
+  precedes-asym : (x y : Step) → precedes P S x y ≡ true → precedes P S y x ≡ false
   unfolding precedes
   precedes-asym x y =
       first-by-asym _ _ _ _
       (first-by-asym _ _ _ _ (first-by-asym _ _ _ _ (ltb-asym (x .constraint) (y .constraint))))
 
-  precedes-trans : (x y z : Step) → precedes C S y x ≡ false → precedes C S z y ≡ false → precedes C S z x ≡ false
+  precedes-trans : (x y z : Step) → precedes P S y x ≡ false → precedes P S z y ≡ false → precedes P S z x ≡ false
   unfolding precedes
   precedes-trans x y z =
       first-by-trans _ _ _ _ _ _
       (first-by-trans _ _ _ _ _ _ (first-by-trans _ _ _ _ _ _ (ltb-trans (x .constraint) (y .constraint) (z .constraint))))
 
-  precedes-irrefl : (x : Step) → precedes C S x x ≡ false
-  precedes-irrefl x = false-by (precedes C S x x) (λ e. true-or-false _ e (precedes-asym x x e))
+  precedes-irrefl : (x : Step) → precedes P S x x ≡ false
+  precedes-irrefl x = false-by (precedes P S x x) (λ e. true-or-false _ e (precedes-asym x x e))
 
-  pub least-bound : (x y : Step) → precedes C S y x ≡ false → newBound C S x ≤ newBound C S y
+  pub least-bound : (x y : Step) → precedes P S y x ≡ false → newBound P S x ≤ newBound P S y
   unfolding precedes
   least-bound x y e = first-by-says _ _ _ e .0
 
@@ -125,133 +158,127 @@ module _ (C : Circuit) (S : Standing) where
   -- what was found lowers a bound
   abbrev Candidate : Option Step → Type 0
   Candidate none = Unit {0}
-  Candidate (some x) = lowers C S x ≡ true
+  Candidate (some x) = lowers P S x ≡ true
 
   -- something was found, and y doesn't precede it
   abbrev Covers : Step → Option Step → Type 0
   Covers y none = ⊥
-  Covers y (some x) = precedes C S y x ≡ false
+  Covers y (some x) = precedes P S y x ≡ false
 
-  preferred-candidate : (x : Step) (best : Option Step) → lowers C S x ≡ true → Candidate best → Candidate (preferred C S x best)
+  preferred-candidate : (x : Step) (best : Option Step) → lowers P S x ≡ true → Candidate best → Candidate (preferred P S x best)
   preferred-candidate x none l c = l
-  preferred-candidate x (some y) l c = go (precedes C S x y)
+  preferred-candidate x (some y) l c = go (precedes P S x y)
     where
       go : (b : Bool) → Candidate (cond b (some x) (some y))
       go true = l
       go false = c
 
-  preferred-keeps : (x y : Step) (best : Option Step) → Covers y best → Covers y (preferred C S x best)
+  preferred-keeps : (x y : Step) (best : Option Step) → Covers y best → Covers y (preferred P S x best)
   preferred-keeps x y none c = absurd c
-  preferred-keeps x y (some z) c = go (precedes C S x z) refl
+  preferred-keeps x y (some z) c = go (precedes P S x z) refl
     where
-      go : (b : Bool) → precedes C S x z ≡ b → Covers y (cond b (some x) (some z))
+      go : (b : Bool) → precedes P S x z ≡ b → Covers y (cond b (some x) (some z))
       go true e = precedes-trans x z y (precedes-asym x z e) c
       go false e = c
 
-  preferred-covers : (x : Step) (best : Option Step) → Covers x (preferred C S x best)
+  preferred-covers : (x : Step) (best : Option Step) → Covers x (preferred P S x best)
   preferred-covers x none = precedes-irrefl x
-  preferred-covers x (some z) = go (precedes C S x z) refl
+  preferred-covers x (some z) = go (precedes P S x z) refl
     where
-      go : (b : Bool) → precedes C S x z ≡ b → Covers x (cond b (some x) (some z))
+      go : (b : Bool) → precedes P S x z ≡ b → Covers x (cond b (some x) (some z))
       go true e = precedes-irrefl x
       go false e = e
 
-  consider-candidate : (x : Step) (best : Option Step) → Candidate best → Candidate (consider C S x best)
+  consider-candidate : (x : Step) (best : Option Step) → Candidate best → Candidate (consider P S x best)
   unfolding consider
-  consider-candidate x best c = go (lowers C S x) refl
+  consider-candidate x best c = go (lowers P S x) refl
     where
-      go : (b : Bool) → lowers C S x ≡ b → Candidate (cond b (preferred C S x best) best)
+      go : (b : Bool) → lowers P S x ≡ b → Candidate (cond b (preferred P S x best) best)
       go true e = preferred-candidate x best e c
       go false e = c
 
-  consider-keeps : (x y : Step) (best : Option Step) → Covers y best → Covers y (consider C S x best)
+  consider-keeps : (x y : Step) (best : Option Step) → Covers y best → Covers y (consider P S x best)
   unfolding consider
-  consider-keeps x y best c = go (lowers C S x)
+  consider-keeps x y best c = go (lowers P S x)
     where
-      go : (b : Bool) → Covers y (cond b (preferred C S x best) best)
+      go : (b : Bool) → Covers y (cond b (preferred P S x best) best)
       go true = preferred-keeps x y best c
       go false = c
 
-  consider-covers : (x : Step) (best : Option Step) → lowers C S x ≡ true → Covers x (consider C S x best)
+  consider-covers : (x : Step) (best : Option Step) → lowers P S x ≡ true → Covers x (consider P S x best)
   unfolding consider
   consider-covers x best e = rw e (preferred-covers x best)
 
-  targets-candidate : (k t : ℕ) (best : Option Step) → Candidate best → Candidate (bestOfTargets C S k t best)
+  targets-candidate : (k t : ℕ) (best : Option Step) → Candidate best → Candidate (bestOfTargets P S k t best)
   unfolding bestOfTargets
   targets-candidate k zero best c = c
   targets-candidate k (suc t) best c = consider-candidate _ _ (consider-candidate _ _ (targets-candidate k t best c))
 
-  targets-keep : (k t : ℕ) (y : Step) (best : Option Step) → Covers y best → Covers y (bestOfTargets C S k t best)
+  targets-keep : (k t : ℕ) (y : Step) (best : Option Step) → Covers y best → Covers y (bestOfTargets P S k t best)
   unfolding bestOfTargets
   targets-keep k zero y best c = c
   targets-keep k (suc t) y best c = consider-keeps _ y _ (consider-keeps _ y _ (targets-keep k t y best c))
 
-  constraints-candidate : (k : ℕ) → Candidate (bestOfConstraints C S k)
+  constraints-candidate : (k : ℕ) → Candidate (bestOfConstraints P S k)
   unfolding bestOfConstraints
   constraints-candidate zero = tt
-  constraints-candidate (suc k) = targets-candidate (suc k) (C .n) _ (constraints-candidate k)
+  constraints-candidate (suc k) = targets-candidate (suc k) (P .n) _ (constraints-candidate k)
 
-  targets-cover : (k t s : ℕ) (q : Kind) (best : Option Step) → Bounding q → 1 ≤ s → s ≤ t → lowers C S (step q s k 0) ≡ true
-      → Covers (step q s k 0) (bestOfTargets C S k t best)
+  targets-cover : (k t s : ℕ) (q : Kind) (best : Option Step) → Bounding q → 1 ≤ s → s ≤ t → lowers P S (step q s k 0) ≡ true
+      → Covers (step q s k 0) (bestOfTargets P S k t best)
   unfolding bestOfTargets
   targets-cover k zero s q best b l m e = absurd (omega arith)
   targets-cover k (suc t) s q best b l m e = go (ℕ-discrete s (suc t)) (λ h. targets-cover k t s q best b l h e)
     where
-      here : {q : Kind} → Bounding q → lowers C S (step q (suc t) k 0) ≡ true
-          → Covers (step q (suc t) k 0) (bestOfTargets C S k (suc t) best)
+      here : {q : Kind} → Bounding q → lowers P S (step q (suc t) k 0) ≡ true
+          → Covers (step q (suc t) k 0) (bestOfTargets P S k (suc t) best)
       here by-root f = consider-keeps _ _ _ (consider-covers _ _ f)
       here by-sum f = consider-covers _ _ f
 
-      go : Dec (s ≡ suc t) → (s ≤ t → Covers (step q s k 0) (bestOfTargets C S k t best))
-          → Covers (step q s k 0) (bestOfTargets C S k (suc t) best)
+      go : Dec (s ≡ suc t) → (s ≤ t → Covers (step q s k 0) (bestOfTargets P S k t best))
+          → Covers (step q s k 0) (bestOfTargets P S k (suc t) best)
       go (yes h) earlier = rw h (here b (rw h at e))
       go (no d) earlier = consider-keeps _ _ _ (consider-keeps _ _ _ (earlier (omega arith)))
 
-  constraints-cover : (k j s : ℕ) (q : Kind) → Bounding q → 1 ≤ s → s ≤ C .n → 1 ≤ j → j ≤ k → lowers C S (step q s j 0) ≡ true
-      → Covers (step q s j 0) (bestOfConstraints C S k)
+  constraints-cover : (k j s : ℕ) (q : Kind) → Bounding q → 1 ≤ s → s ≤ P .n → 1 ≤ j → j ≤ k → lowers P S (step q s j 0) ≡ true
+      → Covers (step q s j 0) (bestOfConstraints P S k)
   unfolding bestOfConstraints
   constraints-cover zero j s q b l m l′ m′ e = absurd (omega arith)
   constraints-cover (suc k) j s q b l m l′ m′ e = go (ℕ-discrete j (suc k)) (λ h. constraints-cover k j s q b l m l′ h e)
     where
-      go : Dec (j ≡ suc k) → (j ≤ k → Covers (step q s j 0) (bestOfConstraints C S k))
-          → Covers (step q s j 0) (bestOfConstraints C S (suc k))
-      go (yes h) earlier = rw h (targets-cover (suc k) (C .n) s q _ b l m (rw h at e))
+      go : Dec (j ≡ suc k) → (j ≤ k → Covers (step q s j 0) (bestOfConstraints P S k))
+          → Covers (step q s j 0) (bestOfConstraints P S (suc k))
+      go (yes h) earlier = rw h (targets-cover (suc k) (P .n) s q _ b l m (rw h at e))
       go (no d) earlier = targets-keep _ _ _ _ (earlier (omega arith))
 
-  pub lowers-kind : (x : Step) → Lowering C S x → Bounding (x .kind)
-  unfolding newBound
-  lowers-kind x = go (x .kind) (x .target) (x .constraint) (x .reference)
-    where
-      go : (q : Kind) (t k r : ℕ) → Lowering C S (step q t k r) → Bounding q
-      go Root t k r l = by-root
-      go Sum t k r l = by-sum
-      go Zero t k r l = absurd (omega (arith, l .less))
-      go Product t k r l = absurd (omega (arith, l .less))
-      go Digits t k r l = absurd (omega (arith, l .less))
+  pub lowers-kind : (x : Step) → Lowering P S x → Bounding (x .kind)
+  unfolding change ruleOf
+  lowers-kind x l = bounding (sorted (x .kind) (subject (namesOf (x .kind)) P (x .constraint)) S (x .target) (x .reference)) (l .is-bound)
 
-  pub bounding-fields : {q : Kind} (t k r : ℕ) → Bounding q → inRange C (step q t k r) ≡ true → ((1 ≤ k) × (k ≤ C .m)) × (r ≡ 0)
-  bounding-fields {q} t k r b e = go b (fields-fit C (step q t k r) e)
+  pub bounding-fields : {q : Kind} (t k r : ℕ) → Bounding q → inRange P (step q t k r) ≡ true → ((1 ≤ k) × (k ≤ P .m)) × (r ≡ 0)
+  unfolding inRange
+  bounding-fields {q} t k r b e = go b (and-right (within (P .n) t) _ e)
     where
-      go : {q : Kind} → Bounding q → fields q (C .n) (C .m) k r ≡ true → ((1 ≤ k) × (k ≤ C .m)) × (r ≡ 0)
-      go by-root f = (within-says _ _ (and-left _ (eqb r 0) f), eqb-true r 0 (and-right (within (C .m) k) _ f))
-      go by-sum f = (within-says _ _ (and-left _ (eqb r 0) f), eqb-true r 0 (and-right (within (C .m) k) _ f))
+      go : {q : Kind} → Bounding q → (inside (constraints q P) k && inside (references q P) r) ≡ true → ((1 ≤ k) × (k ≤ P .m)) × (r ≡ 0)
+      go by-root f = (within-says _ _ (and-left _ (eqb r 0) f), eqb-true r 0 (and-right (within (P .m) k) _ f))
+      go by-sum f = (within-says _ _ (and-left _ (eqb r 0) f), eqb-true r 0 (and-right (within (P .m) k) _ f))
 
   -- every step that lowers a bound is covered
-  best-covers : (y : Step) → lowers C S y ≡ true → Covers y (bestBound C S)
+  best-covers : (y : Step) → lowers P S y ≡ true → Covers y (bestBound P S)
   unfolding bestBound
   best-covers y e =
       let h = lowers-says y e in
       let b = lowers-kind y h in
-      let w = target-within C y (h .in-range) in
+      let w = target-within P y (h .in-range) in
       let f = bounding-fields (y .target) (y .constraint) (y .reference) b (h .in-range) in
       let z : y ≡ step (y .kind) (y .target) (y .constraint) 0
       = ap (λ (r : ℕ). step (y .kind) (y .target) (y .constraint) r) (f .1) in
-      rw z (constraints-cover (C .m) (y .constraint) (y .target) (y .kind) b (w .0) (w .1) (f .0 .0) (f .0 .1) (rw z at e))
+      rw z (constraints-cover (P .m) (y .constraint) (y .target) (y .kind) b (w .0) (w .1) (f .0 .0) (f .0 .1) (rw z at e))
 
-  pub best-none : bestBound C S ≡ none → (y : Step) → lowers C S y ≡ false
+  pub best-none : bestBound P S ≡ none → (y : Step) → lowers P S y ≡ false
   best-none e y = false-by _ (λ l. rw e at (best-covers y l))
 
-  pub best-some : (x : Step) → bestBound C S ≡ some x
-      → (lowers C S x ≡ true) × ((y : Step) → lowers C S y ≡ true → precedes C S y x ≡ false)
+  pub best-some : (x : Step) → bestBound P S ≡ some x
+      → (lowers P S x ≡ true) × ((y : Step) → lowers P S y ≡ true → precedes P S y x ≡ false)
   unfolding bestBound
-  best-some x e = (rw e at (constraints-candidate (C .m)), λ y l. rw e at (best-covers y l))
+  best-some x e = (rw e at (constraints-candidate (P .m)), λ y l. rw e at (best-covers y l))

@@ -7,9 +7,8 @@ use native.Mathlib.Nat.{add-zero, zero-add}
 use native.Mathlib.Omega.{arith}
 use lib.Dec.{eqb}
 use borrow.Author.Tests.{eq-eqb, ne-eqb, eqb-true, eqb-false, not-true}
-use Rattle.circuit.specs.Circuit.{Term, Form, Rises, none, more, coef, names, eval}
+use Rattle.circuit.specs.Circuit.{Term, Form, Rises, noMore, more, coef, names, eval}
 use Rattle.laws.specs.Sum.{sum, keep}
-use Rattle.laws.specs.Standing.{Standing}
 use Rattle.laws.specs.Rules.{namesNone, isZero, namesOnly, othersMarked}
 use Rattle.laws.proofs.Sum.{and-left, and-right, and-both, or-cases, or-left, or-right, true-or-false, by-test, false-by, keep-true}
 use Rattle.laws.proofs.Sum.{keep-false, keep-same, none-times, sum-cong, sum-zeros, sum-one, sum-out, sum-first}
@@ -39,7 +38,7 @@ unnamed-coef (t ∷ f) s e =
 -- nor below the least number of its signals, nor above n
 pub unnamed-low : {n p least : ℕ} {f : Form} → Rises n p least f → (s : ℕ) → s < least → names f s ≡ false
 unfolding names
-unnamed-low none s h = refl
+unnamed-low noMore s h = refl
 unnamed-low (more {t = t} {f = f} l m c d r) s h =
     names-miss t f s (ne-eqb _ _ (λ (e : t .signal ≡ s). omega arith)) ∙ unnamed-low r s (omega arith)
 
@@ -53,7 +52,7 @@ coef-hit t {f} r s e =
 
 pub unnamed-beyond : {n p least : ℕ} {f : Form} → Rises n p least f → (s : ℕ) → n < s → names f s ≡ false
 unfolding names
-unnamed-beyond none s h = refl
+unnamed-beyond noMore s h = refl
 unnamed-beyond (more {t = t} {f = f} l m c d r) s h =
     names-miss t f s (ne-eqb _ _ (λ (e : t .signal ≡ s). omega arith)) ∙ unnamed-beyond r s h
 
@@ -62,13 +61,13 @@ coef-beyond {f = f} r s h = unnamed-coef f s (unnamed-beyond r s h)
 
 pub coef-below : {n p least : ℕ} {f : Form} → 0 < p → Rises n p least f → (s : ℕ) → coef f s < p
 unfolding coef
-coef-below h none s = h
+coef-below h noMore s = h
 coef-below h (more {t = t} {f = f} l m c d r) s =
     by-test (eqb (t .signal) s) (λ e. rw (coef-hit t r s e) d) (λ e. rw (coef-miss t f s e) (coef-below h r s))
 
 pub named-coef : {n p least : ℕ} {f : Form} → Rises n p least f → (s : ℕ) → names f s ≡ true → 0 < coef f s
 unfolding names
-named-coef none s e = true-or-false false e refl
+named-coef noMore s e = true-or-false false e refl
 named-coef (more {t = t} {f = f} l m c d r) s e =
     by-test (eqb (t .signal) s) (λ h. rw (coef-hit t r s h) c)
     (λ h. rw (coef-miss t f s h) (named-coef r s (sym (names-miss t f s h) ∙ e)))
@@ -82,7 +81,7 @@ pub eval-sum :
     → (v : ℕ → ℕ)
     → eval f v ≡ sum (suc n) (λ s. coef f s * v s)
 unfolding eval
-eval-sum {n} none v = sym (sum-zeros (suc n) (λ s. coef [] s * v s) (λ s l. none-times _ (v s) (coef-none s)))
+eval-sum {n} noMore v = sym (sum-zeros (suc n) (λ s. coef [] s * v s) (λ s l. none-times _ (v s) (coef-none s)))
 eval-sum {n} (more {t = t} {f = f} l m c d r) v =
     omega (
       arith,
@@ -160,20 +159,20 @@ unfolding namesOnly
 only-from t f h = every-from (namesOnly t) (λ s. eqb s 0 || eqb s t) refl (λ x f. refl) f h
 
 pub others-at :
-    (S : Standing) (t : ℕ) (f : Form)
-    → othersMarked S t f ≡ true
+    (m : ℕ → Bool) (t : ℕ) (f : Form)
+    → othersMarked m t f ≡ true
     → (s : ℕ)
     → names f s ≡ true
-    → (eqb s 0 || eqb s t || S .marked s) ≡ true
+    → (eqb s 0 || eqb s t || m s) ≡ true
 unfolding othersMarked
-others-at S t f e = every-at (othersMarked S t) (λ s. eqb s 0 || eqb s t || S .marked s) (λ x f. refl) f e
+others-at m t f e = every-at (othersMarked m t) (λ s. eqb s 0 || eqb s t || m s) (λ x f. refl) f e
 
 pub others-from :
-    (S : Standing) (t : ℕ) (f : Form)
-    → ((s : ℕ) → names f s ≡ true → (eqb s 0 || eqb s t || S .marked s) ≡ true)
-    → othersMarked S t f ≡ true
+    (m : ℕ → Bool) (t : ℕ) (f : Form)
+    → ((s : ℕ) → names f s ≡ true → (eqb s 0 || eqb s t || m s) ≡ true)
+    → othersMarked m t f ≡ true
 unfolding othersMarked
-others-from S t f h = every-from (othersMarked S t) (λ s. eqb s 0 || eqb s t || S .marked s) refl (λ x f. refl) f h
+others-from m t f h = every-from (othersMarked m t) (λ s. eqb s 0 || eqb s t || m s) refl (λ x f. refl) f h
 
 -- What the tests say of coefficients and values
 
@@ -192,6 +191,22 @@ only-coef t f e s d =
     (λ h.
     or-cases (eqb (suc s) 0) (eqb (suc s) t) (only-at t f e (suc s) h) (λ i. absurd (omega (arith, eqb-true (suc s) 0 i)))
     (λ i. d (eqb-true (suc s) t i))))
+
+-- the value of the signals, without the constant
+pub signals : ℕ → Form → (ℕ → ℕ) → ℕ
+signals n f v = sum n (λ s. coef f (suc s) * v (suc s))
+
+pub eval-parts : {n p least : ℕ} {f : Form} → Rises n p least f → (v : ℕ → ℕ) → v 0 ≡ 1 → eval f v ≡ coef f 0 + signals n f v
+unfolding signals
+eval-parts {n} {f = f} r v one =
+    eval-sum r v ∙ sum-first n (λ s. coef f s * v s) ∙ omega (arith, ap (λ (k : ℕ). coef f 0 * k) one)
+
+-- the signals of a form that names none
+pub signals-none : (n : ℕ) (f : Form) (v : ℕ → ℕ) → namesNone f ≡ true → signals n f v ≡ 0
+unfolding signals
+signals-none n f v e =
+    sum-zeros n (λ s. coef f (suc s) * v (suc s))
+    (λ s l. none-times _ (v (suc s)) (unnamed-coef f (suc s) (false-by _ (λ h. absurd (omega (arith, none-at f e (suc s) h))))))
 
 -- a form that names no signal is its constant
 pub eval-none :
@@ -240,23 +255,23 @@ eval-only {n} {f = f} {t = suc t} r least h e v one =
 pub others-equal :
     {n p least : ℕ} {f : Form}
     → Rises n p least f
-    → (S : Standing) (t : ℕ)
-    → othersMarked S t f ≡ true
+    → (m : ℕ → Bool) (t : ℕ)
+    → othersMarked m t f ≡ true
     → (v w : ℕ → ℕ)
     → v 0 ≡ w 0
-    → ((s : ℕ) → 1 ≤ s → s ≤ n → S .marked s ≡ true → v s ≡ w s)
+    → ((s : ℕ) → 1 ≤ s → s ≤ n → m s ≡ true → v s ≡ w s)
     → (s : ℕ)
     → s < suc n
     → keep (not (eqb s t)) (coef f s * v s) ≡ keep (not (eqb s t)) (coef f s * w s)
-others-equal {n} {f = f} r S t e v w zero-equal agree s l =
+others-equal {n} {f = f} r m t e v w zero-equal agree s l =
     keep-same (not (eqb s t)) _ _
     (λ d.
-    by-test (names f s) (λ h. ap (λ (k : ℕ). coef f s * k) (same s l (not-true _ d) (others-at S t f e s h)))
+    by-test (names f s) (λ h. ap (λ (k : ℕ). coef f s * k) (same s l (not-true _ d) (others-at m t f e s h)))
     (λ h. none-times _ (v s) (unnamed-coef f s h) ∙ sym (none-times _ (w s) (unnamed-coef f s h))))
   where
-    same : (s : ℕ) → s < suc n → eqb s t ≡ false → (eqb s 0 || eqb s t || S .marked s) ≡ true → v s ≡ w s
+    same : (s : ℕ) → s < suc n → eqb s t ≡ false → (eqb s 0 || eqb s t || m s) ≡ true → v s ≡ w s
     same zero l d h = zero-equal
     same (suc s) l d h =
-        or-cases (eqb (suc s) 0 || eqb (suc s) t) (S .marked (suc s)) h
+        or-cases (eqb (suc s) 0 || eqb (suc s) t) (m (suc s)) h
         (λ i. or-cases (eqb (suc s) 0) (eqb (suc s) t) i (λ j. absurd (omega (arith, eqb-true (suc s) 0 j))) (λ j. true-or-false _ j d))
         (λ i. agree (suc s) (omega arith) (omega arith) i)

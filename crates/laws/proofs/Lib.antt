@@ -8,10 +8,15 @@ pub mod Digits
 pub mod DigitsRule
 pub mod Order
 pub mod Sound
+pub mod Plain
 pub mod Monotone
 pub mod Optimum
 pub mod Turns
 pub mod Best
 pub mod Greedy
+pub mod First
 pub mod Marks
 pub mod Solution
+pub mod Maximum
+pub mod Search
+pub mod Candidate

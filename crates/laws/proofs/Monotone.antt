@@ -7,9 +7,8 @@ use native.Mathlib.Omega.{arith}
 use native.Mathlib.Nat.{mul-le-mul-left}
 use lib.Dec.{ltb, eqb}
 use borrow.Author.Tests.{lt-ltb, eq-eqb, ltb-true, eqb-true}
-use Rattle.circuit.specs.Circuit.{Circuit, Form, Constraint, constraintAt, names}
+use Rattle.circuit.specs.Circuit.{Form, Constraint, names}
 use Rattle.laws.specs.Sum.{all, implies}
-use Rattle.laws.specs.Standing.{Standing}
 use Rattle.laws.specs.Rules.{
   reduced,
   linear,
@@ -32,7 +31,9 @@ use Rattle.laws.specs.Rules.{
   digitsMet,
   separated,
 }
-use Rattle.laws.specs.Step.{Kind, Root, Sum, Zero, Product, Digits, Step, metBy, met, afterBy, after}
+use Rattle.laws.specs.Problem.{Problem, Subject, subject}
+use Rattle.laws.specs.Standing.{Standing}
+use Rattle.laws.specs.Step.{namesOf, Kind, Root, Sum, Zero, Product, Digits, Step, Rule, rule, ruleOf, met, change, after}
 use Rattle.laws.specs.Sound.{AtLeast}
 use Rattle.laws.proofs.Sum.{
   and-left,
@@ -49,7 +50,7 @@ use Rattle.laws.proofs.Sum.{
   all-from,
   sum-mono,
 }
-use Rattle.laws.proofs.Order.{lower-mono, mark-mono}
+use Rattle.laws.proofs.Order.{Stronger, lower-bound, same-change, apply-mono}
 
 -- Tests that follow from tests
 
@@ -76,36 +77,36 @@ all-mono n {q} {r} h e = all-from n r (λ j l. h j (all-at n q e j l))
 ltb-mono : (z : ℕ) {x y : ℕ} → y ≤ x → ltb x z ≡ true → ltb y z ≡ true
 ltb-mono z {x} {y} h e = lt-ltb y z (omega (arith, ltb-true x z e))
 
-pub sum-met-from : (p n : ℕ) (K : Constraint) (S S′ : Standing) (t : ℕ)
-    → sumBound p n (reduced p K) S′ t ≤ sumBound p n (reduced p K) S t → sumMet p n K S t ≡ true → sumMet p n K S′ t ≡ true
+pub sum-met-from : (p n : ℕ) (K : Constraint) (b b′ : ℕ → ℕ) (t : ℕ)
+    → sumBound p n (reduced p K) b′ t ≤ sumBound p n (reduced p K) b t → sumMet p n K b t ≡ true → sumMet p n K b′ t ≡ true
 unfolding sumMet
-sum-met-from p n K S S′ t h = and-mono (same (linear K && occurs (reduced p K) t)) (ltb-mono p h)
+sum-met-from p n K b b′ t h = and-mono (same (linear K && occurs (reduced p K) t)) (ltb-mono p h)
 
 -- lower bounds give a lower sum
-module _ (S S′ : Standing) (below : (s : ℕ) → S′ .bound s ≤ S .bound s) where
-  ceiling-mono : (s : ℕ) → ceiling S′ s ≤ ceiling S s
+module _ (b b′ : ℕ → ℕ) (below : (s : ℕ) → b′ s ≤ b s) where
+  ceiling-mono : (s : ℕ) → ceiling b′ s ≤ ceiling b s
   unfolding ceiling
   ceiling-mono zero = omega arith
   ceiling-mono (suc s) = below (suc s)
 
-  pub sum-bound-mono : (p n : ℕ) (K : Constraint) (t : ℕ) → sumBound p n (reduced p K) S′ t ≤ sumBound p n (reduced p K) S t
+  pub sum-bound-mono : (p n : ℕ) (K : Constraint) (t : ℕ) → sumBound p n (reduced p K) b′ t ≤ sumBound p n (reduced p K) b t
   unfolding sumBound sumTerm
   sum-bound-mono p n K t =
       sum-mono (suc n) _ _
       (λ s l. keep-mono _ _ _ _ (same (not (eqb s t))) (λ e. mul-le-mul-left (sumWeight p (reduced p K) t s) (ceiling-mono s)))
 
 -- digits, where bounds are no higher and no more signals of the form are unmarked
-module _ (p : ℕ) (K : Constraint) (S S′ : Standing) (below : (s : ℕ) → S′ .bound s ≤ S .bound s)
-    (fewer : (s : ℕ) → live (reduced p K) S′ s ≡ true → live (reduced p K) S s ≡ true) where
-  differs-mono : (r s u : ℕ) → differs p (reduced p K) S r s u ≡ true → differs p (reduced p K) S′ r s u ≡ true
+module _ (p : ℕ) (K : Constraint) (b b′ : ℕ → ℕ) (m m′ : ℕ → Bool) (below : (s : ℕ) → b′ s ≤ b s)
+    (fewer : (s : ℕ) → live (reduced p K) m′ s ≡ true → live (reduced p K) m s ≡ true) where
+  differs-mono : (r s u : ℕ) → differs p (reduced p K) m r s u ≡ true → differs p (reduced p K) m′ r s u ≡ true
   unfolding differs
   differs-mono r s u = implies-mono (and-mono (fewer u) (same (not (eqb s u)))) (λ e h. h)
 
-  live-term-mono : (r u : ℕ) → liveTerm p (reduced p K) S′ r u ≤ liveTerm p (reduced p K) S r u
+  live-term-mono : (r u : ℕ) → liveTerm p (reduced p K) b′ m′ r u ≤ liveTerm p (reduced p K) b m r u
   unfolding liveTerm
   live-term-mono r u = keep-mono _ _ _ _ (fewer u) (λ e. mul-le-mul-left (weight p (reduced p K) r u) (below u))
 
-  smaller-sum-mono : (n r w : ℕ) → smallerSum p n (reduced p K) S′ r w ≤ smallerSum p n (reduced p K) S r w
+  smaller-sum-mono : (n r w : ℕ) → smallerSum p n (reduced p K) b′ m′ r w ≤ smallerSum p n (reduced p K) b m r w
   unfolding smallerSum smallerTerm
   smaller-sum-mono n r w =
       sum-mono (suc n) _ _
@@ -113,72 +114,78 @@ module _ (p : ℕ) (K : Constraint) (S S′ : Standing) (below : (s : ℕ) → S
       keep-mono _ _ _ _ (and-mono (fewer u) (same (ltb (weight p (reduced p K) r u) w)))
       (λ e. mul-le-mul-left (weight p (reduced p K) r u) (below u)))
 
-  separate-mono : (n r s : ℕ) → separate p n (reduced p K) S r s ≡ true → separate p n (reduced p K) S′ r s ≡ true
+  separate-mono : (n r s : ℕ) → separate p n (reduced p K) b m r s ≡ true → separate p n (reduced p K) b′ m′ r s ≡ true
   unfolding separate
   separate-mono n r s =
       implies-mono (fewer s)
       (λ l.
       and-mono (all-mono (suc n) (differs-mono r s)) (ltb-mono (weight p (reduced p K) r s) (smaller-sum-mono n r (weight p (reduced p K) r s))))
 
-  pub separated-from : (n r : ℕ) → separated p n (reduced p K) S r ≡ true → separated p n (reduced p K) S′ r ≡ true
+  pub separated-from : (n r : ℕ) → separated p n (reduced p K) b m r ≡ true → separated p n (reduced p K) b′ m′ r ≡ true
   unfolding separated
   separated-from n r =
       and-mono (all-mono (suc n) (separate-mono n r)) (ltb-mono p (sum-mono (suc n) _ _ (λ u l. live-term-mono r u)))
 
-  pub digits-met-from : (n t r : ℕ) → digitsMet p n K S t r ≡ true → digitsMet p n K S′ t r ≡ true
+  pub digits-met-from : (n t r : ℕ) → digitsMet p n K b m t r ≡ true → digitsMet p n K b′ m′ t r ≡ true
   unfolding digitsMet
-  digits-met-from n t r = and-mono (same (linear K && (occurs (reduced p K) t && occurs (reduced p K) r))) (separated-from n r)
+  digits-met-from n t r =
+      and-mono (same (linear K && (occurs (reduced p K) t && occurs (reduced p K) r))) (separated-from n r)
 
-module _ {S S′ : Standing} (g : AtLeast S S′) where
-  zero-met-mono : (t : ℕ) → zeroMet S t ≡ true → zeroMet S′ t ≡ true
+module _ {b b′ : ℕ → ℕ} (below : (s : ℕ) → b′ s ≤ b s) where
+  zero-met-mono : (t : ℕ) → zeroMet b t ≡ true → zeroMet b′ t ≡ true
   unfolding zeroMet
-  zero-met-mono t e = eq-eqb (S′ .bound t) 0 (omega (arith, g .bounds t, eqb-true (S .bound t) 0 e))
+  zero-met-mono t e = eq-eqb (b′ t) 0 (omega (arith, below t, eqb-true (b t) 0 e))
 
-  others-marked-mono : (t : ℕ) (f : Form) → othersMarked S t f ≡ true → othersMarked S′ t f ≡ true
+module _ {m m′ : ℕ → Bool} (more : (s : ℕ) → m s ≡ true → m′ s ≡ true) where
+  others-marked-mono : (t : ℕ) (f : Form) → othersMarked m t f ≡ true → othersMarked m′ t f ≡ true
   unfolding othersMarked
   others-marked-mono t [] = λ e. refl
   others-marked-mono t (x ∷ f) =
       and-mono
-      (or-mono (same (eqb (x .signal) 0 || eqb (x .signal) t)) (g .marks (x .signal)))
+      (or-mono (same (eqb (x .signal) 0 || eqb (x .signal) t)) (more (x .signal)))
       (others-marked-mono t f)
 
-  product-met-mono : (K : Constraint) (t : ℕ) → productMet K S t ≡ true → productMet K S′ t ≡ true
+  product-met-mono : (K : Constraint) (t : ℕ) → productMet K m t ≡ true → productMet K m′ t ≡ true
   unfolding productMet
   product-met-mono K t =
       and-mono
       (same (not (linear K) && (names (K .c) t && not (names (K .a) t) && not (names (K .b) t))))
       (and-mono (and-mono (others-marked-mono t (K .a)) (others-marked-mono t (K .b))) (others-marked-mono t (K .c)))
 
-  live-mono : (p : ℕ) (K : Constraint) (s : ℕ) → live (reduced p K) S′ s ≡ true → live (reduced p K) S s ≡ true
+  live-mono : (p : ℕ) (K : Constraint) (s : ℕ) → live (reduced p K) m′ s ≡ true → live (reduced p K) m s ≡ true
   unfolding live
   live-mono p K zero = λ e. e
   live-mono p K (suc s) =
-      and-mono (same (occurs (reduced p K) (suc s))) (not-mono (S .marked (suc s)) (S′ .marked (suc s)) (g .marks (suc s)))
+      and-mono (same (occurs (reduced p K) (suc s))) (not-mono (m (suc s)) (m′ (suc s)) (more (suc s)))
 
-  met-by : (C : Circuit) (x : Step) (q : Kind) → metBy q C S x ≡ true → metBy q C S′ x ≡ true
-  met-by C x Root = same _
-  met-by C x Sum = sum-met-from (C .p) (C .n) _ S S′ (x .target) (sum-bound-mono S S′ (g .bounds) _ _ _ (x .target))
-  met-by C x Zero = zero-met-mono (x .target)
-  met-by C x Product = product-met-mono (constraintAt C (x .constraint)) (x .target)
-  met-by C x Digits =
-      let K = constraintAt C (x .constraint) in
-      digits-met-from (C .p) K S S′ (g .bounds) (live-mono (C .p) K) (C .n) (x .target) (x .reference)
+-- what holds of every kind
+pub record Grows (r r′ : Rule) : Type 0 where
+  pub still-met : r .met ≡ true → r′ .met ≡ true
+  pub stronger : Stronger (r .change) (r′ .change)
 
-  pub met-mono : (C : Circuit) (x : Step) → met C S x ≡ true → met C S′ x ≡ true
-  unfolding met
-  met-mono C x = met-by C x (x .kind)
+pub grows : (q : Kind) (J : Subject) {S S′ : Standing} → AtLeast S S′ → (t r : ℕ) → Grows (rule q J S t r) (rule q J S′ t r)
+grows Root J g t r = record { still-met = λ e. e; stronger = same-change }
+grows Sum J g t r =
+    let h = sum-bound-mono _ _ (g .bounds) (J .p) (J .n) (J .equation) t in
+    record { still-met = sum-met-from (J .p) (J .n) (J .equation) _ _ t h; stronger = lower-bound h }
+grows Zero J g t r = record { still-met = zero-met-mono (g .bounds) t; stronger = same-change }
+grows Product J g t r = record { still-met = product-met-mono (g .marks) (J .equation) t; stronger = same-change }
+grows Digits J g t r =
+    let K = J .equation in
+    record { still-met = digits-met-from (J .p) K _ _ _ _ (g .bounds) (live-mono (g .marks) (J .p) K) (J .n) t r; stronger = same-change }
 
-  after-by : (C : Circuit) (x : Step) (q : Kind) → AtLeast (afterBy q C S x) (afterBy q C S′ x)
-  after-by C x Root = lower-mono _ _ _ g (omega arith)
-  after-by C x Sum = lower-mono _ _ _ g (sum-bound-mono S S′ (g .bounds) (C .p) (C .n) (constraintAt C (x .constraint)) (x .target))
-  after-by C x Zero = mark-mono _ g
-  after-by C x Product = mark-mono _ g
-  after-by C x Digits = mark-mono _ g
+module _ (P : Problem) {S S′ : Standing} (g : AtLeast S S′) (x : Step) where
+  pub met-mono : met P S x ≡ true → met P S′ x ≡ true
+  unfolding met ruleOf
+  met-mono = grows (x .kind) (subject (namesOf (x .kind)) P (x .constraint)) g (x .target) (x .reference) .still-met
 
-  pub after-mono : (C : Circuit) (x : Step) → AtLeast (after C S x) (after C S′ x)
+  pub change-mono : Stronger (change P S x) (change P S′ x)
+  unfolding change ruleOf
+  change-mono = grows (x .kind) (subject (namesOf (x .kind)) P (x .constraint)) g (x .target) (x .reference) .stronger
+
+  pub after-mono : AtLeast (after P S x) (after P S′ x)
   unfolding after
-  after-mono C x = after-by C x (x .kind)
+  after-mono = apply-mono (x .target) g change-mono
 
-  pub monotone : (C : Circuit) (x : Step)
-      → met C S x ≡ true → (met C S′ x ≡ true) × AtLeast (after C S x) (after C S′ x)
-  monotone C x e = (met-mono C x e, after-mono C x)
+  pub monotone : met P S x ≡ true → (met P S′ x ≡ true) × AtLeast (after P S x) (after P S′ x)
+  monotone e = (met-mono e, after-mono)

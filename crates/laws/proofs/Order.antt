@@ -1,17 +1,17 @@
 -- The order of standings: it is a preorder, a step only adds, and a step that gives nothing new is idle.
 use Prim.Native.Nat.{ℕ, _≤_, min}
-use mathlib.Core.Path.{_≡_, refl, sym, ap, _∙_}
-use mathlib.Core.Bool.{Bool, true, false, _&&_, _||_}
+use mathlib.Core.Path.{_≡_, refl, sym, ap, _∙_, fun-ext}
+use mathlib.Core.Bool.{Bool, true, false, _||_}
 use mathlib.Core.List.{List, [], _∷_, _++_}
 use native.Mathlib.Omega.{arith}
 use native.Mathlib.Decide.{ℕ-discrete}
 use lib.Dec.{eqb}
-use borrow.Author.Tests.{eq-eqb, ne-eqb}
-use Rattle.circuit.specs.Circuit.{Circuit}
-use Rattle.laws.specs.Standing.{Standing, put, add, lower, mark}
-use Rattle.laws.specs.Step.{Kind, Root, Sum, Zero, Product, Digits, Step, inRange, met, afterBy, after, replay, accepted}
+use borrow.Author.Tests.{eq-eqb, ne-eqb, leb-true, leb-false}
+use Rattle.laws.specs.Problem.{Problem}
+use Rattle.laws.specs.Standing.{Standing, put, add, lower, mark, Change, atMost, fixed, apply, idle}
+use Rattle.laws.specs.Step.{Step, fits, change, after, replay, accepted}
 use Rattle.laws.specs.Sound.{AtLeast}
-use Rattle.laws.proofs.Sum.{and-left, and-right, and-both}
+use Rattle.laws.proofs.Sum.{and-left, and-right, and-both, true-or-false}
 
 -- A function changed at one place
 
@@ -39,16 +39,68 @@ add-keeps m t s e = go (eqb s t)
     go true = refl
     go false = e
 
--- Preorder
+-- what holds at t, and elsewhere before, holds of the changed function
+pub put-all : (A : ℕ → ℕ → Type 0) (f : ℕ → ℕ) (t x : ℕ) → A t x → ((s : ℕ) → A s (f s)) → (s : ℕ) → A s (put f t x s)
+put-all A f t x here other s = go (ℕ-discrete s t)
+  where
+    go : Dec (s ≡ t) → A s (put f t x s)
+    go (yes e) = rw e (rw (put-same f t x) here)
+    go (no h) = rw (put-other f t x s h) (other s)
+
+pub add-all : (A : ℕ → Type 0) (m : ℕ → Bool) (t : ℕ) → A t → ((s : ℕ) → m s ≡ true → A s) → (s : ℕ) → add m t s ≡ true → A s
+add-all A m t here other s e = go (ℕ-discrete s t)
+  where
+    go : Dec (s ≡ t) → A s
+    go (yes q) = rw q here
+    go (no d) = other s (sym (add-other m t s d) ∙ e)
+
+-- Bounds and marks as functions
+
+abbrev pub Below : (ℕ → ℕ) → (ℕ → ℕ) → Type 0
+Below b b′ = (s : ℕ) → b′ s ≤ b s
+
+abbrev pub More : (ℕ → Bool) → (ℕ → Bool) → Type 0
+More m m′ = (s : ℕ) → m s ≡ true → m′ s ≡ true
+
+put-below : (b b′ : ℕ → ℕ) (t x : ℕ) → ((s : ℕ) → (s ≡ t → ⊥) → b′ s ≤ b s) → b′ t ≤ min (b t) x → Below (put b t (min (b t) x)) b′
+put-below b b′ t x other here s = go (ℕ-discrete s t)
+  where
+    go : Dec (s ≡ t) → b′ s ≤ put b t (min (b t) x) s
+    go (yes e) = rw e (rw (put-same b t (min (b t) x)) here)
+    go (no h) = rw (put-other b t (min (b t) x) s h) (other s h)
+
+put-adds : (b : ℕ → ℕ) (t x : ℕ) → Below b (put b t (min (b t) x))
+put-adds b t x s = go (ℕ-discrete s t)
+  where
+    go : Dec (s ≡ t) → put b t (min (b t) x) s ≤ b s
+    go (yes e) = rw e (omega (arith, put-same b t (min (b t) x)))
+    go (no h) = omega (arith, put-other b t (min (b t) x) s h)
+
+put-mono : {b b′ : ℕ → ℕ} (t x y : ℕ) → Below b b′ → y ≤ x → Below (put b t (min (b t) x)) (put b′ t (min (b′ t) y))
+put-mono {b} {b′} t x y g h =
+    put-below b _ t x (λ s d. omega (arith, put-other b′ t (min (b′ t) y) s d, g s)) (omega (arith, put-same b′ t (min (b′ t) y), g t))
+
+add-from : {m m′ : ℕ → Bool} (t : ℕ) → More m m′ → m′ t ≡ true → More (add m t) m′
+add-from {m} {m′} t g h s e = go (ℕ-discrete s t)
+  where
+    go : Dec (s ≡ t) → m′ s ≡ true
+    go (yes q) = rw q h
+    go (no d) = g s (sym (add-other m t s d) ∙ e)
+
+pub add-mono : {m m′ : ℕ → Bool} (t : ℕ) → More m m′ → More (add m t) (add m′ t)
+add-mono {m} {m′} t g = add-from t (λ s e. add-keeps m′ t s (g s e)) (add-same m′ t)
+
+-- Standings
 
 pub at-least-refl : (S : Standing) → AtLeast S S
 at-least-refl S = record { bounds = λ s. omega arith; marks = λ s e. e }
 
 pub at-least-trans : {S T U : Standing} → AtLeast S T → AtLeast T U → AtLeast S U
 at-least-trans g h =
-    record { bounds = λ s. omega (arith, g .bounds s, h .bounds s); marks = λ s e. h .marks s (g .marks s e) }
-
--- Changing a standing
+    record {
+      bounds = λ s. omega (arith, g .bounds s, h .bounds s);
+      marks = λ s e. h .marks s (g .marks s e);
+    }
 
 pub lower-at : (S : Standing) (t x : ℕ) → lower S t x .bound t ≡ min (S .bound t) x
 unfolding lower
@@ -58,117 +110,83 @@ pub lower-other : (S : Standing) (t x s : ℕ) → (s ≡ t → ⊥) → lower S
 unfolding lower
 lower-other S t x s h = put-other _ t _ s h
 
-pub lower-marked : (S : Standing) (t x s : ℕ) → lower S t x .marked s ≡ S .marked s
+-- Changes
+
+-- the second gives at least as much
+pub data Stronger : Change → Change → Type 0 where
+  lower-bound : {x y : ℕ} → y ≤ x → Stronger (atMost x) (atMost y)
+  same-change : {c : Change} → Stronger c c
+
+pub apply-adds : (c : Change) (S : Standing) (t : ℕ) → AtLeast S (apply c S t)
+unfolding lower mark
+apply-adds (atMost x) S t = record { bounds = put-adds (S .bound) t x; marks = λ s e. e }
+apply-adds fixed S t = record { bounds = λ s. omega arith; marks = add-keeps (S .marked) t }
+
+pub apply-idle : (c : Change) (S : Standing) (t : ℕ) → idle c S t ≡ true → AtLeast (apply c S t) S
+unfolding lower mark
+apply-idle (atMost x) S t e =
+    record {
+      bounds = put-below (S .bound) (S .bound) t x (λ s d. omega arith) (omega (arith, leb-true (S .bound t) x e));
+      marks = λ s e. e;
+    }
+apply-idle fixed S t e = record { bounds = λ s. omega arith; marks = add-from t (λ s e. e) e }
+
+apply-same : (c : Change) {S S′ : Standing} (t : ℕ) → AtLeast S S′ → AtLeast (apply c S t) (apply c S′ t)
+unfolding lower mark
+apply-same (atMost x) t g = record { bounds = put-mono t x x (g .bounds) (omega arith); marks = g .marks }
+apply-same fixed t g = record { bounds = g .bounds; marks = add-mono t (g .marks) }
+
+pub apply-mono : {c d : Change} {S S′ : Standing} (t : ℕ) → AtLeast S S′ → Stronger c d → AtLeast (apply c S t) (apply d S′ t)
 unfolding lower
-lower-marked S t x s = refl
+apply-mono t g (lower-bound {x} {y} h) = record { bounds = put-mono t x y (g .bounds) h; marks = g .marks }
+apply-mono t g (same-change {c}) = apply-same c t g
 
-pub mark-at : (S : Standing) (t : ℕ) → mark S t .marked t ≡ true
-unfolding mark
-mark-at S t = add-same _ t
+-- idle: the standing after is the standing before
+put-idle : (b : ℕ → ℕ) (t x : ℕ) → b t ≤ x → put b t (min (b t) x) ≡ b
+put-idle b t x h = fun-ext (put-all (λ (s y : ℕ). y ≡ b s) b t (min (b t) x) (omega arith) (λ s. refl))
 
-pub mark-other : (S : Standing) (t s : ℕ) → (s ≡ t → ⊥) → mark S t .marked s ≡ S .marked s
-unfolding mark
-mark-other S t s h = add-other _ t s h
-
-pub mark-keeps : (S : Standing) (t s : ℕ) → S .marked s ≡ true → mark S t .marked s ≡ true
-unfolding mark
-mark-keeps S t s e = add-keeps _ t s e
-
-pub mark-bound : (S : Standing) (t s : ℕ) → mark S t .bound s ≡ S .bound s
-unfolding mark
-mark-bound S t s = refl
-
--- what is below the bounds of S, and at t also below x, is below those of lower S t x
-lower-below : (S S′ : Standing) (t x s : ℕ)
-    → ((s ≡ t → ⊥) → S′ .bound s ≤ S .bound s) → (s ≡ t → S′ .bound s ≤ min (S .bound s) x)
-    → S′ .bound s ≤ lower S t x .bound s
-lower-below S S′ t x s other same = go (ℕ-discrete s t)
+add-idle : (m : ℕ → Bool) (t : ℕ) → m t ≡ true → add m t ≡ m
+add-idle m t h = fun-ext (λ s. go s (ℕ-discrete s t))
   where
-    go : Dec (s ≡ t) → S′ .bound s ≤ lower S t x .bound s
-    go (yes e) = rw e (rw (lower-at S t x) (rw e at (same e)))
-    go (no h) = rw (lower-other S t x s h) (other h)
+    go : (s : ℕ) → Dec (s ≡ t) → add m t s ≡ m s
+    go s (yes e) = rw e (add-same m t ∙ sym h)
+    go s (no d) = add-other m t s d
 
-pub lower-adds : (S : Standing) (t x : ℕ) → AtLeast S (lower S t x)
-lower-adds S t x = record { bounds = below; marks = λ s e. rw (lower-marked S t x s) e }
-  where
-    below : (s : ℕ) → lower S t x .bound s ≤ S .bound s
-    below s = go (ℕ-discrete s t)
-      where
-        go : Dec (s ≡ t) → lower S t x .bound s ≤ S .bound s
-        go (yes e) = rw e (omega (arith, lower-at S t x))
-        go (no h) = omega (arith, lower-other S t x s h)
+pub idle-same : (c : Change) (S : Standing) (t : ℕ) → idle c S t ≡ true → apply c S t ≡ S
+unfolding lower mark
+idle-same (atMost x) S t e = rw (put-idle (S .bound) t x (leb-true (S .bound t) x e)) refl
+idle-same fixed S t e = rw (add-idle (S .marked) t e) refl
 
-pub mark-adds : (S : Standing) (t : ℕ) → AtLeast S (mark S t)
-mark-adds S t = record { bounds = λ s. omega (arith, mark-bound S t s); marks = λ s e. mark-keeps S t s e }
+pub busy-differs : (c : Change) (S : Standing) (t : ℕ) → idle c S t ≡ false → apply c S t ≡ S → ⊥
+unfolding lower mark
+busy-differs (atMost x) S t e q =
+    absurd (omega (arith, leb-false (S .bound t) x e, ap (λ (Z : Standing). Z .bound t) q, put-same (S .bound) t (min (S .bound t) x)))
+busy-differs fixed S t e q = true-or-false _ (sym (ap (λ (Z : Standing). Z .marked t) q) ∙ add-same (S .marked) t) e
 
-pub lower-idle : (S : Standing) (t x : ℕ) → S .bound t ≤ x → AtLeast (lower S t x) S
-lower-idle S t x h =
-    record {
-      bounds = λ s. lower-below S S t x s (λ d. omega arith) (λ (e : s ≡ t). omega (arith, ap (S .bound) e));
-      marks = λ s e. rw (lower-marked S t x s) at e;
-    }
+-- Rule 3.3: bounds never rise, marks stay
 
-pub mark-idle : (S : Standing) (t : ℕ) → S .marked t ≡ true → AtLeast (mark S t) S
-mark-idle S t h = record { bounds = λ s. omega (arith, mark-bound S t s); marks = same }
-  where
-    same : (s : ℕ) → mark S t .marked s ≡ true → S .marked s ≡ true
-    same s e = go (ℕ-discrete s t)
-      where
-        go : Dec (s ≡ t) → S .marked s ≡ true
-        go (yes q) = rw q h
-        go (no d) = sym (mark-other S t s d) ∙ e
-
-pub lower-mono : {S S′ : Standing} (t x y : ℕ) → AtLeast S S′ → y ≤ x → AtLeast (lower S t x) (lower S′ t y)
-lower-mono {S} {S′} t x y g h =
-    record {
-      bounds = λ s.
-          lower-below S (lower S′ t y) t x s (λ d. omega (arith, lower-other S′ t y s d, g .bounds s))
-          (λ (e : s ≡ t). rw e (omega (arith, lower-at S′ t y, g .bounds t)));
-      marks = λ s e. rw (lower-marked S′ t y s) (g .marks s (rw (lower-marked S t x s) at e));
-    }
-
-pub mark-mono : {S S′ : Standing} (t : ℕ) → AtLeast S S′ → AtLeast (mark S t) (mark S′ t)
-mark-mono {S} {S′} t g =
-    record { bounds = λ s. omega (arith, mark-bound S t s, mark-bound S′ t s, g .bounds s); marks = same }
-  where
-    same : (s : ℕ) → mark S t .marked s ≡ true → mark S′ t .marked s ≡ true
-    same s e = go (ℕ-discrete s t)
-      where
-        go : Dec (s ≡ t) → mark S′ t .marked s ≡ true
-        go (yes q) = rw q (mark-at S′ t)
-        go (no d) = mark-keeps S′ t s (g .marks s (sym (mark-other S t s d) ∙ e))
-
--- "A bound never rises; a mark is never removed."
-
-pub after-adds : (C : Circuit) (S : Standing) (x : Step) → AtLeast S (after C S x)
+pub after-adds : (P : Problem) (S : Standing) (x : Step) → AtLeast S (after P S x)
 unfolding after
-after-adds C S x = go (x .kind)
-  where
-    go : (q : Kind) → AtLeast S (afterBy q C S x)
-    go Root = lower-adds S _ _
-    go Sum = lower-adds S _ _
-    go Zero = mark-adds S _
-    go Product = mark-adds S _
-    go Digits = mark-adds S _
+after-adds P S x = apply-adds (change P S x) S (x .target)
 
-pub replay-adds : (C : Circuit) (S : Standing) (xs : List Step) → AtLeast S (replay C S xs)
+pub replay-adds : (P : Problem) (S : Standing) (xs : List Step) → AtLeast S (replay P S xs)
 unfolding replay
-replay-adds C S [] = at-least-refl S
-replay-adds C S (x ∷ xs) = at-least-trans (after-adds C S x) (replay-adds C (after C S x) xs)
+replay-adds P S [] = at-least-refl S
+replay-adds P S (x ∷ xs) = at-least-trans (after-adds P S x) (replay-adds P (after P S x) xs)
 
 -- Steps one after the other
 
-pub replay-append : (C : Circuit) (S : Standing) (xs ys : List Step)
-    → replay C S (xs ++ ys) ≡ replay C (replay C S xs) ys
+pub replay-append : (P : Problem) (S : Standing) (xs ys : List Step)
+    → replay P S (xs ++ ys) ≡ replay P (replay P S xs) ys
 unfolding replay
-replay-append C S [] ys = refl
-replay-append C S (x ∷ xs) ys = replay-append C (after C S x) xs ys
+replay-append P S [] ys = refl
+replay-append P S (x ∷ xs) ys = replay-append P (after P S x) xs ys
 
-pub accepted-append : (C : Circuit) (S : Standing) (xs ys : List Step)
-    → accepted C S xs ≡ true → accepted C (replay C S xs) ys ≡ true → accepted C S (xs ++ ys) ≡ true
+pub accepted-append : (P : Problem) (S : Standing) (xs ys : List Step)
+    → accepted P S xs ≡ true → accepted P (replay P S xs) ys ≡ true → accepted P S (xs ++ ys) ≡ true
 unfolding accepted replay
-accepted-append C S [] ys e f = f
-accepted-append C S (x ∷ xs) ys e f =
-    let here = inRange C x && met C S x in
-    let rest = accepted C (after C S x) xs in
-    and-both here _ (and-left here rest e) (accepted-append C (after C S x) xs ys (and-right here rest e) f)
+accepted-append P S [] ys e f = f
+accepted-append P S (x ∷ xs) ys e f =
+    let here = fits P S x in
+    let rest = accepted P (after P S x) xs in
+    and-both here _ (and-left here rest e) (accepted-append P (after P S x) xs ys (and-right here rest e) f)

@@ -1,6 +1,6 @@
 -- The reduced form of a linear constraint: it is 0 modulo p exactly at the runs that satisfy the constraint.
 use Prim.Native.Nat.{ℕ, zero, suc, _+_, _*_, _%_, _<_}
-use mathlib.Core.Path.{_≡_, refl, sym, ap, _∙_}
+use mathlib.Core.Path.{_≡_, sym, ap, _∙_}
 use mathlib.Core.Bool.{Bool, true, false, not}
 use native.Mathlib.Omega.{arith}
 use native.Mathlib.Nat.{mod-lt, mod-eq-of-lt}
@@ -12,8 +12,8 @@ use Rattle.field.proofs.Residue.{congruent-below, opposite-plus}
 use Rattle.circuit.specs.Circuit.{Constraint, WellFormedConstraint, Satisfies, coef, names, eval}
 use Rattle.laws.specs.Sum.{sum, keep}
 use Rattle.laws.specs.Rules.{namesNone, linear, constant, reduced, occurs}
-use Rattle.laws.proofs.Sum.{or-cases, sum-cong, sum-plus, sum-scale, sum-zeros, sum-first}
-use Rattle.laws.proofs.Forms.{unnamed-coef, unnamed-beyond, eval-sum, eval-none}
+use Rattle.laws.proofs.Sum.{or-cases, none-times, sum-cong, sum-plus, sum-scale, sum-zeros, sum-first}
+use Rattle.laws.proofs.Forms.{unnamed-coef, unnamed-beyond, eval-sum, signals, eval-parts, signals-none}
 
 -- Sums modulo p
 
@@ -117,28 +117,33 @@ module _ {n p : ℕ} {K : Constraint} (W : WellFormedConstraint n p K) (h : 0 < 
         ap (λ (k : ℕ). coef (K .b) 0 * k) (eval-sum (W .rises-a) v),
       )
 
-  -- A or B is its constant, so a0·B + b0·A is A·B + a0·b0
-  linear-product :
-      linear K ≡ true
-      → coef (K .a) 0 * eval (K .b) v + coef (K .b) 0 * eval (K .a) v ≡ eval (K .a) v * eval (K .b) v + constants K
-  unfolding linear
-  linear-product e =
-      or-cases (namesNone (K .a)) (namesNone (K .b)) e (λ i. rw (eval-none (W .rises-a) i v one) (omega arith))
-      (λ i. rw (eval-none (W .rises-b) i v one) (omega arith))
+  -- the law of the reduced form, linear or not: A·B - C = form + A′·B′, where A′ and B′ are the parts without constants
+  whole-product :
+      coef (K .a) 0 * eval (K .b) v + coef (K .b) 0 * eval (K .a) v + signals n (K .a) v * signals n (K .b) v
+      ≡ eval (K .a) v * eval (K .b) v + constants K
+  whole-product = rw (eval-parts (W .rises-a) v one, eval-parts (W .rises-b) v one) (omega arith)
 
-  -- the value of the reduced form is A·B - C
-  pub reduced-value : linear K ≡ true → Congruent p (sum (suc n) (λ s. reduced p K s * v s) + eval (K .c) v) (eval (K .a) v * eval (K .b) v)
-  reduced-value e =
+  pub reduced-value :
+      Congruent p (sum (suc n) (λ s. reduced p K s * v s) + eval (K .c) v + signals n (K .a) v * signals n (K .b) v) (eval (K .a) v * eval (K .b) v)
+  reduced-value =
       congruent-shift _ _
       (sum-congruent p (suc n) (λ s. (reduced p K s + constant (constants K) s + coef (K .c) s) * v s) _
       (λ s l. congruent-times (reduced-at p K s h) (congruent-refl p (v s))))
-      (omega (arith, left-side, right-side, linear-product e))
+      (omega (arith, left-side, right-side, whole-product))
 
-  pub reduced-zero : linear K ≡ true → Satisfies p K v → Congruent p (sum (suc n) (λ s. reduced p K s * v s)) 0
-  reduced-zero e sat = congruent-shift _ _ (congruent-trans (reduced-value e) sat) (omega arith)
+  -- of a linear constraint
+  module _ (e : linear K ≡ true) where
+    no-product : signals n (K .a) v * signals n (K .b) v ≡ 0
+    unfolding linear
+    no-product =
+        or-cases (namesNone (K .a)) (namesNone (K .b)) e (λ i. none-times _ _ (signals-none n (K .a) v i))
+        (λ i. ap (λ (k : ℕ). signals n (K .a) v * k) (signals-none n (K .b) v i) ∙ omega arith)
 
-  pub reduced-satisfies : linear K ≡ true → Congruent p (sum (suc n) (λ s. reduced p K s * v s)) 0 → Satisfies p K v
-  reduced-satisfies e z = congruent-shift _ _ (congruent-plus (congruent-sym (reduced-value e)) z) (omega arith)
+    pub reduced-zero : Satisfies p K v → Congruent p (sum (suc n) (λ s. reduced p K s * v s)) 0
+    reduced-zero sat = congruent-shift _ _ (congruent-trans reduced-value sat) (omega (arith, no-product))
+
+    pub reduced-satisfies : Congruent p (sum (suc n) (λ s. reduced p K s * v s)) 0 → Satisfies p K v
+    reduced-satisfies z = congruent-shift _ _ (congruent-plus (congruent-sym reduced-value) z) (omega (arith, no-product))
 
 -- a signal that no form names does not occur
 pub reduced-unnamed : (p : ℕ) (K : Constraint) (s : ℕ) → 0 < p

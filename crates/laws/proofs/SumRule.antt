@@ -14,21 +14,20 @@ use Rattle.field.proofs.Residue.{opposite-plus}
 use Rattle.field.proofs.Inverse.{inverse-is}
 use Rattle.circuit.specs.Circuit.{Constraint, WellFormedConstraint, Satisfies}
 use Rattle.laws.specs.Sum.{sum, keep}
-use Rattle.laws.specs.Standing.{Standing}
 use Rattle.laws.specs.Rules.{linear, reduced, occurs, sumWeight, ceiling, sumTerm, sumBound, sumMet}
 use Rattle.laws.proofs.Sum.{and-left, and-right, keep-mono, keep-times, keep-plus, keep-zero, sum-mono, sum-plus, sum-scale, sum-zeros}
 use Rattle.laws.proofs.Sum.{sum-out}
 use Rattle.laws.proofs.Reduced.{solve, nonzero-mod, sum-congruent, keep-congruent, reduced-below, reduced-zero, occurs-yes}
 
 -- what `sumMet` says
-pub record SumMet (p n : ℕ) (K : Constraint) (S : Standing) (t : ℕ) : Type 0 where
+pub record SumMet (p n : ℕ) (K : Constraint) (b : ℕ → ℕ) (t : ℕ) : Type 0 where
   pub is-linear : linear K ≡ true
   pub has-target : occurs (reduced p K) t ≡ true
-  pub below : sumBound p n (reduced p K) S t < p
+  pub below : sumBound p n (reduced p K) b t < p
 
-pub sum-met : (p n : ℕ) (K : Constraint) (S : Standing) (t : ℕ) → sumMet p n K S t ≡ true → SumMet p n K S t
+pub sum-met : (p n : ℕ) (K : Constraint) (b : ℕ → ℕ) (t : ℕ) → sumMet p n K b t ≡ true → SumMet p n K b t
 unfolding sumMet
-sum-met p n K S t e =
+sum-met p n K b t e =
     record {
       is-linear = and-left (linear K) _ (and-left _ _ e);
       has-target = and-right (linear K) _ (and-left _ _ e);
@@ -80,39 +79,39 @@ weight-scaled p K t s = congruent-mod p _
 
 -- values within the bounds make no larger sum
 others-bounded :
-    (p n : ℕ) (K : Constraint) (S : Standing) (t : ℕ) (v : ℕ → ℕ)
+    (p n : ℕ) (K : Constraint) (b : ℕ → ℕ) (t : ℕ) (v : ℕ → ℕ)
     → v 0 ≡ 1
-    → ((s : ℕ) → 1 ≤ s → s ≤ n → v s ≤ S .bound s)
-    → sum (suc n) (others t (sumWeight p (reduced p K) t) v) ≤ sumBound p n (reduced p K) S t
+    → ((s : ℕ) → 1 ≤ s → s ≤ n → v s ≤ b s)
+    → sum (suc n) (others t (sumWeight p (reduced p K) t) v) ≤ sumBound p n (reduced p K) b t
 unfolding others sumBound sumTerm ceiling
-others-bounded p n K S t v one bounded =
-    sum-mono (suc n) (others t (sumWeight p (reduced p K) t) v) (sumTerm p (reduced p K) S t)
+others-bounded p n K b t v one bounded =
+    sum-mono (suc n) (others t (sumWeight p (reduced p K) t) v) (sumTerm p (reduced p K) b t)
     (λ s l. keep-mono _ _ _ _ (λ e. e) (λ e. mul-le-mul-left (sumWeight p (reduced p K) t s) (within s l)))
   where
-    within : (s : ℕ) → s < suc n → v s ≤ ceiling S s
+    within : (s : ℕ) → s < suc n → v s ≤ ceiling b s
     within zero l = omega arith
     within (suc s) l = bounded (suc s) (omega arith) (omega arith)
 
 pub sum-sound :
-    {n p : ℕ} {K : Constraint} {S : Standing} {t : ℕ}
+    {n p : ℕ} {K : Constraint} {b : ℕ → ℕ} {t : ℕ}
     → Prime p
     → WellFormedConstraint n p K
     → t ≤ n
-    → SumMet p n K S t
+    → SumMet p n K b t
     → (v : ℕ → ℕ)
     → v 0 ≡ 1
     → v t < p
-    → ((s : ℕ) → 1 ≤ s → s ≤ n → v s ≤ S .bound s)
+    → ((s : ℕ) → 1 ≤ s → s ≤ n → v s ≤ b s)
     → Satisfies p K v
-    → v t ≤ sumBound p n (reduced p K) S t
+    → v t ≤ sumBound p n (reduced p K) b t
 unfolding others
-sum-sound {n} {p} {K} {S} {t} P W h M v one below bounded sat =
+sum-sound {n} {p} {K} {b} {t} P W h M v one below bounded sat =
     let positive : 0 < p = omega (arith, P .above) in
     let rest = sum (suc n) (others t (reduced p K) v) in
     let whole : sum (suc n) (λ s. reduced p K s * v s) ≡ reduced p K t * v t + rest =
     sum-out (suc n) (λ s. reduced p K s * v s) t (omega arith) in
-    let at-most : sum (suc n) (others t (sumWeight p (reduced p K) t) v) ≤ sumBound p n (reduced p K) S t =
-    others-bounded p n K S t v one bounded in
+    let at-most : sum (suc n) (others t (sumWeight p (reduced p K) t) v) ≤ sumBound p n (reduced p K) b t =
+    others-bounded p n K b t v one bounded in
     let equal : v t ≡ sum (suc n) (others t (sumWeight p (reduced p K) t) v) =
     congruent-below below (omega (arith, M .below))
     (solve rest (sum (suc n) (others t (λ s. opposite p (reduced p K s)) v))

@@ -9,11 +9,11 @@ use native.Mathlib.Omega.{arith}
 use native.Mathlib.Decide.{ℕ-discrete}
 use lib.Dec.{leb, eqb}
 use lib.ListN.{length}
-use borrow.Author.Tests.{leb-true, eq-eqb, ne-eqb}
-use Rattle.circuit.specs.Circuit.{Circuit}
+use borrow.Author.Tests.{leb-true, eq-eqb, ne-eqb, not-true}
+use Rattle.laws.specs.Problem.{Problem}
 use Rattle.laws.specs.Sum.{sum, keep}
-use Rattle.laws.specs.Standing.{Standing, add}
-use Rattle.laws.specs.Step.{Step, within, fields, inRange, met, after, replay, accepted}
+use Rattle.laws.specs.Standing.{Standing, add, idle}
+use Rattle.laws.specs.Step.{Step, within, inRange, fits, change, adds, after, replay, accepted}
 use Rattle.laws.specs.Solver.{taken, turns, stepsFor}
 use Rattle.laws.proofs.Sum.{and-left, and-right, and-both, keep-true, keep-false, keep-le, sum-mono, sum-out}
 use Rattle.laws.proofs.Order.{add-same, add-other}
@@ -22,14 +22,21 @@ pub within-says : (n s : ℕ) → within n s ≡ true → (1 ≤ s) × (s ≤ n)
 unfolding within
 within-says n s e = (leb-true 1 s (and-left _ (leb s n) e), leb-true s n (and-right (leb 1 s) _ e))
 
-pub target-within : (C : Circuit) (x : Step) → inRange C x ≡ true → (1 ≤ x .target) × (x .target ≤ C .n)
+pub target-within : (P : Problem) (x : Step) → inRange P x ≡ true → (1 ≤ x .target) × (x .target ≤ P .n)
 unfolding inRange
-target-within C x e = within-says (C .n) (x .target) (and-left _ _ e)
+target-within P x e = within-says (P .n) (x .target) (and-left _ _ e)
 
-pub fields-fit : (C : Circuit) (x : Step) → inRange C x ≡ true
-    → fields (x .kind) (C .n) (C .m) (x .constraint) (x .reference) ≡ true
-unfolding inRange
-fields-fit C x e = and-right (within (C .n) (x .target)) _ e
+pub adds-says : (P : Problem) (S : Standing) (x : Step) → adds P S x ≡ true → (fits P S x ≡ true) × (idle (change P S x) S (x .target) ≡ false)
+unfolding adds
+adds-says P S x e = (and-left _ _ e, not-true _ (and-right (fits P S x) _ e))
+
+pub adds-holds : (P : Problem) (S : Standing) (x : Step) → fits P S x ≡ true → idle (change P S x) S (x .target) ≡ false → adds P S x ≡ true
+unfolding adds
+adds-holds P S x e g = and-both _ _ e (ap not g)
+
+pub adds-target : (P : Problem) (S : Standing) (x : Step) → adds P S x ≡ true → (1 ≤ x .target) × (x .target ≤ P .n)
+unfolding fits
+adds-target P S x e = target-within P x (and-left _ _ (adds-says P S x e .0))
 
 -- The targets that are not done
 
@@ -96,76 +103,75 @@ add-counts done u t e = go (ℕ-discrete t u)
 
 -- Turns
 
-pub record Turn (C : Circuit) (Holds : (ℕ → Bool) → Standing → Type 0) (done : ℕ → Bool) (S : Standing) (x : Step) : Type 0 where
-  pub in-range : inRange C x ≡ true
-  pub is-met : met C S x ≡ true
+pub record Turn (P : Problem) (Holds : (ℕ → Bool) → Standing → Type 0) (done : ℕ → Bool) (S : Standing) (x : Step) : Type 0 where
+  pub is-new : adds P S x ≡ true
   pub new : done (x .target) ≡ false
-  pub holds : Holds (add done (x .target)) (after C S x)
+  pub holds : Holds (add done (x .target)) (after P S x)
 
 -- each turn takes a step that is in range and met, with a target that is not done, and keeps the invariant
-pub record Phase (C : Circuit) (choose : Standing → Option Step) (Holds : (ℕ → Bool) → Standing → Type 0) : Type 0 where
-  pub turn : (done : ℕ → Bool) (S : Standing) (x : Step) → Holds done S → choose S ≡ some x → Turn C Holds done S x
+pub record Phase (P : Problem) (choose : Standing → Option Step) (Holds : (ℕ → Bool) → Standing → Type 0) : Type 0 where
+  pub turn : (done : ℕ → Bool) (S : Standing) (x : Step) → Holds done S → choose S ≡ some x → Turn P Holds done S x
 
-module _ {C : Circuit} {choose : Standing → Option Step} {Holds : (ℕ → Bool) → Standing → Type 0} (phase : Phase C choose Holds) where
+module _ {P : Problem} {choose : Standing → Option Step} {Holds : (ℕ → Bool) → Standing → Type 0} (phase : Phase P choose Holds) where
   -- induction over the turns
-  turns-by : (P : ℕ → (ℕ → Bool) → Standing → List Step → Type 0)
-      → ((done : ℕ → Bool) (S : Standing) → Holds done S → P 0 done S [])
-      → ((fuel : ℕ) (done : ℕ → Bool) (S : Standing) → Holds done S → choose S ≡ none → P (suc fuel) done S [])
+  turns-by : (Q : ℕ → (ℕ → Bool) → Standing → List Step → Type 0)
+      → ((done : ℕ → Bool) (S : Standing) → Holds done S → Q 0 done S [])
+      → ((fuel : ℕ) (done : ℕ → Bool) (S : Standing) → Holds done S → choose S ≡ none → Q (suc fuel) done S [])
       → ((fuel : ℕ) (done : ℕ → Bool) (S : Standing) (x : Step) (xs : List Step)
-      → Turn C Holds done S x → P fuel (add done (x .target)) (after C S x) xs → P (suc fuel) done S (x ∷ xs))
-      → (fuel : ℕ) (done : ℕ → Bool) (S : Standing) → Holds done S → P fuel done S (turns choose C fuel S)
+      → Turn P Holds done S x → Q fuel (add done (x .target)) (after P S x) xs → Q (suc fuel) done S (x ∷ xs))
+      → (fuel : ℕ) (done : ℕ → Bool) (S : Standing) → Holds done S → Q fuel done S (turns choose P fuel S)
   unfolding turns
-  turns-by P ends stops goes zero done S h = ends done S h
-  turns-by P ends stops goes (suc fuel) done S h =
-      go (λ x u. turns-by P ends stops goes fuel (add done (x .target)) (after C S x) (u .holds)) (choose S) refl
+  turns-by Q ends stops goes zero done S h = ends done S h
+  turns-by Q ends stops goes (suc fuel) done S h =
+      go (λ x u. turns-by Q ends stops goes fuel (add done (x .target)) (after P S x) (u .holds)) (choose S) refl
     where
-      go : ((x : Step) → Turn C Holds done S x → P fuel (add done (x .target)) (after C S x) (turns choose C fuel (after C S x)))
-          → (o : Option Step) → choose S ≡ o → P (suc fuel) done S (taken o (λ x. turns choose C fuel (after C S x)))
+      go : ((x : Step) → Turn P Holds done S x → Q fuel (add done (x .target)) (after P S x) (turns choose P fuel (after P S x)))
+          → (o : Option Step) → choose S ≡ o → Q (suc fuel) done S (taken o (λ x. turns choose P fuel (after P S x)))
       go rest none e = stops fuel done S h e
       go rest (some x) e = let u = phase .turn done S x h e in goes fuel done S x _ u (rest x u)
 
-  turn-less : (done : ℕ → Bool) (S : Standing) (x : Step) → Turn C Holds done S x
-      → open-count (C .n) (add done (x .target)) < open-count (C .n) done
+  turn-less : (done : ℕ → Bool) (S : Standing) (x : Step) → Turn P Holds done S x
+      → open-count (P .n) (add done (x .target)) < open-count (P .n) done
   turn-less done S x u =
-      let w = target-within C x (u .in-range) in
-      open-less (C .n) done (x .target) (w .0) (w .1) (u .new)
+      let w = adds-target P S x (u .is-new) in
+      open-less (P .n) done (x .target) (w .0) (w .1) (u .new)
 
-  finished : (done : ℕ → Bool) (S : Standing) → Holds done S → open-count (C .n) done ≡ 0
+  finished : (done : ℕ → Bool) (S : Standing) → Holds done S → open-count (P .n) done ≡ 0
       → (o : Option Step) → choose S ≡ o → choose S ≡ none
   finished done S h z none e = e
   finished done S h z (some x) e = absurd (omega (arith, turn-less done S x (phase .turn done S x h e)))
 
-  pub turns-accepted : (fuel : ℕ) (done : ℕ → Bool) (S : Standing) → Holds done S → accepted C S (turns choose C fuel S) ≡ true
+  pub turns-accepted : (fuel : ℕ) (done : ℕ → Bool) (S : Standing) → Holds done S → accepted P S (turns choose P fuel S) ≡ true
   unfolding accepted
   turns-accepted =
-      turns-by (λ fuel done S xs. accepted C S xs ≡ true) (λ done S h. refl) (λ fuel done S h e. refl)
-      (λ fuel done S x xs u r. and-both _ _ (and-both _ _ (u .in-range) (u .is-met)) r)
+      turns-by (λ fuel done S xs. accepted P S xs ≡ true) (λ done S h. refl) (λ fuel done S h e. refl)
+      (λ fuel done S x xs u r. and-both _ _ (adds-says P S x (u .is-new) .0) r)
 
   pub turns-hold : (fuel : ℕ) (done : ℕ → Bool) (S : Standing) → Holds done S
-      → (last : ℕ → Bool) × Holds last (replay C S (turns choose C fuel S))
+      → (last : ℕ → Bool) × Holds last (replay P S (turns choose P fuel S))
   unfolding replay
   turns-hold =
-      turns-by (λ fuel done S xs. (last : ℕ → Bool) × Holds last (replay C S xs)) (λ done S h. (done, h)) (λ fuel done S h e. (done, h))
+      turns-by (λ fuel done S xs. (last : ℕ → Bool) × Holds last (replay P S xs)) (λ done S h. (done, h)) (λ fuel done S h e. (done, h))
       (λ fuel done S x xs u r. r)
 
   pub turns-once : (t fuel : ℕ) (done : ℕ → Bool) (S : Standing) → Holds done S
-      → stepsFor t (turns choose C fuel S) + keep (done t) 1 ≤ 1
+      → stepsFor t (turns choose P fuel S) + keep (done t) 1 ≤ 1
   unfolding stepsFor
   turns-once t =
       turns-by (λ fuel done S xs. stepsFor t xs + keep (done t) 1 ≤ 1) (λ done S h. omega (arith, keep-le (done t) 1))
       (λ fuel done S h e. omega (arith, keep-le (done t) 1))
       (λ fuel done S x xs u r. omega (arith, add-counts done (x .target) t (u .new)))
 
-  pub turns-short : (fuel : ℕ) (done : ℕ → Bool) (S : Standing) → Holds done S → length (turns choose C fuel S) ≤ fuel
+  pub turns-short : (fuel : ℕ) (done : ℕ → Bool) (S : Standing) → Holds done S → length (turns choose P fuel S) ≤ fuel
   turns-short =
       turns-by (λ fuel done S xs. length xs ≤ fuel) (λ done S h. omega arith) (λ fuel done S h e. omega arith)
       (λ fuel done S x xs u r. omega arith)
 
   pub turns-end : (fuel : ℕ) (done : ℕ → Bool) (S : Standing) → Holds done S
-      → open-count (C .n) done ≤ fuel → choose (replay C S (turns choose C fuel S)) ≡ none
+      → open-count (P .n) done ≤ fuel → choose (replay P S (turns choose P fuel S)) ≡ none
   unfolding replay
   turns-end =
-      turns-by (λ fuel done S xs. open-count (C .n) done ≤ fuel → choose (replay C S xs) ≡ none)
+      turns-by (λ fuel done S xs. open-count (P .n) done ≤ fuel → choose (replay P S xs) ≡ none)
       (λ done S h l. finished done S h (omega arith) (choose S) refl)
       (λ fuel done S h e l. e)
       (λ fuel done S x xs u r l. r (omega (arith, turn-less done S x u)))

@@ -1,123 +1,121 @@
--- The solver of document 01 as a list of steps: first bounds, then marks.
+-- The solver as a list of steps: first bounds, then marks.
 use Prim.Native.Nat.{ℕ, zero, suc, _+_}
 use mathlib.Core.Bool.{Bool, true, false, cond, _&&_, _||_}
 use mathlib.Core.List.{List, [], _∷_, _++_}
 use mathlib.Core.Option.{Option, none, some}
 use lib.Dec.{ltb, eqb}
-use Rattle.circuit.specs.Circuit.{Circuit, constraintAt}
 use Rattle.laws.specs.Sum.{keep}
-use Rattle.laws.specs.Standing.{Standing, start}
-use Rattle.laws.specs.Rules.{reduced, rootBound, sumBound}
-use Rattle.laws.specs.Step.{Kind, Root, Sum, Zero, Product, Digits, Step, inRange, met, after, replay}
+use Rattle.laws.specs.Problem.{Problem}
+use Rattle.laws.specs.Standing.{Standing, Change, bounds, marks, value, start}
+use Rattle.laws.specs.Step.{
+  Kind,
+  Root,
+  Sum,
+  kinds,
+  kindNumber,
+  Step,
+  Range,
+  only-zero,
+  from-one,
+  constraints,
+  references,
+  change,
+  adds,
+  after,
+  replay,
+}
 
 abbrev pub step : Kind → ℕ → ℕ → ℕ → Step
 step q t k r = record { kind = q; target = t; constraint = k; reference = r }
 
+-- the step adds to what changes of this sort give
+unfoldable pub addsBy : (Change → Bool) → Problem → Standing → Step → Bool
+addsBy c P S x = adds P S x && c (change P S x)
+
 -- Bounds
 
-abbrev pub newBoundBy : Kind → Circuit → Standing → Step → ℕ
-newBoundBy Root C S x = rootBound (C .p) (constraintAt C (x .constraint)) (x .target)
-newBoundBy Sum C S x = sumBound (C .p) (C .n) (reduced (C .p) (constraintAt C (x .constraint))) S (x .target)
-newBoundBy Zero C S x = S .bound (x .target)
-newBoundBy Product C S x = S .bound (x .target)
-newBoundBy Digits C S x = S .bound (x .target)
-
 -- the bound that a step gives its target
-unfoldable pub newBound : Circuit → Standing → Step → ℕ
-newBound C S x = newBoundBy (x .kind) C S x
+unfoldable pub newBound : Problem → Standing → Step → ℕ
+newBound P S x = value (change P S x)
 
--- "steps that lower some bound"
-unfoldable pub lowers : Circuit → Standing → Step → Bool
-lowers C S x = inRange C x && met C S x && ltb (newBound C S x) (S .bound (x .target))
-
--- the kinds' numbers
-abbrev pub kindNumber : Kind → ℕ
-kindNumber Root = 1
-kindNumber Sum = 2
-kindNumber Zero = 3
-kindNumber Product = 4
-kindNumber Digits = 5
+-- the step lowers the bound of its target
+abbrev pub lowers : Problem → Standing → Step → Bool
+lowers P S x = addsBy bounds P S x
 
 -- a is smaller than b, or they are equal and the rest decides
 unfoldable pub firstBy : ℕ → ℕ → Bool → Bool
 firstBy a b rest = ltb a b || (eqb a b && rest)
 
--- "the smallest new bound; on equal bounds the lowest target, then kind, then constraint"
-unfoldable pub precedes : Circuit → Standing → Step → Step → Bool
-precedes C S x y =
-    firstBy (newBound C S x) (newBound C S y)
+-- Rule 5.1: the order of steps by new bound, target, kind and constraint.
+unfoldable pub precedes : Problem → Standing → Step → Step → Bool
+precedes P S x y =
+    firstBy (newBound P S x) (newBound P S y)
     (firstBy (x .target) (y .target)
     (firstBy (kindNumber (x .kind)) (kindNumber (y .kind)) (ltb (x .constraint) (y .constraint))))
 
-abbrev pub preferred : Circuit → Standing → Step → Option Step → Option Step
-preferred C S x none = some x
-preferred C S x (some y) = cond (precedes C S x y) (some x) (some y)
+abbrev pub preferred : Problem → Standing → Step → Option Step → Option Step
+preferred P S x none = some x
+preferred P S x (some y) = cond (precedes P S x y) (some x) (some y)
 
 -- the better of a step, if it lowers its target's bound, and the best so far
-unfoldable pub consider : Circuit → Standing → Step → Option Step → Option Step
-consider C S x best = cond (lowers C S x) (preferred C S x best) best
+unfoldable pub consider : Problem → Standing → Step → Option Step → Option Step
+consider P S x best = cond (lowers P S x) (preferred P S x best) best
 
 -- the best so far after targets 1 to t of constraint k
-unfoldable pub bestOfTargets : Circuit → Standing → ℕ → ℕ → Option Step → Option Step
-bestOfTargets C S k zero best = best
-bestOfTargets C S k (suc t) best =
-    consider C S (step Sum (suc t) k 0) (consider C S (step Root (suc t) k 0) (bestOfTargets C S k t best))
+unfoldable pub bestOfTargets : Problem → Standing → ℕ → ℕ → Option Step → Option Step
+bestOfTargets P S k zero best = best
+bestOfTargets P S k (suc t) best =
+    consider P S (step Sum (suc t) k 0) (consider P S (step Root (suc t) k 0) (bestOfTargets P S k t best))
 
 -- the best of constraints 1 to k
-unfoldable pub bestOfConstraints : Circuit → Standing → ℕ → Option Step
-bestOfConstraints C S zero = none
-bestOfConstraints C S (suc k) = bestOfTargets C S (suc k) (C .n) (bestOfConstraints C S k)
+unfoldable pub bestOfConstraints : Problem → Standing → ℕ → Option Step
+bestOfConstraints P S zero = none
+bestOfConstraints P S (suc k) = bestOfTargets P S (suc k) (P .n) (bestOfConstraints P S k)
 
--- "of all steps that lower some bound, take the one with the smallest new bound"
-unfoldable pub bestBound : Circuit → Standing → Option Step
-bestBound C S = bestOfConstraints C S (C .m)
+-- Rule 5.1: the first in that order of all steps that lower a bound.
+unfoldable pub bestBound : Problem → Standing → Option Step
+bestBound P S = bestOfConstraints P S (P .m)
 
 -- Marks
 
--- the step where its rule is met, else what is found later
+-- the step where the test holds, else what is found later
 abbrev pub pick : Bool → Step → Option Step → Option Step
 pick true x later = some x
 pick false x later = later
 
--- digits for target t by constraint k with references r + 1 to r + j
-unfoldable pub firstReference : Circuit → Standing → ℕ → ℕ → ℕ → ℕ → Option Step → Option Step
-firstReference C S t k r zero later = later
-firstReference C S t k r (suc j) later =
-    let next = firstReference C S t k (suc r) j later in
-    pick (met C S (step Digits t k (suc r))) (step Digits t k (suc r)) next
+-- the first that f finds at a + 1 to a + j, else what is found later
+unfoldable pub firstUp : ℕ → ℕ → (ℕ → Option Step → Option Step) → Option Step → Option Step
+firstUp a zero f later = later
+firstUp a (suc j) f later = f (suc a) (firstUp (suc a) j f later)
 
--- digits for target t by constraints k + 1 to k + j
-unfoldable pub firstDigits : Circuit → Standing → ℕ → ℕ → ℕ → Option Step → Option Step
-firstDigits C S t k zero later = later
-firstDigits C S t k (suc j) later =
-    let next = firstDigits C S t (suc k) j later in
-    firstReference C S t (suc k) 0 (C .n) next
+-- .. at each value that a field may have
+abbrev pub firstIn : Range → (ℕ → Option Step → Option Step) → Option Step → Option Step
+firstIn only-zero f later = f 0 later
+firstIn (from-one n) f later = firstUp 0 n f later
 
--- product for target t by constraints k + 1 to k + j
-unfoldable pub firstProduct : Circuit → Standing → ℕ → ℕ → ℕ → Option Step → Option Step
-firstProduct C S t k zero later = later
-firstProduct C S t k (suc j) later =
-    let next = firstProduct C S t (suc k) j later in
-    pick (met C S (step Product t (suc k) 0)) (step Product t (suc k) 0) next
+unfoldable pub try : (Change → Bool) → Problem → Standing → ℕ → Kind → ℕ → ℕ → Option Step → Option Step
+try c P S t q k r later = pick (addsBy c P S (step q t k r)) (step q t k r) later
 
--- "by the lowest kind, the lowest constraint, then the lowest reference"
-unfoldable pub firstFor : Circuit → Standing → ℕ → Option Step → Option Step
-firstFor C S t later =
-    let digits = firstDigits C S t 0 (C .m) later in
-    let product = firstProduct C S t 0 (C .m) digits in
-    pick (met C S (step Zero t 0 0)) (step Zero t 0 0) product
+unfoldable pub tryReferences : (Change → Bool) → Problem → Standing → ℕ → Kind → ℕ → Option Step → Option Step
+tryReferences c P S t q k later = firstIn (references q P) (try c P S t q k) later
 
--- targets t + 1 to t + j
-unfoldable pub firstTarget : Circuit → Standing → ℕ → ℕ → Option Step
-firstTarget C S t zero = none
-firstTarget C S t (suc j) =
-    let next = firstTarget C S (suc t) j in
-    let here = firstFor C S (suc t) next in
-    cond (S .marked (suc t)) next here
+unfoldable pub tryKind : (Change → Bool) → Problem → Standing → ℕ → Kind → Option Step → Option Step
+tryKind c P S t q later = firstIn (constraints q P) (tryReferences c P S t q) later
 
--- "the lowest unmarked target that some step marks"
-unfoldable pub firstMark : Circuit → Standing → Option Step
-firstMark C S = firstTarget C S 0 (C .n)
+-- Rule 5.2: by kind, then constraint, then reference.
+unfoldable pub tryKinds : (Change → Bool) → Problem → Standing → List Kind → ℕ → Option Step → Option Step
+tryKinds c P S [] t later = later
+tryKinds c P S (q ∷ qs) t later = tryKind c P S t q (tryKinds c P S qs t later)
+
+-- Rule 5.2: the order of steps by target, kind, constraint and reference. That the search takes the first in this order is a theorem.
+unfoldable pub earlier : Step → Step → Bool
+earlier x y =
+    firstBy (x .target) (y .target)
+    (firstBy (kindNumber (x .kind)) (kindNumber (y .kind)) (firstBy (x .constraint) (y .constraint) (ltb (x .reference) (y .reference))))
+
+-- Rule 5.2: the lowest target to which some step adds by a change of this sort.
+unfoldable pub firstAdding : (Change → Bool) → Problem → Standing → Option Step
+firstAdding c P S = firstUp 0 (P .n) (tryKinds c P S kinds) none
 
 -- The whole
 
@@ -125,20 +123,23 @@ abbrev pub taken : Option Step → (Step → List Step) → List Step
 taken none rest = []
 taken (some x) rest = x ∷ rest x
 
--- at most `fuel` turns: the steps of one phase, each chosen where the one before it led, "until none is left"
-unfoldable pub turns : (Standing → Option Step) → Circuit → ℕ → Standing → List Step
-turns choose C zero S = []
-turns choose C (suc fuel) S = taken (choose S) (λ x. turns choose C fuel (after C S x))
+-- at most `fuel` turns: the steps of one phase, each chosen where the one before it led, until none is left
+unfoldable pub turns : (Standing → Option Step) → Problem → ℕ → Standing → List Step
+turns choose P zero S = []
+turns choose P (suc fuel) S = taken (choose S) (λ x. turns choose P fuel (after P S x))
 
-unfoldable pub boundSteps : Circuit → List Step
-boundSteps C = turns (bestBound C) C (C .n) (start C)
+unfoldable pub boundSteps : Problem → List Step
+boundSteps P = turns (bestBound P) P (P .n) (start P)
 
-unfoldable pub markSteps : Circuit → List Step
-markSteps C = turns (firstMark C) C (C .n) (replay C (start C) (boundSteps C))
+abbrev pub bounded : Problem → Standing
+bounded P = replay P (start P) (boundSteps P)
 
--- "First bounds .. Then marks"
-unfoldable pub solution : Circuit → List Step
-solution C = boundSteps C ++ markSteps C
+unfoldable pub markSteps : Problem → List Step
+markSteps P = turns (firstAdding marks P) P (P .n) (bounded P)
+
+-- Rules 5.1 and 5.2: first bounds, then marks.
+unfoldable pub solution : Problem → List Step
+solution P = boundSteps P ++ markSteps P
 
 -- how many of the steps have target t
 unfoldable pub stepsFor : ℕ → List Step → ℕ

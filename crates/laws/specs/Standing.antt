@@ -1,10 +1,10 @@
--- The standing of document 01 (the abstract state of uniqueness propagation): a bound and a mark for each signal.
-use Prim.Native.Nat.{ℕ, _-_, min}
-use mathlib.Core.Bool.{Bool, cond, _&&_, _||_}
+-- The standing (the abstract state of uniqueness propagation), and what a rule may change in it.
+use Prim.Native.Nat.{ℕ, min}
+use mathlib.Core.Bool.{Bool, true, false, cond, _&&_, _||_}
 use lib.Dec.{leb, eqb}
-use Rattle.circuit.specs.Circuit.{Circuit}
+use Rattle.laws.specs.Problem.{Problem}
 
--- The bound is the largest value that a signal is known to take; a mark says that the inputs settle the signal.
+-- Rule 3.1. The bound is the largest value that a signal is known to take; a mark says that the inputs settle the signal ("constrained").
 pub record Standing : Type 0 where
   pub bound : ℕ → ℕ
   pub marked : ℕ → Bool
@@ -17,20 +17,47 @@ put f t x s = cond (eqb s t) x (f s)
 unfoldable pub add : (ℕ → Bool) → ℕ → ℕ → Bool
 add m t s = eqb s t || m s
 
--- "The target's bound becomes at most" x: "a bound never rises"
+-- Rule 3.3: the bound of t becomes at most x, and never rises.
 unfoldable pub lower : Standing → ℕ → ℕ → Standing
 lower S t x = record { bound = put (S .bound) t (min (S .bound t) x); marked = S .marked }
 
--- "The target becomes marked": "a mark is never removed"
+-- Rule 3.3: t becomes marked; the other marks stay.
 unfoldable pub mark : Standing → ℕ → Standing
 mark S t = record { bound = S .bound; marked = add (S .marked) t }
 
-unfoldable pub largest : ℕ → ℕ → ℕ
-largest p s = p - 1
-
+-- signals 1 to i
 unfoldable pub isInput : ℕ → ℕ → Bool
 isInput i s = leb 1 s && leb s i
 
--- "At the start every bound is p - 1 and exactly the inputs are marked."
-unfoldable pub start : Circuit → Standing
-start C = record { bound = largest (C .p); marked = isInput (C .i) }
+-- Rule 3.2: the first bounds, and the inputs marked.
+unfoldable pub start : Problem → Standing
+start P = record { bound = P .first; marked = isInput (P .i) }
+
+-- what a rule gives its target: a bound of at most x, or a mark
+pub data Change : Type 0 where
+  atMost : ℕ → Change
+  fixed : Change
+
+abbrev pub apply : Change → Standing → ℕ → Standing
+apply (atMost x) S t = lower S t x
+apply fixed S t = mark S t
+
+-- the change gives its target nothing new
+abbrev pub idle : Change → Standing → ℕ → Bool
+idle (atMost x) S t = leb (S .bound t) x
+idle fixed S t = S .marked t
+
+-- The sorts of changes
+
+abbrev pub bounds : Change → Bool
+bounds (atMost x) = true
+bounds fixed = false
+
+abbrev pub marks : Change → Bool
+marks (atMost x) = false
+marks fixed = true
+
+-- the bound that a change gives
+abbrev pub value : Change → ℕ
+value (atMost x) = x
+value fixed = 0

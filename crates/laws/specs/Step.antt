@@ -1,15 +1,63 @@
--- A step, whether its rule is met and what it gives; a derivation as steps taken one after the other.
-use Prim.Native.Nat.{ℕ, suc}
-use mathlib.Core.Bool.{Bool, true, _&&_}
+-- Steps: the one table of kinds, what a step gives, and a derivation as steps taken one after the other.
+use Prim.Native.Nat.{ℕ}
+use mathlib.Core.Bool.{Bool, true, false, not, _&&_}
 use mathlib.Core.List.{List, [], _∷_}
 use lib.Dec.{leb, eqb}
-use Rattle.circuit.specs.Circuit.{Circuit, constraintAt}
-use Rattle.laws.specs.Standing.{Standing, lower, mark}
+use Rattle.laws.specs.Problem.{Problem, Subject, subject, Names, nothing, aConstraint}
+use Rattle.laws.specs.Standing.{Standing, Change, atMost, fixed, apply, idle}
 use Rattle.laws.specs.Rules.{reduced, rootMet, rootBound, sumMet, sumBound, zeroMet, productMet, digitsMet}
 
--- "Kinds: 1 root, 2 sum, 3 zero, 4 product, 5 digits."
+-- Rule 2.2.
 pub data Kind : Type 0 where
   Root Sum Zero Product Digits : Kind
+
+-- The table of kinds
+
+-- in the order of their numbers
+abbrev pub kinds : List Kind
+kinds = Root ∷ Sum ∷ Zero ∷ Product ∷ Digits ∷ []
+
+abbrev pub kindNumber : Kind → ℕ
+kindNumber Root = 1
+kindNumber Sum = 2
+kindNumber Zero = 3
+kindNumber Product = 4
+kindNumber Digits = 5
+
+-- Rule 2.3: what the constraint field names ..
+abbrev pub namesOf : Kind → Names
+namesOf Root = aConstraint
+namesOf Sum = aConstraint
+namesOf Zero = nothing
+namesOf Product = aConstraint
+namesOf Digits = aConstraint
+
+-- .. and whether the reference field names a signal
+abbrev pub refers : Kind → Bool
+refers Root = false
+refers Sum = false
+refers Zero = false
+refers Product = false
+refers Digits = true
+
+-- whether a rule is met, and what it then gives its target
+pub record Rule : Type 0 where
+  pub met : Bool
+  pub change : Change
+
+-- Rules 4.3 to 4.7, for target t and reference r.
+abbrev pub rule : Kind → Subject → Standing → ℕ → ℕ → Rule
+rule Root J S t r = record { met = rootMet (J .equation) t; change = atMost (rootBound (J .p) (J .equation) t) }
+rule Sum J S t r =
+    record {
+      met = sumMet (J .p) (J .n) (J .equation) (S .bound) t;
+      change = atMost (sumBound (J .p) (J .n) (reduced (J .p) (J .equation)) (S .bound) t);
+    }
+rule Zero J S t r = record { met = zeroMet (S .bound) t; change = fixed }
+rule Product J S t r = record { met = productMet (J .equation) (S .marked) t; change = fixed }
+rule Digits J S t r = record { met = digitsMet (J .p) (J .n) (J .equation) (S .bound) (S .marked) t r; change = fixed }
+
+-- What follows from the table
 
 pub record Step : Type 0 where
   pub kind : Kind
@@ -21,46 +69,62 @@ pub record Step : Type 0 where
 unfoldable pub within : ℕ → ℕ → Bool
 within n s = leb 1 s && leb s n
 
--- "Kinds 1, 2 and 4 have reference 0. Kind 3 has constraint and reference 0. Otherwise target and reference are 1 to n,
--- constraint 1 to m."
-abbrev pub fields : Kind → ℕ → ℕ → ℕ → ℕ → Bool
-fields Root n m k r = within m k && eqb r 0
-fields Sum n m k r = within m k && eqb r 0
-fields Zero n m k r = eqb k 0 && eqb r 0
-fields Product n m k r = within m k && eqb r 0
-fields Digits n m k r = within m k && within n r
+-- the values that a field may have: 0 alone, or 1 to a number
+pub data Range : Type 0 where
+  only-zero : Range
+  from-one : ℕ → Range
 
-unfoldable pub inRange : Circuit → Step → Bool
-inRange C x = within (C .n) (x .target) && fields (x .kind) (C .n) (C .m) (x .constraint) (x .reference)
+abbrev pub inside : Range → ℕ → Bool
+inside only-zero k = eqb k 0
+inside (from-one n) k = within n k
 
-abbrev pub metBy : Kind → Circuit → Standing → Step → Bool
-metBy Root C S x = rootMet (constraintAt C (x .constraint)) (x .target)
-metBy Sum C S x = sumMet (C .p) (C .n) (constraintAt C (x .constraint)) S (x .target)
-metBy Zero C S x = zeroMet S (x .target)
-metBy Product C S x = productMet (constraintAt C (x .constraint)) S (x .target)
-metBy Digits C S x = digitsMet (C .p) (C .n) (constraintAt C (x .constraint)) S (x .target) (x .reference)
+abbrev pub named : Names → Problem → Range
+named nothing P = only-zero
+named aConstraint P = from-one (P .m)
+
+abbrev pub referred : Bool → Problem → Range
+referred false P = only-zero
+referred true P = from-one (P .n)
+
+abbrev pub constraints : Kind → Problem → Range
+constraints q P = named (namesOf q) P
+
+abbrev pub references : Kind → Problem → Range
+references q P = referred (refers q) P
+
+-- Rule 2.3: target, constraint and reference are in range.
+unfoldable pub inRange : Problem → Step → Bool
+inRange P x =
+    within (P .n) (x .target) && (inside (constraints (x .kind) P) (x .constraint) && inside (references (x .kind) P) (x .reference))
+
+unfoldable pub ruleOf : Problem → Standing → Step → Rule
+ruleOf P S x = rule (x .kind) (subject (namesOf (x .kind)) P (x .constraint)) S (x .target) (x .reference)
 
 -- the step meets its rule
-unfoldable pub met : Circuit → Standing → Step → Bool
-met C S x = metBy (x .kind) C S x
+unfoldable pub met : Problem → Standing → Step → Bool
+met P S x = ruleOf P S x .met
 
-abbrev pub afterBy : Kind → Circuit → Standing → Step → Standing
-afterBy Root C S x = lower S (x .target) (rootBound (C .p) (constraintAt C (x .constraint)) (x .target))
-afterBy Sum C S x = lower S (x .target) (sumBound (C .p) (C .n) (reduced (C .p) (constraintAt C (x .constraint))) S (x .target))
-afterBy Zero C S x = mark S (x .target)
-afterBy Product C S x = mark S (x .target)
-afterBy Digits C S x = mark S (x .target)
+unfoldable pub change : Problem → Standing → Step → Change
+change P S x = ruleOf P S x .change
 
--- "One step takes the standing and gives the next."
-unfoldable pub after : Circuit → Standing → Step → Standing
-after C S x = afterBy (x .kind) C S x
+-- Rule 3.3: the next standing.
+unfoldable pub after : Problem → Standing → Step → Standing
+after P S x = apply (change P S x) S (x .target)
 
--- "the first step is taken on the start, each later one on what the step before it gave"
-unfoldable pub replay : Circuit → Standing → List Step → Standing
-replay C S [] = S
-replay C S (x ∷ xs) = replay C (after C S x) xs
+-- Rule 3.5: each step is taken on what the one before it gave.
+unfoldable pub replay : Problem → Standing → List Step → Standing
+replay P S [] = S
+replay P S (x ∷ xs) = replay P (after P S x) xs
 
--- each step is in range and meets its rule where it stands
-unfoldable pub accepted : Circuit → Standing → List Step → Bool
-accepted C S [] = true
-accepted C S (x ∷ xs) = inRange C x && met C S x && accepted C (after C S x) xs
+-- the step is in range and meets its rule
+unfoldable pub fits : Problem → Standing → Step → Bool
+fits P S x = inRange P x && met P S x
+
+-- .. and gives something new
+unfoldable pub adds : Problem → Standing → Step → Bool
+adds P S x = fits P S x && not (idle (change P S x) S (x .target))
+
+-- Rules 3.4 and 3.6: each step is in range and meets its rule where it stands; it may give nothing new.
+unfoldable pub accepted : Problem → Standing → List Step → Bool
+accepted P S [] = true
+accepted P S (x ∷ xs) = fits P S x && accepted P (after P S x) xs

@@ -1,28 +1,28 @@
 -- The digits test by gathered weights: what each loop of the code has shown, and that the gathered test is the rule's.
-use Prim.Native.Nat.{ℕ, zero, suc, _+_, _*_, _%_, _≤_, _<_, min}
-use mathlib.Core.Path.{_≡_, refl, sym, ap, _∙_, fun-ext}
-use mathlib.Core.Logic.{_⊎_, inl, inr, ⊎-elim}
+use Prim.Native.Nat.{ℕ, zero, suc, _+_, _-_, _*_, _≤_, _<_, min}
+use mathlib.Core.Path.{_≡_, refl, sym, ap, _∙_}
+use mathlib.Core.Logic.{⊎-elim}
 use mathlib.Core.Bool.{Bool, true, false, not, _&&_}
 use mathlib.Core.List.{List}
-use native.Mathlib.Nat.{zero-add}
+use native.Mathlib.Nat.{mod-lt}
 use native.Mathlib.Numerals.{add-one}
 use native.Mathlib.Decide.{decLe}
 use native.Mathlib.Omega.{arith}
 use lib.Dec.{ltb, eqb}
 use lib.ListN.{length, set}
 use lib.Seq.{getD-set-same, getD-set-other}
-use borrow.Author.Tests.{eq-eqb, ne-eqb, lt-ltb, le-ltb}
+use borrow.Author.Tests.{ne-eqb, eqb-false, lt-ltb, le-ltb, ltb-true, ltb-false, not-true}
 use Rattle.field.specs.Inverse.{inverse}
-use Rattle.laws.specs.Sum.{sum, all, implies}
-use Rattle.laws.specs.Standing.{Standing}
-use Rattle.laws.specs.Rules.{occurs, weight, live, differs, smallerTerm, smallerSum, separate, liveTerm, separated}
-use Rattle.laws.proofs.Sum.{and-both, true-or-false, false-by, keep-true, keep-false, all-at, sum-last}
-use Rattle.rules.specs.View.{coefIn, boundIn, markIn, viewOf}
-use Rattle.rules.specs.Steps.{apart, smaller, exceeds}
-use Rattle.rules.proofs.ViewLaws.{coef-past}
+use Rattle.laws.specs.Sum.{sum, all, keep, implies}
+use Rattle.laws.specs.Rules.{weight, live, differs, smallerTerm, smallerSum, separate, liveTerm, separated}
+use Rattle.laws.proofs.Sum.{and-left, and-right, and-both, by-test, true-or-false, false-by, implies-elim, implies-intro, keep-true, keep-false}
+use Rattle.laws.proofs.Sum.{keep-le, all-at, all-from, sum-cong, sum-mono, sum-last}
+use Rattle.rules.specs.View.{coefIn}
+use Rattle.rules.specs.Weights.{scaled, Differ, Last, positive, smaller, smallerAt, exceeds}
 use Rattle.rules.proofs.SumLaws.{sum-grows, sum-short}
-use Rattle.rules.proofs.Ranks.{and-true, and-false, all-last, all-short, rank, rank-zero, rank-passed, rank-failed, rank-below}
-use Rattle.rules.proofs.Ranks.{rank-equal, sum-rank, all-rank}
+use Rattle.rules.proofs.Ranks.{and-false, all-last, rank, rank-zero, rank-passed, rank-failed, rank-below, rank-grows, sum-rank}
+use Rattle.rules.proofs.Few.{few}
+use Rattle.rules.proofs.WeightLaws.{lt-or-last, live-past}
 
 -- A bounded test, index by index
 
@@ -40,60 +40,140 @@ module _ (q : ℕ → Bool) where
   pub all-end : (k n : ℕ) → n ≤ k → k ≤ n → all k q ≡ true → all n q ≡ true
   all-end k n h l e = ap (λ (m : ℕ). all m q) (omega arith) ∙ e
 
--- One weight against the others
+both-ways : (a b : Bool) → (a ≡ true → b ≡ true) → (b ≡ true → a ≡ true) → a ≡ b
+both-ways true b f g = sym (f refl)
+both-ways false true f g = g refl
+both-ways false false f g = refl
 
-pub apart-same : (w : ℕ → ℕ) (i j : ℕ) → i ≡ j → true ≡ apart w i j
-unfolding apart implies
-apart-same w i j e = sym (rw (eq-eqb i j e))
+-- One weight against the gathered ones
 
-pub apart-other : (w : ℕ → ℕ) (i j a b : ℕ) → (i ≡ j → ⊥) → a ≡ w i → b ≡ w j → not (eqb a b) ≡ apart w i j
-unfolding apart implies
-apart-other w i j a b d a-is b-is = rw (ne-eqb i j d, a-is, b-is)
-
-pub smaller-yes : (w x : ℕ → ℕ) (weight j a b : ℕ) → a ≡ w j → a < weight → b ≡ x j → b ≡ smaller w x weight j
+pub smaller-yes : (a x w : ℕ) → a < w → x ≡ smaller a x w
 unfolding smaller
-smaller-yes w x weight j a b a-is h b-is = b-is ∙ sym (keep-true _ _ (lt-ltb (w j) weight (omega arith)))
+smaller-yes a x w h = sym (keep-true _ _ (lt-ltb a w h))
 
-pub smaller-no : (w x : ℕ → ℕ) (weight j a : ℕ) → a ≡ w j → weight ≤ a → 0 ≡ smaller w x weight j
+pub smaller-no : (a x w : ℕ) → w ≤ a → 0 ≡ smaller a x w
 unfolding smaller
-smaller-no w x weight j a a-is h = sym (keep-false _ _ (le-ltb (w j) weight (omega arith)))
+smaller-no a x w h = sym (keep-false _ _ (le-ltb a w h))
 
-module _ (w x : ℕ → ℕ) (count i : ℕ) where
-  pub row-clash : all count (apart w i) ≡ false → false ≡ exceeds w x count i
-  unfolding exceeds
-  row-clash e = sym (rw e)
+module _ (W X : ℕ → ℕ) (w : ℕ) where
+  pub smaller-start : 0 ≡ sum 0 (smallerAt W X w)
+  unfolding sum
+  smaller-start = refl
 
-  pub row-on : (j below weight y : ℕ) → below ≡ sum j (smaller w x weight) → y ≡ smaller w x weight j → below + y ≡ sum (j + 1) (smaller w x weight)
-  row-on j below weight y e g = rw (add-one j) (omega (arith, sum-last j (smaller w x weight)))
+  pub smaller-on : (j below y a x : ℕ) → below ≡ sum j (smallerAt W X w) → a ≡ W j → x ≡ X j → y ≡ smaller a x w → below + y ≡ sum (j + 1) (smallerAt W X w)
+  unfolding smallerAt
+  smaller-on j below y a x e a-is x-is y-is =
+      let last : y ≡ smaller (W j) (X j) w = y-is ∙ rw (a-is, x-is) in
+      rw (add-one j) (omega (arith, sum-last j (smallerAt W X w)))
 
-  pub row-end : (j below weight : ℕ) → weight ≡ w i → count ≤ j → j ≤ count → below ≡ sum j (smaller w x weight) → all j (apart w i) ≡ true
-      → ltb below weight ≡ exceeds w x count i
-  unfolding exceeds
-  row-end j below weight weight-is h l e g =
-      let whole : j ≡ count = omega arith in
-      sym (rw (all-end (apart w i) j count h l g, sym weight-is, sym whole, sym e))
+  -- partial sums are at most the sum of all products
+  pub smaller-room : (j count below y a x : ℕ) → j < count → below ≡ sum j (smallerAt W X w) → a ≡ W j → x ≡ X j → y ≡ smaller a x w → below + y ≤ sum count X
+  unfolding smallerAt smaller
+  smaller-room j count below y a x h e a-is x-is y-is =
+      omega (
+        arith,
+        smaller-on j below y a x e a-is x-is y-is,
+        sum-mono (j + 1) (smallerAt W X w) X (λ s l. keep-le _ _),
+        sum-grows (j + 1) count X (omega arith),
+      )
 
-lt-or-last : (s k : ℕ) → s < suc k → (s < k) ⊎ (s ≡ k)
-lt-or-last s k h = go (decLe (suc s) k)
+  pub smaller-end : (j count : ℕ) → j ≤ count → count ≤ j → (below : ℕ) → below ≡ sum j (smallerAt W X w) → below ≡ sum count (smallerAt W X w)
+  smaller-end j count h l below e = e ∙ ap (λ (k : ℕ). sum k (smallerAt W X w)) (omega arith)
+
+module _ (p : ℕ) (R : ℕ → ℕ) (m : ℕ → Bool) (k : ℕ) (W X : ℕ → ℕ) (count s : ℕ) (b : Bool) (b-is : b ≡ live R m s) where
+  pub exceeds-dead : b ≡ false → true ≡ exceeds p R m k W X count s
+  unfolding exceeds implies
+  exceeds-dead e = sym (rw (sym b-is ∙ e))
+
+  pub exceeds-live : b ≡ true → (w y : ℕ) → w ≡ scaled p R k s → y ≡ sum count (smallerAt W X w) → ltb y w ≡ exceeds p R m k W X count s
+  unfolding exceeds implies
+  exceeds-live e w y w-is y-is = sym (rw (sym b-is ∙ e, sym w-is, sym y-is))
+
+-- The rule, by any weights
+
+-- as `separated`, over the test for unmarked signals and their weights
+separatedBy : ℕ → ℕ → (ℕ → Bool) → (ℕ → ℕ) → (ℕ → ℕ) → Bool
+separatedBy p n q w b =
+    all n
+    (λ s.
+    implies (q s)
+    (all n (λ u. implies (q u && not (eqb s u)) (not (eqb (w s) (w u)))) && ltb (sum n (λ u. keep (q u && ltb (w u) (w s)) (w u * b u))) (w s)))
+    && ltb (sum n (λ u. keep (q u) (w u * b u))) p
+
+separated-by : (p n : ℕ) (R b : ℕ → ℕ) (m : ℕ → Bool) (r k : ℕ) → k ≡ inverse p (R r)
+    → separated p n R b m r ≡ separatedBy p (suc n) (live R m) (scaled p R k) b
+unfolding separated separate differs smallerSum smallerTerm liveTerm weight scaled separatedBy
+separated-by p n R b m r k e = rw e refl
+
+record Parts (p n : ℕ) (q : ℕ → Bool) (w b : ℕ → ℕ) : Type 0 where
+  differ : (s u : ℕ) → s < n → u < n → q s ≡ true → q u ≡ true → (s ≡ u → ⊥) → w s ≡ w u → ⊥
+  exceed : (s : ℕ) → s < n → q s ≡ true → sum n (λ u. keep (q u && ltb (w u) (w s)) (w u * b u)) < w s
+  total : sum n (λ u. keep (q u) (w u * b u)) < p
+
+module _ (p n : ℕ) (q : ℕ → Bool) (w b : ℕ → ℕ) where
+  abbrev unlike : ℕ → ℕ → Bool
+  unlike s u = implies (q u && not (eqb s u)) (not (eqb (w s) (w u)))
+
+  abbrev lowSum : ℕ → ℕ
+  lowSum s = sum n (λ u. keep (q u && ltb (w u) (w s)) (w u * b u))
+
+  abbrev apart : ℕ → Bool
+  apart s = implies (q s) (all n (unlike s) && ltb (lowSum s) (w s))
+
+  parts : separatedBy p n q w b ≡ true → Parts p n q w b
+  unfolding separatedBy
+  parts e =
+      record {
+        differ = λ s u l h i j d.
+            eqb-false (w s) (w u)
+            (not-true _
+            (implies-elim (q u && not (eqb s u)) _ (all-at n (unlike s) (and-left _ _ (one s l i)) u h)
+            (and-both (q u) _ j (ap not (ne-eqb s u d)))));
+        exceed = λ s l i. ltb-true _ _ (and-right (all n (unlike s)) _ (one s l i));
+        total = ltb-true _ p (and-right (all n apart) _ e);
+      }
+    where
+      one : (s : ℕ) → s < n → q s ≡ true → (all n (unlike s) && ltb (lowSum s) (w s)) ≡ true
+      one s l i = implies-elim (q s) _ (all-at n apart (and-left _ _ e) s l) i
+
+  whole : Parts p n q w b → separatedBy p n q w b ≡ true
+  unfolding separatedBy
+  whole P =
+      and-both (all n apart) _
+      (all-from n apart
+      (λ s l.
+      implies-intro (q s) _
+      (λ i.
+      and-both (all n (unlike s)) _
+      (all-from n (unlike s)
+      (λ u h.
+      implies-intro (q u && not (eqb s u)) _
+      (λ j.
+      ap not (ne-eqb (w s) (w u) (P .differ s u l h i (and-left (q u) _ j) (eqb-false s u (not-true _ (and-right (q u) _ j))))))))
+      (lt-ltb _ _ (P .exceed s l i)))))
+      (lt-ltb _ p (P .total))
+
+-- Only bounds above 0 add to a sum
+
+abbrev some : (ℕ → Bool) → (ℕ → ℕ) → ℕ → Bool
+some q b u = q u && ltb 0 (b u)
+
+keep-some : (a c : Bool) (w b : ℕ) → keep (a && c) (w * b) ≡ keep ((a && ltb 0 b) && c) (w * b)
+unfolding keep
+keep-some false c w b = refl
+keep-some true c w b =
+    by-test (ltb 0 b) (λ e. rw e refl) (λ e. rw e (let z : b ≡ 0 = omega (arith, ltb-false 0 b e) in rw z (nothing c)))
   where
-    go : Dec (suc s ≤ k) → (s < k) ⊎ (s ≡ k)
-    go (yes e) = inl e
-    go (no d) = inr (omega arith)
+    nothing : (d : Bool) → keep d (w * 0) ≡ 0
+    nothing true = omega arith
+    nothing false = refl
 
--- live signals
+keep-all : (a : Bool) (w b : ℕ) → keep a (w * b) ≡ keep (a && ltb 0 b) (w * b)
+unfolding keep
+keep-all false w b = refl
+keep-all true w b = by-test (ltb 0 b) (λ e. rw e refl) (λ e. rw e (let z : b ≡ 0 = omega (arith, ltb-false 0 b e) in rw z (omega arith)))
 
-pub live-is : (form bounds : List ℕ) (marks : List Bool) (p s : ℕ)
-    → (not (eqb s 0) && not (eqb (coefIn form s) 0) && not (markIn marks s)) ≡ live (coefIn form) (viewOf p bounds marks) s
-unfolding live occurs viewOf
-live-is form bounds marks p zero = refl
-live-is form bounds marks p (suc s) = rw (ne-eqb (suc s) 0 (λ (e : suc s ≡ 0). omega arith))
-
-not-live-past : (form bounds : List ℕ) (marks : List Bool) (p s : ℕ) → length form ≤ s → live (coefIn form) (viewOf p bounds marks) s ≡ false
-not-live-past form bounds marks p s h = sym (live-is form bounds marks p s) ∙ rw (coef-past form s h) (none (not (eqb s 0)) (not (markIn marks s)))
-  where
-    none : (a b : Bool) → (a && false && b) ≡ false
-    none true b = refl
-    none false b = refl
+-- Gathering
 
 -- what a store leaves in a list, by index
 stored-same : (l : List ℕ) (i x : ℕ) → i < length l → coefIn (set l i x) i ≡ x
@@ -104,267 +184,289 @@ stored-other : (l : List ℕ) (i j x : ℕ) → (j ≡ i → ⊥) → coefIn (se
 unfolding coefIn
 stored-other l i j x d = getD-set-other l i j x 0 d
 
--- Gathering
+-- the gathered lists hold an index's weight and its weight times its bound, by rank
+pub record Held (q : ℕ → Bool) (w b : ℕ → ℕ) (weights products : List ℕ) (s : ℕ) : Type 0 where
+  pub weighs : coefIn weights (rank q s) ≡ w s
+  pub takes : coefIn products (rank q s) ≡ w s * b s
 
--- what rank means for signal s in the gathered lists: its weight and its weight times its bound
-pub record Held (p r : ℕ) (R : ℕ → ℕ) (S : Standing) (weights products : List ℕ) (s : ℕ) : Type 0 where
-  pub weighs : coefIn weights (rank (live R S) s) ≡ weight p R r s
-  pub takes : coefIn products (rank (live R S) s) ≡ weight p R r s * S .bound s
-
--- the live signals below k are gathered, and what they add is below p
-pub record Gathering (p r : ℕ) (R : ℕ → ℕ) (S : Standing) (k : ℕ) (weights products : List ℕ) (count total : ℕ) : Type 0 where
-  pub ranked : count ≡ rank (live R S) k
+-- the indices below k that pass are gathered, and what they add is below p
+pub record Gathering (p : ℕ) (q : ℕ → Bool) (w b : ℕ → ℕ) (k : ℕ) (weights products : List ℕ) (count total : ℕ) : Type 0 where
+  pub ranked : count ≡ rank q k
   pub below : total < p
-  pub totalled : total ≡ sum k (liveTerm p R S r)
-  pub held : (s : ℕ) → s < k → live R S s ≡ true → Held p r R S weights products s
+  pub totalled : total ≡ sum k (λ u. keep (q u) (w u * b u))
+  pub held : (s : ℕ) → s < k → q s ≡ true → Held q w b weights products s
 
-liveTerm-yes : (p r : ℕ) (R : ℕ → ℕ) (S : Standing) (s : ℕ) → live R S s ≡ true → liveTerm p R S r s ≡ weight p R r s * S .bound s
-unfolding liveTerm
-liveTerm-yes p r R S s e = keep-true _ _ e
+module _ (p : ℕ) (q : ℕ → Bool) (w b : ℕ → ℕ) where
+  abbrev term : ℕ → ℕ
+  term u = keep (q u) (w u * b u)
 
-liveTerm-no : (p r : ℕ) (R : ℕ → ℕ) (S : Standing) (s : ℕ) → live R S s ≡ false → liveTerm p R S r s ≡ 0
-unfolding liveTerm
-liveTerm-no p r R S s e = keep-false _ _ e
-
-module _ (p r : ℕ) (R : ℕ → ℕ) (S : Standing) where
-  pub gather-start : (weights products : List ℕ) → 0 < p → Gathering p r R S 0 weights products 0 0
+  pub gather-start : (weights products : List ℕ) → 0 < p → Gathering p q w b 0 weights products 0 0
   unfolding sum
   gather-start weights products h =
-      record { ranked = sym (rank-zero (live R S)); below = h; totalled = refl; held = λ s l e. absurd (omega arith) }
+      record { ranked = sym (rank-zero q); below = h; totalled = refl; held = λ s l e. absurd (omega arith) }
 
-  module _ (k : ℕ) (weights products : List ℕ) (count total : ℕ) (G : Gathering p r R S k weights products count total) where
-    pub gather-skip : live R S k ≡ false → Gathering p r R S (k + 1) weights products count total
+  module _ (k : ℕ) (weights products : List ℕ) (count total : ℕ) (G : Gathering p q w b k weights products count total) where
+    pub gather-skip : q k ≡ false → Gathering p q w b (k + 1) weights products count total
     gather-skip e =
-        rw (add-one k) (record {
-          ranked = G .ranked ∙ sym (rank-failed (live R S) k e);
+        record {
+          ranked = rw (add-one k) (G .ranked ∙ sym (rank-failed q k e));
           below = G .below;
-          totalled = omega (arith, G .totalled, sum-last k (liveTerm p R S r), liveTerm-no p r R S k e);
-          held = λ s l g. ⊎-elim (λ (b : s < k). G .held s b g) (λ (b : s ≡ k). true-or-false (live R S s) g (rw b e)) (lt-or-last s k l);
-        })
+          totalled = rw (add-one k) (omega (arith, G .totalled, sum-last k term, keep-false (q k) (w k * b k) e));
+          held = λ s l g. ⊎-elim (λ (i : s < k). G .held s i g) (λ (i : s ≡ k). true-or-false (q s) g (rw i e)) (lt-or-last s k l);
+        }
 
-    module _ (e : live R S k ≡ true) (w b x : ℕ) (w-is : w ≡ weight p R r k) (b-is : b ≡ S .bound k) (x-is : x ≡ w * b) where
-      term : liveTerm p R S r k ≡ x
-      term = liveTerm-yes p r R S k e ∙ rw (sym w-is, sym b-is) (sym x-is)
-
-      pub gather-total : total + x ≡ sum (k + 1) (liveTerm p R S r)
-      gather-total = rw (add-one k) (omega (arith, G .totalled, sum-last k (liveTerm p R S r), term))
+    module _ (e : q k ≡ true) (v c x : ℕ) (v-is : v ≡ w k) (c-is : c ≡ b k) (x-is : x ≡ v * c) where
+      pub gather-total : total + x ≡ sum (k + 1) term
+      gather-total =
+          let last : x ≡ w k * b k = x-is ∙ rw (v-is, c-is) in
+          rw (add-one k) (omega (arith, G .totalled, sum-last k term, keep-true (q k) (w k * b k) e))
 
       pub gather-on : total + x < p → count < length weights → count < length products
-          → Gathering p r R S (k + 1) (set weights count w) (set products count x) (count + 1) (total + x)
+          → Gathering p q w b (k + 1) (set weights count v) (set products count x) (count + 1) (total + x)
       gather-on h room-w room-x =
           record {
-            ranked = rw (add-one k) (omega (arith, G .ranked, rank-passed (live R S) k e));
+            ranked = rw (add-one k) (omega (arith, G .ranked, rank-passed q k e));
             below = h;
             totalled = gather-total;
-            held = λ s l g. ⊎-elim (λ (b : s < k). before s b g) (λ (b : s ≡ k). rw b last) (lt-or-last s k (rw (add-one k) at l));
+            held = λ s l g. ⊎-elim (λ (i : s < k). before s i g) (λ (i : s ≡ k). rw i last) (lt-or-last s k l);
           }
         where
-          at-count : rank (live R S) k ≡ count
+          at-count : rank q k ≡ count
           at-count = sym (G .ranked)
 
-          last : Held p r R S (set weights count w) (set products count x) k
+          last : Held q w b (set weights count v) (set products count x) k
           last =
               record {
-                weighs = rw at-count (stored-same weights count w room-w ∙ w-is);
-                takes = rw at-count (stored-same products count x room-x ∙ x-is ∙ rw (w-is, b-is));
+                weighs = rw at-count (stored-same weights count v room-w ∙ v-is);
+                takes = rw at-count (stored-same products count x room-x ∙ x-is ∙ rw (v-is, c-is));
               }
 
-          before : (s : ℕ) → s < k → live R S s ≡ true → Held p r R S (set weights count w) (set products count x) s
+          before : (s : ℕ) → s < k → q s ≡ true → Held q w b (set weights count v) (set products count x) s
           before s l g =
               record {
-                weighs = stored-other weights count (rank (live R S) s) w (elsewhere s l g) ∙ G .held s l g .weighs;
-                takes = stored-other products count (rank (live R S) s) x (elsewhere s l g) ∙ G .held s l g .takes;
+                weighs = stored-other weights count (rank q s) v (elsewhere s l g) ∙ G .held s l g .weighs;
+                takes = stored-other products count (rank q s) x (elsewhere s l g) ∙ G .held s l g .takes;
               }
             where
-              elsewhere : (s : ℕ) → s < k → live R S s ≡ true → rank (live R S) s ≡ count → ⊥
-              elsewhere s l g i = omega (arith, rank-below (live R S) s k l g, G .ranked)
+              elsewhere : (s : ℕ) → s < k → q s ≡ true → rank q s ≡ count → ⊥
+              elsewhere s l g i = omega (arith, rank-below q s k l g, G .ranked)
 
--- The gathered test is the rule's.
+  -- the products add up to the total
+  pub gather-products : (k : ℕ) (weights products : List ℕ) (count total : ℕ) → Gathering p q w b k weights products count total
+      → sum count (coefIn products) < p
+  gather-products k weights products count total G =
+      omega (
+        arith,
+        G .below,
+        G .totalled,
+        sum-rank q k term (coefIn products) (λ u l e. keep-true _ _ e ∙ sym (G .held u l e .takes)) (λ u l e. keep-false _ _ e),
+        ap (λ (c : ℕ). sum c (coefIn products)) (G .ranked),
+      )
 
--- single terms of the rule at signals that are not live
-module _ (p r : ℕ) (R : ℕ → ℕ) (S : Standing) where
-  smaller-dead : (w u : ℕ) → live R S u ≡ false → smallerTerm p R S r w u ≡ 0
-  unfolding smallerTerm
-  smaller-dead w u e = keep-false _ _ (rw e)
+-- The gathered test is the rule's
 
-  differs-dead : (s u : ℕ) → live R S u ≡ false → differs p R S r s u ≡ true
-  unfolding differs implies
-  differs-dead s u e = rw e
+module _ (p n end : ℕ) (q : ℕ → Bool) (w b : ℕ → ℕ) (low : end ≤ n) (past : (s : ℕ) → end ≤ s → s < n → q s ≡ false) where
+  abbrev positives : ℕ → Bool
+  positives = some q b
 
-  separate-dead : (n s : ℕ) → live R S s ≡ false → separate p n R S r s ≡ true
-  unfolding separate implies
-  separate-dead n s e = rw e
+  abbrev product : ℕ → ℕ
+  product u = w u * b u
 
-  -- and at those that are, by rank
-  module _ (weights products : List ℕ) where
-    smaller-held : (w u : ℕ) → live R S u ≡ true → Held p r R S weights products u
-        → smallerTerm p R S r w u ≡ smaller (coefIn weights) (coefIn products) w (rank (live R S) u)
-    unfolding smallerTerm smaller
-    smaller-held w u e H = rw (e, H .weighs, H .takes)
+  -- sums over all signals are sums over those with a bound above 0
+  total-some : sum n (λ u. keep (q u) (product u)) ≡ sum end (λ u. keep (positives u) (product u))
+  total-some =
+      sum-short end n _ low (λ s h l. keep-false _ _ (past s h l))
+      ∙ sum-cong end _ _ (λ u l. keep-all (q u) (w u) (b u))
 
-    differs-held : (s u : ℕ) → live R S s ≡ true → live R S u ≡ true → Held p r R S weights products s → Held p r R S weights products u
-        → differs p R S r s u ≡ apart (coefIn weights) (rank (live R S) s) (rank (live R S) u)
-    unfolding differs apart
-    differs-held s u es eu H K = rw (eu, H .weighs, K .weighs, rank-equal (live R S) s u es eu)
+  lower-some : (x : ℕ) → sum n (λ u. keep (q u && ltb (w u) x) (product u)) ≡ sum end (λ u. keep (positives u && ltb (w u) x) (product u))
+  lower-some x =
+      sum-short end n _ low (λ s h l. keep-false _ _ (rw (past s h l)))
+      ∙ sum-cong end _ _ (λ u l. keep-some (q u) (ltb (w u) x) (w u) (b u))
 
-module _ (p r n end : ℕ) (form bounds : List ℕ) (marks : List Bool) (end-is : end ≡ min (n + 1) (length form)) where
+  live-before : (s : ℕ) → s < n → q s ≡ true → s < end
+  live-before s l e = go (decLe (suc s) end)
+    where
+      go : Dec (suc s ≤ end) → s < end
+      go (yes h) = h
+      go (no h) = true-or-false _ e (past s (omega arith) l)
+
+  -- the sum over all reaches p
+  some-over : (k total : ℕ) → k < end → total ≡ sum (k + 1) (λ u. keep (positives u) (product u)) → p ≤ total → separatedBy p n q w b ≡ false
+  some-over k total h e over =
+      false-by _
+      (λ i. absurd (omega (arith, parts p n q w b i .total, total-some, sum-grows (k + 1) end (λ u. keep (positives u) (product u)) (omega arith))))
+
+  -- 32 have a bound above 0
+  some-many : (k : ℕ) → k ≤ end → p < 4294967296 → ((s : ℕ) → w s < p) → 32 ≤ rank positives k → separatedBy p n q w b ≡ false
+  some-many k h fits below many =
+      false-by _
+      (λ i.
+      let P = parts p n q w b i in
+      absurd (omega (
+        arith,
+        rank-grows positives k end h,
+        few end positives w
+            (λ s u l m e f d. P .differ s u (omega arith) (omega arith) (and-left (q s) _ e) (and-left (q u) _ f) d)
+            b
+            (λ s l e. rw (sym (lower-some (w s))) (P .exceed s (omega arith) (and-left (q s) _ e)))
+            (λ s e. ltb-true 0 (b s) (and-right (q s) _ e))
+            p
+            fits
+            below
+            (rw (sym total-some) (P .total)),
+      )))
+
+  module _ (weights products : List ℕ) (count total : ℕ) (G : Gathering p positives w b end weights products count total) where
+    lower-held : (x : ℕ) → sum n (λ u. keep (q u && ltb (w u) x) (product u)) ≡ sum count (smallerAt (coefIn weights) (coefIn products) x)
+    unfolding smallerAt smaller
+    lower-held x =
+        lower-some x
+        ∙ sum-rank positives end _ (smallerAt (coefIn weights) (coefIn products) x)
+        (λ u l e. rw (e, G .held u l e .weighs, G .held u l e .takes))
+        (λ u l e. keep-false _ _ (rw e))
+        ∙ ap (λ (c : ℕ). sum c (smallerAt (coefIn weights) (coefIn products) x)) (sym (G .ranked))
+
+    abbrev outstanding : ℕ → Bool
+    outstanding s = implies (q s) (ltb (sum count (smallerAt (coefIn weights) (coefIn products) (w s))) (w s))
+
+    some-end : ((s u : ℕ) → s < n → u < n → q s ≡ true → q u ≡ true → (s ≡ u → ⊥) → w s ≡ w u → ⊥)
+        → all end outstanding ≡ separatedBy p n q w b
+    some-end differ =
+        both-ways _ _
+        (λ e.
+        whole p n q w b
+        (record {
+          differ = differ;
+          exceed = λ s l i. rw (lower-held (w s)) (ltb-true _ _ (implies-elim (q s) _ (all-at end outstanding e s (live-before s l i)) i));
+          total = rw total-some (omega (arith, G .below, G .totalled));
+        }))
+        (λ e.
+        all-from end outstanding
+        (λ s l.
+        implies-intro (q s) _
+        (λ i.
+        lt-ltb (sum count (smallerAt (coefIn weights) (coefIn products) (w s))) (w s)
+        (rw (sym (lower-held (w s))) (parts p n q w b e .exceed s (omega arith) i)))))
+
+-- What the code has shown where it ends
+
+pub separated-none : (p n : ℕ) (R B : ℕ → ℕ) (M : ℕ → Bool) (r : ℕ) → p ≡ 0 → false ≡ separated p n R B M r
+unfolding separated
+separated-none p n R B M r e =
+    sym
+    (ap (λ (b : Bool). all (suc n) (separate p n R B M r) && b) (le-ltb (sum (suc n) (liveTerm p R B M r)) p (omega arith))
+    ∙ and-false (all (suc n) (separate p n R B M r)))
+
+pub scaled-below : (p : ℕ) (R : ℕ → ℕ) (k s : ℕ) → 0 < p → scaled p R k s < p
+unfolding scaled
+scaled-below p R k s h = mod-lt _ h
+
+pub positive-dead : (R b : ℕ → ℕ) (m : ℕ → Bool) (s : ℕ) → live R m s ≡ false → false ≡ positive R b m s
+unfolding positive
+positive-dead R b m s e = sym (rw e)
+
+pub positive-live : (R b : ℕ → ℕ) (m : ℕ → Bool) (s x : ℕ) → live R m s ≡ true → x ≡ b s → not (eqb x 0) ≡ positive R b m s
+unfolding positive
+positive-live R b m s x e x-is = rw (x-is, e) (above (b s))
+  where
+    above : (y : ℕ) → not (eqb y 0) ≡ ltb 0 y
+    above zero = refl
+    above (suc y) = ap not (ne-eqb (suc y) 0 (λ (i : suc y ≡ 0). omega arith)) ∙ sym (lt-ltb 0 (suc y) (omega arith))
+
+-- The rule up to the last unmarked signal
+
+module _ (R : ℕ → ℕ) (m : ℕ → Bool) (n : ℕ) where
+  pub last-start : Last R m n n
+  last-start = record { within = omega arith; above = λ s h l. absurd (omega arith) }
+
+  pub last-down : (k : ℕ) → Last R m n k → 0 < k → live R m k ≡ false → Last R m n (k - 1)
+  last-down k L pos dead = record { within = omega (arith, L .within); above = λ s h l. go s l (decLe (suc k) s) (omega arith) }
+    where
+      go : (s : ℕ) → s ≤ n → Dec (suc k ≤ s) → k ≤ s → live R m s ≡ false
+      go s l (yes g) h = L .above s g l
+      go s l (no g) h =
+          let same : s ≡ k = omega arith in
+          rw same dead
+
+module _ (p n end : ℕ) (q : ℕ → Bool) (w b : ℕ → ℕ) (low : end ≤ n) (past : (s : ℕ) → end ≤ s → s < n → q s ≡ false) where
+  total-short : sum n (λ u. keep (q u) (w u * b u)) ≡ sum end (λ u. keep (q u) (w u * b u))
+  total-short = sum-short end n _ low (λ s h l. keep-false _ _ (past s h l))
+
+  lower-short : (x : ℕ) → sum n (λ u. keep (q u && ltb (w u) x) (w u * b u)) ≡ sum end (λ u. keep (q u && ltb (w u) x) (w u * b u))
+  lower-short x = sum-short end n _ low (λ s h l. keep-false _ _ (rw (past s h l)))
+
+  separated-short : separatedBy p end q w b ≡ separatedBy p n q w b
+  separated-short =
+      both-ways _ _
+      (λ e.
+      let P = parts p end q w b e in
+      whole p n q w b
+      (record {
+        differ = λ s u l h i j. P .differ s u (live-before p n end q w b low past s l i) (live-before p n end q w b low past u h j) i j;
+        exceed = λ s l i. rw (lower-short (w s)) (P .exceed s (live-before p n end q w b low past s l i) i);
+        total = rw total-short (P .total);
+      }))
+      (λ e.
+      let P = parts p n q w b e in
+      whole p end q w b
+      (record {
+        differ = λ s u l h. P .differ s u (omega arith) (omega arith);
+        exceed = λ s l i. rw (sym (lower-short (w s))) (P .exceed s (omega arith) i);
+        total = rw (sym total-short) (P .total);
+      }))
+
+pub separated-last : (p n k : ℕ) (R B : ℕ → ℕ) (M : ℕ → Bool) (r : ℕ) → Last R M n k → separated p k R B M r ≡ separated p n R B M r
+separated-last p n k R B M r L =
+    separated-by p k R B M r _ refl
+    ∙ separated-short p (suc n) (suc k) (live R M) (scaled p R (inverse p (R r))) B (omega (arith, L .within)) (λ s h l. L .above s h (omega arith))
+    ∙ sym (separated-by p n R B M r _ refl)
+
+-- where the rule is met, weights differ
+pub differ-by : (p n : ℕ) (R B : ℕ → ℕ) (M : ℕ → Bool) (r k : ℕ) → k ≡ inverse p (R r) → separated p n R B M r ≡ true → Differ p n R M k
+differ-by p n R B M r k k-is e =
+    let P = parts p (suc n) (live R M) (scaled p R k) B (sym (separated-by p n R B M r k k-is) ∙ e) in
+    record {
+      alone = λ s l i.
+          record { apart = λ u h j g. P .differ u s (omega arith) (omega arith) j i (λ (q : u ≡ s). omega arith) g };
+    }
+
+module _ (p n end k r : ℕ) (form : List ℕ) (B : ℕ → ℕ) (M : ℕ → Bool)
+    (end-is : end ≡ min (n + 1) (length form)) (k-is : k ≡ inverse p (coefIn form r)) where
   abbrev R : ℕ → ℕ
   R = coefIn form
 
-  abbrev S : Standing
-  S = viewOf p bounds marks
+  past-end : (s : ℕ) → end ≤ s → s < suc n → live R M s ≡ false
+  past-end s h l = live-past form M s (omega arith)
 
-  dead : (s : ℕ) → length form ≤ s → live R S s ≡ false
-  dead s h = not-live-past form bounds marks p s h
-
-  sum-whole : (f : ℕ → ℕ) → ((s : ℕ) → length form ≤ s → f s ≡ 0) → sum (suc n) f ≡ sum end f
-  sum-whole f z = go (decLe (suc n) (length form))
+  apart-signals : Differ p n R M k → (s u : ℕ) → s < suc n → u < suc n → live R M s ≡ true → live R M u ≡ true → (s ≡ u → ⊥)
+      → scaled p R k s ≡ scaled p R k u → ⊥
+  apart-signals D s u l h i j d e = go (decLe (suc s) u)
     where
-      go : Dec (suc n ≤ length form) → sum (suc n) f ≡ sum end f
-      go (yes h) = ap (λ (m : ℕ). sum m f) (omega arith)
-      go (no h) = sum-short end (suc n) f (omega arith) (λ s g. z s (omega arith))
+      go : Dec (suc s ≤ u) → ⊥
+      go (yes g) = D .alone u (omega arith) j .apart s g i e
+      go (no g) = D .alone s (omega arith) i .apart u (below (decLe (suc u) s)) j (sym e)
+        where
+          below : Dec (suc u ≤ s) → u < s
+          below (yes x) = x
+          below (no x) = absurd (d (omega arith))
 
-  all-whole : (f : ℕ → Bool) → ((s : ℕ) → length form ≤ s → f s ≡ true) → all (suc n) f ≡ all end f
-  all-whole f z = go (decLe (suc n) (length form))
-    where
-      go : Dec (suc n ≤ length form) → all (suc n) f ≡ all end f
-      go (yes h) = ap (λ (m : ℕ). all m f) (omega arith)
-      go (no h) = all-short end (suc n) f (omega arith) (λ s g. z s (omega arith))
+  pub code-over : (s total : ℕ) → s < end → total ≡ sum (s + 1) (λ u. keep (positive R B M u) (scaled p R k u * B u)) → p ≤ total
+      → false ≡ separated p n R B M r
+  unfolding positive
+  code-over s total h e over =
+      sym (separated-by p n R B M r k k-is ∙ some-over p (suc n) end (live R M) (scaled p R k) B (omega arith) past-end s total h e over)
 
-  total-whole : sum (suc n) (liveTerm p R S r) ≡ sum end (liveTerm p R S r)
-  total-whole = sum-whole _ (λ s h. liveTerm-no p r R S s (dead s h))
+  pub code-many : (s : ℕ) → s ≤ end → p < 4294967296 → 0 < p → 32 ≤ rank (positive R B M) s → false ≡ separated p n R B M r
+  unfolding positive
+  code-many s h fits pos many =
+      sym
+      (separated-by p n R B M r k k-is
+      ∙ some-many p (suc n) end (live R M) (scaled p R k) B (omega arith) past-end s h fits (λ u. scaled-below p R k u pos) many)
 
-  -- the sum over all reaches p
-  pub gather-over : (k total : ℕ) → k < end → total ≡ sum (k + 1) (liveTerm p R S r) → p ≤ total → false ≡ separated p n R S r
-  unfolding separated
-  gather-over k total h e over =
-      let reached : p ≤ sum (suc n) (liveTerm p R S r) =
-      omega (arith, sum-grows (k + 1) end (liveTerm p R S r) (omega arith), total-whole) in
-      sym (ap (λ (b : Bool). all (suc n) (separate p n R S r) && b) (le-ltb _ p reached) ∙ and-false (all (suc n) (separate p n R S r)))
-
-  module _ (weights products : List ℕ) (count total : ℕ) (G : Gathering p r R S end weights products count total) where
-    abbrev W : ℕ → ℕ
-    W = coefIn weights
-
-    abbrev X : ℕ → ℕ
-    X = coefIn products
-
-    smaller-whole : (w : ℕ) → smallerSum p n R S r w ≡ sum count (smaller W X w)
-    unfolding smallerSum
-    smaller-whole w =
-        sum-whole (smallerTerm p R S r w) (λ s h. smaller-dead p r R S w s (dead s h))
-        ∙ sum-rank (live R S) end (smallerTerm p R S r w) (smaller W X w)
-        (λ u l e. smaller-held p r R S weights products w u e (G .held u l e))
-        (λ u l e. smaller-dead p r R S w u e)
-        ∙ ap (λ (m : ℕ). sum m (smaller W X w)) (sym (G .ranked))
-
-    differs-whole : (s : ℕ) → s < end → live R S s ≡ true → all (suc n) (differs p R S r s) ≡ all count (apart W (rank (live R S) s))
-    differs-whole s l e =
-        all-whole (differs p R S r s) (λ u h. differs-dead p r R S s u (dead u h))
-        ∙ all-rank (live R S) end (differs p R S r s) (apart W (rank (live R S) s))
-        (λ u k g. differs-held p r R S weights products s u e g (G .held s l e) (G .held u k g))
-        (λ u k g. differs-dead p r R S s u g)
-        ∙ ap (λ (m : ℕ). all m (apart W (rank (live R S) s))) (sym (G .ranked))
-
-    separate-held : (s : ℕ) → s < end → live R S s ≡ true → separate p n R S r s ≡ exceeds W X count (rank (live R S) s)
-    unfolding separate implies exceeds
-    separate-held s l e = rw (e, differs-whole s l e, smaller-whole (weight p R r s), G .held s l e .weighs)
-
-    pub gather-end : (b : Bool) → b ≡ all count (exceeds W X count) → b ≡ separated p n R S r
-    unfolding separated
-    gather-end b b-is =
-        b-is
-        ∙ sym
-        (ap (λ (c : Bool). all (suc n) (separate p n R S r) && c) (lt-ltb _ p (omega (arith, total-whole, G .totalled, G .below)))
-        ∙ and-true (all (suc n) (separate p n R S r))
-        ∙ all-whole (separate p n R S r) (λ s h. separate-dead p r R S n s (dead s h))
-        ∙ all-rank (live R S) end (separate p n R S r) (exceeds W X count) separate-held
-        (λ s l e. separate-dead p r R S n s e)
-        ∙ ap (λ (m : ℕ). all m (exceeds W X count)) (sym (G .ranked)))
-
-pub separated-none : (p n : ℕ) (R : ℕ → ℕ) (S : Standing) (r : ℕ) → p ≡ 0 → false ≡ separated p n R S r
-unfolding separated
-separated-none p n R S r e =
-    sym
-    (ap (λ (b : Bool). all (suc n) (separate p n R S r) && b) (le-ltb (sum (suc n) (liveTerm p R S r)) p (omega arith))
-    ∙ and-false (all (suc n) (separate p n R S r)))
-
--- A turn of the code, by what it has read and computed
-weight-made : (p r s : ℕ) (form : List ℕ) (c d scale w : ℕ) → c ≡ coefIn form s → d ≡ coefIn form r → scale ≡ inverse p d
-    → w ≡ (0 + c * scale) % p → w ≡ weight p (coefIn form) r s
-unfolding weight
-weight-made p r s form c d scale w c-is d-is scale-is w-is = w-is ∙ rw (zero-add, c-is, scale-is, d-is)
-
-view-bound : (p : ℕ) (bounds : List ℕ) (marks : List Bool) (s b : ℕ) → b ≡ boundIn p bounds s → b ≡ viewOf p bounds marks .bound s
-unfolding viewOf
-view-bound p bounds marks s b e = e
-
-module _
-    (p r : ℕ) (form bounds : List ℕ) (marks : List Bool) (k : ℕ) (weights products : List ℕ) (count total : ℕ)
-    (G : Gathering p r (coefIn form) (viewOf p bounds marks) k weights products count total)
-    (b : Bool) (b-is : b ≡ (not (eqb k 0) && not (eqb (coefIn form k) 0) && not (markIn marks k))) where
-  pub turn-skip : b ≡ false → Gathering p r (coefIn form) (viewOf p bounds marks) (k + 1) weights products count total
-  turn-skip e = gather-skip p r _ _ k weights products count total G (sym (b-is ∙ live-is form bounds marks p k) ∙ e)
-
-  module _
-      (yes-b : b ≡ true) (c d scale w v x : ℕ) (c-is : c ≡ coefIn form k) (d-is : d ≡ coefIn form r) (scale-is : scale ≡ inverse p d)
-      (w-is : w ≡ (0 + c * scale) % p) (v-is : v ≡ boundIn p bounds k) (x-is : x ≡ w * v) where
-    is-live : live (coefIn form) (viewOf p bounds marks) k ≡ true
-    is-live = sym (b-is ∙ live-is form bounds marks p k) ∙ yes-b
-
-    pub turn-over : (n end : ℕ) → end ≡ min (n + 1) (length form) → k < end → p ≤ total + x
-        → false ≡ separated p n (coefIn form) (viewOf p bounds marks) r
-    turn-over n end end-is h over =
-        gather-over p r n end form bounds marks end-is k (total + x) h
-        (gather-total p r _ _ k weights products count total G is-live w v x (weight-made p r k form c d scale w c-is d-is scale-is w-is)
-        (view-bound p bounds marks k v v-is)
-        x-is)
-        over
-
-    pub turn-on : total + x < p → count < length weights → count < length products
-        → Gathering p r (coefIn form) (viewOf p bounds marks) (k + 1) (set weights count w) (set products count x) (count + 1) (total + x)
-    turn-on =
-        gather-on p r _ _ k weights products count total G is-live w v x (weight-made p r k form c d scale w c-is d-is scale-is w-is)
-        (view-bound p bounds marks k v v-is)
-        x-is
-
--- signals where the form has no coefficient do not count
-module _ (p n most r : ℕ) (R : ℕ → ℕ) (S : Standing) (absent : (s : ℕ) → most < s → R s ≡ 0) where
-  dead-above : (s : ℕ) → most < s → live R S s ≡ false
-  unfolding live occurs
-  dead-above zero h = refl
-  dead-above (suc s) h = rw (absent (suc s) h)
-
-  module _ (more : most ≤ n) where
-    sum-above : (f : ℕ → ℕ) → ((s : ℕ) → live R S s ≡ false → f s ≡ 0) → sum (suc n) f ≡ sum (suc most) f
-    sum-above f z = sum-short (suc most) (suc n) f (omega arith) (λ s h. z s (dead-above s h))
-
-    all-above : (f : ℕ → Bool) → ((s : ℕ) → live R S s ≡ false → f s ≡ true) → all (suc n) f ≡ all (suc most) f
-    all-above f z = all-short (suc most) (suc n) f (omega arith) (λ s h. z s (dead-above s h))
-
-    separate-above : separate p n R S r ≡ separate p most R S r
-    unfolding separate smallerSum
-    separate-above =
-        fun-ext
-        (λ s.
-        rw (
-          all-above (differs p R S r s) (λ u. differs-dead p r R S s u),
-          sum-above (smallerTerm p R S r (weight p R r s)) (λ u. smaller-dead p r R S (weight p R r s) u),
-        ))
-
-    separated-above : separated p most R S r ≡ separated p n R S r
-    unfolding separated
-    separated-above =
-        sym
-        (rw (
-          all-above (separate p n R S r) (λ s. separate-dead p r R S n s),
-          separate-above,
-          sum-above (liveTerm p R S r) (λ s. liveTerm-no p r R S s),
-        ))
-
-  pub separated-short : separated p (min n most) R S r ≡ separated p n R S r
-  separated-short = go (decLe n most)
-    where
-      go : Dec (n ≤ most) → separated p (min n most) R S r ≡ separated p n R S r
-      go (yes h) = ap (λ (m : ℕ). separated p m R S r) (omega arith)
-      go (no h) = ap (λ (m : ℕ). separated p m R S r) (omega arith) ∙ separated-above (omega arith)
+  pub code-end : (weights products : List ℕ) (count total : ℕ) → Gathering p (positive R B M) (scaled p R k) B end weights products count total
+      → Differ p n R M k → (b : Bool) → b ≡ all end (exceeds p R M k (coefIn weights) (coefIn products) count) → b ≡ separated p n R B M r
+  unfolding positive exceeds
+  code-end weights products count total G D b b-is =
+      b-is
+      ∙ some-end p (suc n) end (live R M) (scaled p R k) B (omega arith) past-end weights products count total G (apart-signals D)
+      ∙ sym (separated-by p n R B M r k k-is)

@@ -1,6 +1,6 @@
 -- Tests on the forms of a constraint as the code asks them: what a form names, linear, root and product, and the roots.
 use Prim.Native.Nat.{ℕ, suc, _+_, _-_, _*_, _%_, _≤_, _<_, max}
-use mathlib.Core.Path.{_≡_, refl, sym, _∙_}
+use mathlib.Core.Path.{_≡_, refl, sym, ap, _∙_}
 use mathlib.Core.Bool.{Bool, true, false, not, _&&_, _||_}
 use mathlib.Core.List.{List, [], _∷_}
 use native.Mathlib.Nat.{zero-add, zero-mod, mul-zero, mod-mod}
@@ -8,17 +8,18 @@ use native.Mathlib.Decide.{decLe}
 use native.Mathlib.Omega.{arith}
 use lib.Dec.{eqb}
 use lib.ListN.{replicate}
+use borrow.Author.Tests.{not-true}
 use Rattle.field.specs.Residue.{opposite}
 use Rattle.field.specs.Inverse.{inverse}
 use Rattle.field.proofs.Euclid.{inverse-small}
 use Rattle.circuit.specs.Circuit.{Form, coef, names}
 use Rattle.circuit.specs.Reader.{afterForm, formIn, constraintIn}
-use Rattle.laws.specs.Standing.{Standing}
 use Rattle.laws.specs.Rules.{namesNone, linear, isZero, namesOnly, rootMet, root, rootBound, othersMarked, productMet}
-use Rattle.laws.proofs.Sum.{true-or-false}
+use Rattle.laws.proofs.Sum.{and-left, and-right, and-both, true-or-false, false-by}
+use Rattle.laws.proofs.ProductRule.{ProductMet, product-met}
 use Rattle.rules.specs.View.{markIn}
-use Rattle.rules.specs.Steps.{allMarked}
 use Rattle.rules.proofs.ViewLaws.{mark-none}
+use Rattle.rules.proofs.Ranks.{and-true, and-false}
 
 or-twice : (a : Bool) → (a || a) ≡ a
 or-twice true = refl
@@ -30,11 +31,11 @@ or-last false true = refl
 or-last false false = refl
 
 -- where nothing is marked, the signals but t are marked if none but t is named
-pub unmarked-only : (S : Standing) (t : ℕ) (f : Form) → ((s : ℕ) → S .marked s ≡ false) → othersMarked S t f ≡ namesOnly t f
+pub unmarked-only : (m : ℕ → Bool) (t : ℕ) (f : Form) → ((s : ℕ) → m s ≡ false) → othersMarked m t f ≡ namesOnly t f
 unfolding othersMarked namesOnly
-unmarked-only S t [] h = refl
-unmarked-only S t (x ∷ f) h =
-    rw (h (x .signal), or-last (eqb (x .signal) 0) (eqb (x .signal) t), unmarked-only S t f h)
+unmarked-only m t [] h = refl
+unmarked-only m t (x ∷ f) h =
+    rw (h (x .signal), or-last (eqb (x .signal) 0) (eqb (x .signal) t), unmarked-only m t f h)
 
 pub only-none : (f : Form) → namesOnly 0 f ≡ namesNone f
 unfolding namesOnly namesNone
@@ -53,15 +54,42 @@ zero-names (x ∷ f) = go (eqb (x .signal) 0) (namesNone f) (names f 0)
     go false b c = refl
 
 -- what the walk finds where no signal is marked
-module _ (k t : ℕ) (f : Form) (r : Bool)
-    (found : (b : ℕ → ℕ) → r ≡ othersMarked (record { bound = b; marked = markIn (replicate k false) }) t f) where
-  pub found-only : r ≡ namesOnly t f
-  found-only = found (λ s. 0) ∙ unmarked-only _ t f (mark-none k)
+pub found-only : (k t : ℕ) (f : Form) (r : Bool) → r ≡ othersMarked (markIn (replicate k false)) t f → r ≡ namesOnly t f
+found-only k t f r found = found ∙ unmarked-only _ t f (mark-none k)
 
-pub found-none : (k : ℕ) (f : Form) (r : Bool)
-    → ((b : ℕ → ℕ) → r ≡ othersMarked (record { bound = b; marked = markIn (replicate k false) }) 0 f)
-    → r ≡ namesNone f
+pub found-none : (k : ℕ) (f : Form) (r : Bool) → r ≡ othersMarked (markIn (replicate k false)) 0 f → r ≡ namesNone f
 found-none k f r found = found-only k 0 f r found ∙ only-none f
+
+pub found-just : (k t : ℕ) (f : Form) (r : Bool) → r ≡ (names f t && othersMarked (markIn (replicate k false)) t f)
+    → r ≡ (names f t && namesOnly t f)
+found-just k t f r found = found ∙ ap (λ (b : Bool). names f t && b) (unmarked-only _ t f (mark-none k))
+
+pub found-zero : (k : ℕ) (f : Form) (r : Bool) → r ≡ (not (names f 0) && othersMarked (markIn (replicate k false)) 0 f) → r ≡ isZero f
+found-zero k f r found =
+    found ∙ ap (λ (b : Bool). not (names f 0) && b) (unmarked-only _ 0 f (mark-none k) ∙ only-none f) ∙ swap (not (names f 0)) (namesNone f)
+    ∙ sym (zero-names f)
+  where
+    swap : (a b : Bool) → (a && b) ≡ (b && a)
+    swap true true = refl
+    swap true false = refl
+    swap false true = refl
+    swap false false = refl
+
+-- what one walk has found, of a form that it went through
+module _
+    (f : Form) (m : ℕ → Bool) (t : ℕ) (others named : Bool)
+    (others-is : others ≡ othersMarked m t f) (named-is : others ≡ true → named ≡ names f t) where
+  pub survey-in-no : others ≡ false → false ≡ (names f t && othersMarked m t f)
+  survey-in-no e = sym (ap (λ (b : Bool). names f t && b) (sym others-is ∙ e) ∙ and-false (names f t))
+
+  pub survey-in : others ≡ true → named ≡ (names f t && othersMarked m t f)
+  survey-in e = named-is e ∙ sym (ap (λ (b : Bool). names f t && b) (sym others-is ∙ e) ∙ and-true (names f t))
+
+  pub survey-out-no : others ≡ false → false ≡ (not (names f t) && othersMarked m t f)
+  survey-out-no e = sym (ap (λ (b : Bool). not (names f t) && b) (sym others-is ∙ e) ∙ and-false (not (names f t)))
+
+  pub survey-out : others ≡ true → not named ≡ (not (names f t) && othersMarked m t f)
+  survey-out e = ap not (named-is e) ∙ sym (ap (λ (b : Bool). not (names f t) && b) (sym others-is ∙ e) ∙ and-true (not (names f t)))
 
 -- What the tests on a constraint say, as far as each was asked.
 module _ (s b c : List ℕ) (b-is : b ≡ afterForm s) (c-is : c ≡ afterForm b) where
@@ -92,20 +120,43 @@ pub linear-second : (s b : List ℕ) → b ≡ afterForm s → (r q : Bool) → 
 unfolding linear constraintIn
 linear-second s b b-is r q h e g = g ∙ rw (b-is, sym h ∙ e)
 
-module _ (s : List ℕ) (S : Standing) (t : ℕ) (l : Bool) (l-is : l ≡ linear (constraintIn s)) where
-  pub product-linear : l ≡ true → false ≡ productMet (constraintIn s) S t
+module _ (s : List ℕ) (m : ℕ → Bool) (t : ℕ) (l : Bool) (l-is : l ≡ linear (constraintIn s)) where
+  pub product-linear : l ≡ true → false ≡ productMet (constraintIn s) m t
   unfolding productMet
   product-linear e = rw (sym l-is ∙ e)
 
-  module _ (b c : List ℕ) (b-is : b ≡ afterForm s) (c-is : c ≡ afterForm b) (not-l : l ≡ false) (stands : Bool)
-      (stands-is : stands ≡ (names (formIn c) t && not (names (formIn s) t) && not (names (formIn b) t))) where
-    pub product-elsewhere : stands ≡ false → false ≡ productMet (constraintIn s) S t
-    unfolding productMet
-    product-elsewhere e = rw (sym l-is ∙ not-l, forms s b c b-is c-is, sym stands-is ∙ e)
+  module _ (b c : List ℕ) (b-is : b ≡ afterForm s) (c-is : c ≡ afterForm b) where
+    parts : productMet (constraintIn s) m t ≡ true → ProductMet (record { a = formIn s; b = formIn b; c = formIn c }) m t
+    parts e = product-met _ m t (rw (forms s b c b-is c-is) at e)
 
-    pub product-rest : stands ≡ true → (r : Bool) → r ≡ allMarked S t (formIn s) (formIn b) (formIn c) → r ≡ productMet (constraintIn s) S t
-    unfolding productMet
-    product-rest e r h = h ∙ rw (sym l-is ∙ not-l, forms s b c b-is c-is, sym stands-is ∙ e)
+    module _ (x : Bool) (x-is : x ≡ (names (formIn c) t && othersMarked m t (formIn c))) where
+      pub product-elsewhere : x ≡ false → false ≡ productMet (constraintIn s) m t
+      product-elsewhere e =
+          sym (false-by _ (λ g. true-or-false _ (and-both (names (formIn c) t) _ (parts g .in-c) (parts g .marked-c)) (sym x-is ∙ e)))
+
+      module _ (yes-x : x ≡ true) (y : Bool) (y-is : y ≡ (not (names (formIn s) t) && othersMarked m t (formIn s))) where
+        pub product-in-a : y ≡ false → false ≡ productMet (constraintIn s) m t
+        product-in-a e =
+            sym
+            (false-by _ (λ g. true-or-false _ (and-both (not (names (formIn s) t)) _ (ap not (parts g .not-in-a)) (parts g .marked-a)) (sym y-is ∙ e)))
+
+        pub product-rest : l ≡ false → y ≡ true → (r : Bool) → r ≡ (not (names (formIn b) t) && othersMarked m t (formIn b))
+            → r ≡ productMet (constraintIn s) m t
+        unfolding productMet
+        product-rest not-l yes-y r h =
+            let c-yes = sym x-is ∙ yes-x in
+            let a-yes = sym y-is ∙ yes-y in
+            h
+            ∙ sym
+            (rw (
+              sym l-is ∙ not-l,
+              forms s b c b-is c-is,
+              and-left (names (formIn c) t) (othersMarked m t (formIn c)) c-yes,
+              and-right (names (formIn c) t) (othersMarked m t (formIn c)) c-yes,
+              not-true (names (formIn s) t) (and-left (not (names (formIn s) t)) (othersMarked m t (formIn s)) a-yes),
+              and-right (not (names (formIn s) t)) (othersMarked m t (formIn s)) a-yes,
+              and-true (othersMarked m t (formIn b)),
+            ))
 
 -- Roots
 

@@ -2,6 +2,8 @@ pub mod Products
 pub mod FormTests
 pub mod SumLaws
 pub mod Ranks
+pub mod Few
+pub mod WeightLaws
 pub mod DigitsLaws
 pub mod LinearRules
 pub mod Outcomes

@@ -9,9 +9,11 @@ use lib.Dec.{leb, eqb}
 use lib.ListN.{length, getD, set, replicate}
 use borrow.Author.Tests.{eq-eqb, ne-eqb, le-leb, lt-leb}
 use Rattle.circuit.specs.Reader.{afterForm, constraintIn}
-use Rattle.laws.specs.Standing.{add, lower, largest, isInput}
+use Rattle.laws.specs.Problem.{largest}
+use Rattle.laws.specs.Standing.{add, lower, isInput}
 use Rattle.laws.specs.Standing as laws
 use Rattle.laws.specs.Rules.{rootMet, zeroMet, productMet}
+use Rattle.laws.specs.Step.{Rule}
 use Rattle.rules.specs.View.{boundIn, markIn, viewOf}
 use Rattle.rules.specs.Promise.{view, Gives}
 use Rattle.rules.specs.declared.standing.Standing.{Standing}
@@ -23,16 +25,17 @@ use Rattle.rules.proofs.Ranks.{and-false}
 
 -- Outcomes
 
-module _ (p : ℕ) (before : Standing) (o : Outcome) (met : Bool) (after : laws.Standing) where
-  pub gives-no : (o .met ≡ false) × (o .next ≡ before) → met ≡ false → Gives p before o met after
+module _ (p : ℕ) (before : Standing) (o : Outcome) (t : ℕ) (x : Rule) where
+  pub gives-no : (o .met ≡ false) × (o .next ≡ before) → x .met ≡ false → Gives p before o t x
   gives-no e g =
       record {
         told = e .0 ∙ sym g;
-        next = ap (view p) (e .1) ∙ sym (ap (λ (b : Bool). cond b after (view p before)) g);
+        next = ap (view p) (e .1) ∙ sym (ap (λ (b : Bool). cond b (laws.apply (x .change) (view p before) t) (view p before)) g);
       }
 
-  pub gives-yes : o .met ≡ true → view p (o .next) ≡ after → met ≡ true → Gives p before o met after
-  gives-yes e h g = record { told = e ∙ sym g; next = h ∙ sym (ap (λ (b : Bool). cond b after (view p before)) g) }
+  pub gives-yes : o .met ≡ true → view p (o .next) ≡ laws.apply (x .change) (view p before) t → x .met ≡ true → Gives p before o t x
+  gives-yes e h g =
+      record { told = e ∙ sym g; next = h ∙ sym (ap (λ (b : Bool). cond b (laws.apply (x .change) (view p before) t) (view p before)) g) }
 
 -- Stores
 
@@ -82,22 +85,22 @@ pub root-low : (s : List ℕ) (t : ℕ) → rootMet (constraintIn s) t ≡ true 
 unfolding rootMet constraintIn
 root-low s t e = low-by (rootMet (constraintIn s) t) t e (λ h. rw (form-names-beyond s t h, and-false))
 
-pub product-low : (s : List ℕ) (S : laws.Standing) (t : ℕ) → productMet (constraintIn s) S t ≡ true → t < 257
+pub product-low : (s : List ℕ) (m : ℕ → Bool) (t : ℕ) → productMet (constraintIn s) m t ≡ true → t < 257
 unfolding productMet constraintIn
-product-low s S t e =
-    low-by (productMet (constraintIn s) S t) t e (λ h. rw (form-names-beyond (afterForm (afterForm s)) t h, and-false))
+product-low s m t e =
+    low-by (productMet (constraintIn s) m t) t e (λ h. rw (form-names-beyond (afterForm (afterForm s)) t h, and-false))
 
 -- Zero
 
-module _ (p : ℕ) (bounds : List ℕ) (marks : List Bool) (t : ℕ) where
-  pub zero-past : 1 < p → length bounds ≤ t → zeroMet (viewOf p bounds marks) t ≡ false
-  unfolding zeroMet viewOf
+module _ (p : ℕ) (bounds : List ℕ) (t : ℕ) where
+  pub zero-past : 1 < p → length bounds ≤ t → zeroMet (boundIn p bounds) t ≡ false
+  unfolding zeroMet
   zero-past h l = ne-eqb _ _ (λ (e : boundIn p bounds t ≡ 0). omega (arith, bound-past p bounds t l))
 
-  pub zero-no : t < length bounds → (getD bounds t 0 ≡ 0 → ⊥) → zeroMet (viewOf p bounds marks) t ≡ false
-  unfolding zeroMet viewOf
+  pub zero-no : t < length bounds → (getD bounds t 0 ≡ 0 → ⊥) → zeroMet (boundIn p bounds) t ≡ false
+  unfolding zeroMet
   zero-no h d = ne-eqb _ _ (λ (e : boundIn p bounds t ≡ 0). d (bound-within p bounds t h ∙ e))
 
-  pub zero-yes : t < length bounds → getD bounds t 0 ≡ 0 → zeroMet (viewOf p bounds marks) t ≡ true
-  unfolding zeroMet viewOf
+  pub zero-yes : t < length bounds → getD bounds t 0 ≡ 0 → zeroMet (boundIn p bounds) t ≡ true
+  unfolding zeroMet
   zero-yes h e = eq-eqb _ _ (sym (bound-within p bounds t h) ∙ e)

@@ -1,15 +1,11 @@
--- Indices that pass a test, gathered in their order: the rank of an index, and sums and tests over the gathered ones.
+-- Indices that pass a test, gathered in their order: the rank of an index, and sums over the gathered ones.
 use Prim.Native.Nat.{ℕ, zero, suc, _≤_, _<_}
 use mathlib.Core.Path.{_≡_, refl, sym, ap, _∙_}
-use mathlib.Core.Logic.{⊎-elim}
 use mathlib.Core.Bool.{Bool, true, false, _&&_}
-use native.Mathlib.Decide.{ℕ-discrete, decLe}
 use native.Mathlib.Omega.{arith}
-use lib.Dec.{eqb}
-use borrow.Author.Tests.{eq-eqb, ne-eqb}
 use Rattle.laws.specs.Sum.{sum, all, keep}
 use Rattle.laws.proofs.Sum.{sum-last, keep-true, keep-false, by-test}
-use Rattle.rules.proofs.SumLaws.{sum-grows, le-or-end}
+use Rattle.rules.proofs.SumLaws.{sum-grows}
 
 -- Bounded tests
 
@@ -30,21 +26,13 @@ all-last (suc n) q = ap (λ (b : Bool). q 0 && b) (all-last n (λ s. q (suc s)))
     regroup true b c = refl
     regroup false b c = refl
 
--- a test that more indices pass
-pub all-short : (k n : ℕ) (q : ℕ → Bool) → k ≤ n → ((s : ℕ) → k ≤ s → q s ≡ true) → all n q ≡ all k q
-all-short k zero q h z = ap (λ (m : ℕ). all m q) (omega arith)
-all-short k (suc n) q h z =
-    ⊎-elim (λ (e : k ≤ n). all-last n q ∙ ap (λ (b : Bool). all n q && b) (z n e) ∙ and-true (all n q) ∙ all-short k n q e z)
-    (λ (e : k ≡ suc n). ap (λ (m : ℕ). all m q) (sym e))
-    (le-or-end k n h)
-
 -- Ranks
 
-one : (ℕ → Bool) → ℕ → ℕ
+unfoldable pub one : (ℕ → Bool) → ℕ → ℕ
 one q s = keep (q s) 1
 
 -- how many indices below s pass
-pub rank : (ℕ → Bool) → ℕ → ℕ
+unfoldable pub rank : (ℕ → Bool) → ℕ → ℕ
 rank q s = sum s (one q)
 
 module _ (q : ℕ → Bool) where
@@ -60,7 +48,7 @@ module _ (q : ℕ → Bool) where
   unfolding rank one
   rank-failed s e = omega (arith, sum-last s (one q), keep-false (q s) 1 e)
 
-  rank-grows : (s k : ℕ) → s ≤ k → rank q s ≤ rank q k
+  pub rank-grows : (s k : ℕ) → s ≤ k → rank q s ≤ rank q k
   unfolding rank
   rank-grows s k h = sum-grows s k (one q) h
 
@@ -72,19 +60,7 @@ module _ (q : ℕ → Bool) where
   pub rank-below : (s k : ℕ) → s < k → q s ≡ true → rank q s < rank q k
   rank-below s k h e = omega (arith, rank-passed s e, rank-grows (suc s) k h)
 
-  -- gathered indices are as different as their ranks
-  pub rank-equal : (s u : ℕ) → q s ≡ true → q u ≡ true → eqb (rank q s) (rank q u) ≡ eqb s u
-  rank-equal s u es eu = go (ℕ-discrete s u)
-    where
-      go : Dec (s ≡ u) → eqb (rank q s) (rank q u) ≡ eqb s u
-      go (yes e) = eq-eqb _ _ (ap (rank q) e) ∙ sym (eq-eqb s u e)
-      go (no d) = ne-eqb _ _ (apart (decLe (suc s) u)) ∙ sym (ne-eqb s u d)
-        where
-          apart : Dec (suc s ≤ u) → rank q s ≡ rank q u → ⊥
-          apart (yes h) e = omega (arith, rank-below s u h es)
-          apart (no h) e = omega (arith, rank-below u s (omega arith) eu)
-
-  -- a sum over those that pass, and a test of them, by rank
+  -- a sum over those that pass, by rank
   pub sum-rank : (k : ℕ) (f g : ℕ → ℕ)
       → ((s : ℕ) → s < k → q s ≡ true → f s ≡ g (rank q s))
       → ((s : ℕ) → s < k → q s ≡ false → f s ≡ 0)
@@ -97,17 +73,3 @@ module _ (q : ℕ → Bool) where
       (λ e.
       omega (arith, before, sum-last k f, sum-last (rank q k) g, h k (omega arith) e, ap (λ (m : ℕ). sum m g) (rank-passed k e)))
       (λ e. omega (arith, before, sum-last k f, z k (omega arith) e, ap (λ (m : ℕ). sum m g) (rank-failed k e)))
-
-  pub all-rank : (k : ℕ) (f g : ℕ → Bool)
-      → ((s : ℕ) → s < k → q s ≡ true → f s ≡ g (rank q s))
-      → ((s : ℕ) → s < k → q s ≡ false → f s ≡ true)
-      → all k f ≡ all (rank q k) g
-  unfolding all
-  all-rank zero f g h z = ap (λ (m : ℕ). all m g) (sym rank-zero)
-  all-rank (suc k) f g h z =
-      let before : all k f ≡ all (rank q k) g = all-rank k f g (λ s l. h s (omega arith)) (λ s l. z s (omega arith)) in
-      by-test (q k)
-      (λ e.
-      all-last k f ∙ rw (before, h k (omega arith) e) (sym (ap (λ (m : ℕ). all m g) (rank-passed k e) ∙ all-last (rank q k) g)))
-      (λ e.
-      all-last k f ∙ rw (before, z k (omega arith) e) (and-true _ ∙ sym (ap (λ (m : ℕ). all m g) (rank-failed k e))))

@@ -6,28 +6,21 @@ use native.Mathlib.Nat.{mod-lt, mod-mod, mod-add-mod, mod-eq-of-lt, zero-mod, mu
 use native.Mathlib.Decide.{ℕ-discrete, decLe}
 use native.Mathlib.Omega.{arith}
 use lib.Dec.{ltb}
-use lib.ListN.{length, set, replicate, length-set, length-replicate}
+use lib.ListN.{length, set, length-set}
 use lib.Seq.{getD-set-same, getD-set-other}
 use borrow.Author.Tests.{eq-eqb, ne-eqb, lt-ltb, le-ltb}
 use Rattle.field.specs.Residue.{Congruent, opposite}
 use Rattle.field.proofs.Residue.{congruent-multiples, congruent-refl, congruent-sym, congruent-trans, congruent-plus, congruent-times}
 use Rattle.field.proofs.Residue.{congruent-mod, congruent-shift, opposite-only, opposite-plus}
 use Rattle.circuit.specs.Circuit.{Term, Form, coef}
-use Rattle.circuit.specs.Reader.{afterForm, formIn, constraintIn}
+use Rattle.circuit.specs.Reader.{signalsMost, afterForm, formIn, constraintIn}
 use Rattle.laws.specs.Sum.{keep}
 use Rattle.laws.specs.Rules.{constant, reduced}
 use Rattle.laws.proofs.Sum.{keep-true, keep-false}
 use Rattle.rules.specs.View.{coefIn}
 use Rattle.rules.specs.Steps.{added}
-use Rattle.rules.proofs.ViewLaws.{coef-past, coef-none}
+use Rattle.rules.proofs.ViewLaws.{coef-past}
 use Rattle.rules.proofs.Walk.{form-coef-beyond}
-
--- A form added
-
-pub added-length : (p k : ℕ) (f : Form) (acc : List ℕ) → length (added p k f acc) ≡ length acc
-unfolding added
-added-length p k [] acc = refl
-added-length p k (x ∷ f) acc = added-length p k f _ ∙ length-set acc (x .signal) _
 
 coef-set-same : (acc : List ℕ) (s x : ℕ) → s < length acc → coefIn (set acc s x) s ≡ x
 unfolding coefIn
@@ -36,6 +29,34 @@ coef-set-same acc s x h = getD-set-same acc s x 0 h
 coef-set-other : (acc : List ℕ) (t s x : ℕ) → (s ≡ t → ⊥) → coefIn (set acc t x) s ≡ coefIn acc s
 unfolding coefIn
 coef-set-other acc t s x d = getD-set-other acc t s x 0 d
+
+-- A form cleared
+
+pub cleared-on : (form : List ℕ) (s : ℕ) → s < length form → ((u : ℕ) → u < s → coefIn form u ≡ 0)
+    → (u : ℕ) → u < s + 1 → coefIn (set form s 0) u ≡ 0
+cleared-on form s h before u l = go (ℕ-discrete u s)
+  where
+    go : Dec (u ≡ s) → coefIn (set form s 0) u ≡ 0
+    go (yes e) = rw e (coef-set-same form s 0 h)
+    go (no d) = coef-set-other form s u 0 d ∙ before u (below (decLe (suc u) s))
+      where
+        below : Dec (suc u ≤ s) → u < s
+        below (yes b) = b
+        below (no b) = absurd (d (omega arith))
+
+pub cleared-end : (form : List ℕ) (s : ℕ) → length form ≤ s → ((u : ℕ) → u < s → coefIn form u ≡ 0) → (u : ℕ) → coefIn form u ≡ 0
+cleared-end form s h before u = go (decLe (suc u) s)
+  where
+    go : Dec (suc u ≤ s) → coefIn form u ≡ 0
+    go (yes l) = before u l
+    go (no l) = coef-past form u (omega arith)
+
+-- A form added
+
+pub added-length : (p k : ℕ) (f : Form) (acc : List ℕ) → length (added p k f acc) ≡ length acc
+unfolding added
+added-length p k [] acc = refl
+added-length p k (x ∷ f) acc = added-length p k f _ ∙ length-set acc (x .signal) _
 
 coef-first : (x : Term) (f : Form) (s : ℕ) → x .signal ≡ s → coef (x ∷ f) s ≡ x .coefficient + coef f s
 unfolding coef
@@ -145,7 +166,7 @@ module _ (p : ℕ) (s : List ℕ) (h : 1 < p) where
   reduced-constant = sym (constant-value p _ _ _ h)
 
   -- no signal above 256 occurs
-  pub reduced-past : (t : ℕ) → 256 < t → reduced p (constraintIn s) t ≡ 0
+  pub reduced-past : (t : ℕ) → signalsMost < t → reduced p (constraintIn s) t ≡ 0
   reduced-past zero l = absurd (omega arith)
   reduced-past (suc t) l =
       reduced-signal t
@@ -159,26 +180,24 @@ module _ (p : ℕ) (s : List ℕ) (h : 1 < p) where
   module _
       (b c : List ℕ) (b-is : b ≡ afterForm s) (c-is : c ≡ afterForm b)
       (a0 b0 : ℕ) (a0-is : a0 ≡ coef (formIn s) 0 % p) (b0-is : b0 ≡ coef (formIn b) 0 % p)
-      (n : ℕ) (first second third : List ℕ)
-      (first-is : first ≡ added p a0 (formIn b) (replicate n 0))
+      (clear : List ℕ) (cleared : (t : ℕ) → coefIn clear t ≡ 0) (first second third : List ℕ)
+      (first-is : first ≡ added p a0 (formIn b) clear)
       (second-is : second ≡ added p b0 (formIn s) first)
       (third-is : third ≡ added p (p - 1) (formIn c) second) where
-    third-length : length third ≡ n
+    third-length : length third ≡ length clear
     third-length =
-        ap length third-is ∙ added-length p _ _ second ∙ ap length second-is ∙ added-length p _ _ first ∙ ap length first-is
-        ∙ added-length p _ _ (replicate n 0)
-        ∙ length-replicate {A = ℕ} n 0
+        ap length third-is ∙ added-length p _ _ second ∙ ap length second-is ∙ added-length p _ _ first ∙ ap length first-is ∙ added-length p _ _ clear
 
-    third-at : (t : ℕ) → t < n
+    third-at : (t : ℕ) → t < length clear
         → coefIn third t
         ≡ threeAdded p (coef (formIn s) 0) (coef (formIn (afterForm s)) 0) (coef (formIn s) t) (coef (formIn (afterForm s)) t)
         (coef (formIn (afterForm (afterForm s))) t)
     third-at t l =
         let e₁ : coefIn first t ≡ (0 + a0 * coef (formIn b) t) % p =
         ap (λ (x : List ℕ). coefIn x t) first-is
-        ∙ added-at p a0 (formIn b) (replicate n 0) t (rw (length-replicate {A = ℕ} n 0) l) (rw (coef-none n t) (omega arith))
-        ∙ ap (λ (x : ℕ). (x + a0 * coef (formIn b) t) % p) (coef-none n t) in
-        let l₁ : t < length first = rw (ap length first-is ∙ added-length p _ _ (replicate n 0) ∙ length-replicate {A = ℕ} n 0) l in
+        ∙ added-at p a0 (formIn b) clear t l (rw (cleared t) (omega arith))
+        ∙ ap (λ (x : ℕ). (x + a0 * coef (formIn b) t) % p) (cleared t) in
+        let l₁ : t < length first = rw (ap length first-is ∙ added-length p _ _ clear) l in
         let e₂ : coefIn second t ≡ (coefIn first t + b0 * coef (formIn s) t) % p =
         ap (λ (x : List ℕ). coefIn x t) second-is ∙ added-at p b0 (formIn s) first t l₁ (rw e₁ (mod-lt _ (omega arith))) in
         let l₂ : t < length second = rw (ap length second-is ∙ added-length p _ _ first) l₁ in
@@ -186,22 +205,32 @@ module _ (p : ℕ) (s : List ℕ) (h : 1 < p) where
         ap (λ (x : List ℕ). coefIn x t) third-is ∙ added-at p (p - 1) (formIn c) second t l₂ (rw e₂ (mod-lt _ (omega arith))) in
         e₃ ∙ rw (e₂, e₁, a0-is, b0-is, c-is, b-is)
 
-    pub reduced-made : (m r : ℕ) → 256 < n → n ≤ 257 → m ≡ (0 + a0 * b0) % p → r ≡ (coefIn third 0 + (p - m) * 1) % p
-        → (t : ℕ) → coefIn (set third 0 r) t ≡ keep (ltb 1 p) (reduced p (constraintIn s) t)
-    reduced-made m r some most m-is r-is t = go t ∙ sym (keep-true (ltb 1 p) _ (lt-ltb 1 p h))
+    pub reduced-made : (m : ℕ) → m ≡ (0 + a0 * b0) % p → (form : List ℕ) → form ≡ set third 0 ((coefIn third 0 + (p - m) * 1) % p)
+        → (t : ℕ) → t < length clear → coefIn form t ≡ keep (ltb 1 p) (reduced p (constraintIn s) t)
+    reduced-made m m-is form form-is t l = ap (λ (f : List ℕ). coefIn f t) form-is ∙ go t l ∙ sym (keep-true (ltb 1 p) _ (lt-ltb 1 p h))
       where
-        go : (t : ℕ) → coefIn (set third 0 r) t ≡ reduced p (constraintIn s) t
-        go zero =
-            coef-set-same third 0 r (rw third-length (omega arith)) ∙ r-is
-            ∙ rw (m-is, third-at 0 (omega arith), a0-is, b0-is, b-is) (sym reduced-constant)
-        go (suc t) = within (decLe (suc (suc t)) n)
-          where
-            within : Dec (suc (suc t) ≤ n) → coefIn (set third 0 r) (suc t) ≡ reduced p (constraintIn s) (suc t)
-            within (yes l) =
-                coef-set-other third 0 (suc t) r (λ (e : suc t ≡ 0). omega arith) ∙ third-at (suc t) l ∙ sym (reduced-signal t)
-            within (no d) =
-                coef-past (set third 0 r) (suc t) (rw (length-set third 0 r, third-length) (omega arith))
-                ∙ sym (reduced-past (suc t) (omega arith))
+        r : ℕ
+        r = (coefIn third 0 + (p - m) * 1) % p
 
-pub reduced-small : (p n : ℕ) (s : List ℕ) → p < 2 → (t : ℕ) → coefIn (replicate n 0) t ≡ keep (ltb 1 p) (reduced p (constraintIn s) t)
-reduced-small p n s h t = coef-none n t ∙ sym (keep-false (ltb 1 p) _ (le-ltb 1 p (omega arith)))
+        go : (t : ℕ) → t < length clear → coefIn (set third 0 r) t ≡ reduced p (constraintIn s) t
+        go zero l =
+            coef-set-same third 0 r (rw third-length l)
+            ∙ rw (m-is, third-at 0 l, a0-is, b0-is, b-is) (sym reduced-constant)
+        go (suc t) l = coef-set-other third 0 (suc t) r (λ (e : suc t ≡ 0). omega arith) ∙ third-at (suc t) l ∙ sym (reduced-signal t)
+
+pub reduced-small : (p : ℕ) (s : List ℕ) (form : List ℕ) → p ≤ 1 → (t : ℕ) → coefIn form t ≡ 0 → coefIn form t ≡ keep (ltb 1 p) (reduced p (constraintIn s) t)
+reduced-small p s form h t e = e ∙ sym (keep-false (ltb 1 p) _ (le-ltb 1 p h))
+
+-- an array with room for all signals has the whole form
+pub reduced-whole : (p : ℕ) (s form : List ℕ) → signalsMost < length form
+    → ((t : ℕ) → t < length form → coefIn form t ≡ keep (ltb 1 p) (reduced p (constraintIn s) t))
+    → (t : ℕ) → coefIn form t ≡ keep (ltb 1 p) (reduced p (constraintIn s) t)
+reduced-whole p s form wide within t = go (decLe (suc t) (length form))
+  where
+    none : signalsMost < t → Dec (2 ≤ p) → keep (ltb 1 p) (reduced p (constraintIn s) t) ≡ 0
+    none l (yes h) = keep-true (ltb 1 p) _ (lt-ltb 1 p h) ∙ reduced-past p s h t l
+    none l (no h) = keep-false (ltb 1 p) _ (le-ltb 1 p (omega arith))
+
+    go : Dec (suc t ≤ length form) → coefIn form t ≡ keep (ltb 1 p) (reduced p (constraintIn s) t)
+    go (yes l) = within t l
+    go (no l) = coef-past form t (omega arith) ∙ sym (none (omega arith) (decLe 2 p))

@@ -7,7 +7,8 @@ use native.Mathlib.Omega.{arith}
 use native.Mathlib.Decide.{ℕ-discrete, decLe}
 use lib.ListN.{length, getD, set, replicate, List·getD-eq-default, length-replicate, getD-replicate}
 use lib.Seq.{getD-set-same, getD-set-other}
-use Rattle.laws.specs.Standing.{put, add, lower, mark, largest}
+use Rattle.laws.specs.Problem.{largest}
+use Rattle.laws.specs.Standing.{put, add, lower, mark}
 use Rattle.laws.proofs.Order.{put-same, put-other, add-same, add-other}
 use Rattle.rules.specs.View.{coefIn, boundIn, markIn, viewOf}
 

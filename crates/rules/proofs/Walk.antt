@@ -1,25 +1,33 @@
 -- Walks over the terms of a form in its bytes: what is left of the form at an offset, and what one turn of each walk does.
 use Prim.Native.Nat.{ℕ, zero, suc, _+_, _-_, _*_, _%_, _≤_, _<_}
 use mathlib.Core.Path.{_≡_, refl, sym, ap, _∙_}
+use mathlib.Core.Logic.{_⊎_, inl, inr, ⊎-elim}
 use mathlib.Core.Bool.{Bool, true, false, cond, not, _&&_, _||_}
 use mathlib.Core.List.{List, []}
 use native.Mathlib.Nat.{add-zero, zero-add}
 use native.Mathlib.Omega.{arith}
-use lib.Dec.{leb, eqb}
+use lib.Dec.{ltb, leb, eqb}
 use lib.ListN.{length, drop, set}
 use lib.Seq.{drop-drop, set-out}
-use borrow.Author.Tests.{eq-eqb, ne-eqb, leb-true, leb-false}
+use borrow.Author.Tests.{eq-eqb, ne-eqb, leb-true, leb-false, ltb-false}
 use Rattle.circuit.specs.Bytes.{byteAt, u16At, u32At}
 use Rattle.circuit.specs.Circuit.{Term, Form, coef, names}
-use Rattle.circuit.specs.Reader.{termKept, termsIn, formIn}
+use Rattle.circuit.specs.Reader.{signalsMost, termKept, termsIn, formIn}
 use Rattle.circuit.proofs.ByteLaws.{u16-drop, u32-drop}
 use Rattle.circuit.proofs.ReaderLaws.{one-more}
-use Rattle.laws.specs.Standing.{Standing}
 use Rattle.laws.specs.Rules.{othersMarked}
 use Rattle.laws.proofs.Sum.{by-test}
 use Rattle.laws.proofs.Forms.{unnamed-coef}
 use Rattle.rules.specs.View.{coefIn}
-use Rattle.rules.specs.Steps.{added}
+use Rattle.rules.specs.Steps.{allowed, placeOf, added}
+
+or-true : (a : Bool) → (a || true) ≡ true
+or-true true = refl
+or-true false = refl
+
+or-false : (a : Bool) → (a || false) ≡ a
+or-false true = refl
+or-false false = refl
 
 -- the terms that are left from an offset on
 unfoldable pub termsFrom : List ℕ → ℕ → ℕ → Form
@@ -36,23 +44,22 @@ terms-none s at = refl
 abbrev pub termFrom : List ℕ → ℕ → Term
 termFrom s at = record { signal = u16At s at; coefficient = u32At s (at + 2) }
 
-terms-turn : (s : List ℕ) (left at : ℕ) → termsFrom s (suc left) at ≡ termKept (leb (u16At s at) 256) (termFrom s at) (termsFrom s left (at + 6))
+terms-turn : (s : List ℕ) (left at : ℕ) → termsFrom s (suc left) at ≡ termKept (leb (u16At s at) signalsMost) (termFrom s at) (termsFrom s left (at + 6))
 unfolding termsFrom termsIn
 terms-turn s left at = simp (u16-drop, u32-drop, drop-drop, add-zero)
 
 -- what a walk finds at a term, kept or passed over
 
-kept-names : (b : Bool) (x : Term) (f : Form) (t : ℕ) → (b ≡ false → eqb (x .signal) t ≡ false)
-    → names (termKept b x f) t ≡ (eqb (x .signal) t || names f t)
+kept-names : (b : Bool) (x : Term) (f : Form) (t : ℕ) → names (termKept b x f) t ≡ ((b && eqb (x .signal) t) || names f t)
 unfolding names
-kept-names true x f t h = refl
-kept-names false x f t h = rw (h refl)
+kept-names true x f t = refl
+kept-names false x f t = refl
 
-kept-others : (b : Bool) (x : Term) (f : Form) (S : Standing) (t : ℕ)
-    → othersMarked S t (termKept b x f) ≡ ((not b || (eqb (x .signal) 0 || eqb (x .signal) t || S .marked (x .signal))) && othersMarked S t f)
+kept-others : (b : Bool) (x : Term) (f : Form) (m : ℕ → Bool) (t : ℕ)
+    → othersMarked m t (termKept b x f) ≡ ((not b || (eqb (x .signal) 0 || eqb (x .signal) t || m (x .signal))) && othersMarked m t f)
 unfolding othersMarked
-kept-others true x f S t = refl
-kept-others false x f S t = refl
+kept-others true x f m t = refl
+kept-others false x f m t = refl
 
 kept-coef : (b : Bool) (x : Term) (f : Form) (t : ℕ) → (b ≡ false → eqb (x .signal) t ≡ false)
     → coef (termKept b x f) t ≡ cond (eqb (x .signal) t) (x .coefficient) 0 + coef f t
@@ -60,60 +67,64 @@ unfolding coef
 kept-coef true x f t h = refl
 kept-coef false x f t h = rw (h refl, zero-add)
 
--- a list with one term added, at the signal's place if it has one
-unfoldable pub addedAt : ℕ → ℕ → List ℕ → ℕ → ℕ → List ℕ
-addedAt p k acc signal coefficient = set acc signal ((coefIn acc signal + k * coefficient) % p)
+-- the place of a signal in an array: its own, or the width where it is passed over or too large
+place-within : (x width : ℕ) → placeOf x width < width → (leb x signalsMost ≡ true) × (placeOf x width ≡ x)
+unfolding placeOf
+place-within x width = go (leb x signalsMost) refl (ltb x width) refl
+  where
+    go : (a : Bool) → leb x signalsMost ≡ a → (b : Bool) → ltb x width ≡ b → cond (a && b) x width < width → (a ≡ true) × (cond (a && b) x width ≡ x)
+    go true e true g h = (refl, refl)
+    go true e false g h = absurd (omega arith)
+    go false e b g h = absurd (omega arith)
 
-kept-added : (p k : ℕ) (b : Bool) (x : Term) (f : Form) (acc : List ℕ) → (b ≡ false → length acc ≤ x .signal)
-    → added p k (termKept b x f) acc ≡ added p k f (addedAt p k acc (x .signal) (x .coefficient))
-unfolding added addedAt
-kept-added p k true x f acc h = refl
-kept-added p k false x f acc h = rw (set-out acc (x .signal) ((coefIn acc (x .signal) + k * x .coefficient) % p) (h refl))
+place-beyond : (x width : ℕ) → width ≤ placeOf x width → (leb x signalsMost ≡ false) ⊎ (width ≤ x)
+unfolding placeOf
+place-beyond x width = go (leb x signalsMost) refl (ltb x width) refl
+  where
+    go : (a : Bool) → leb x signalsMost ≡ a → (b : Bool) → ltb x width ≡ b → width ≤ cond (a && b) x width → (a ≡ false) ⊎ (width ≤ x)
+    go true e true g h = inr h
+    go true e false g h = inr (ltb-false x width g)
+    go false e b g h = inl refl
 
 -- A turn of each walk at an offset where terms are left.
 module _ (s : List ℕ) (left at : ℕ) (some : 0 < left) (signal : ℕ) (known : signal ≡ u16At s at) where
   pub turn : termsFrom s left at
-      ≡ termKept (leb signal 256) (record { signal = signal; coefficient = u32At s (at + 2) }) (termsFrom s (left - 1) (at + 6))
+      ≡ termKept (leb signal signalsMost) (record { signal = signal; coefficient = u32At s (at + 2) }) (termsFrom s (left - 1) (at + 6))
   turn = ap (λ (k : ℕ). termsFrom s k at) (one-more some) ∙ terms-turn s (left - 1) at ∙ rw known
 
-  high : (t : ℕ) → t ≤ 256 → leb signal 256 ≡ false → eqb signal t ≡ false
-  high t h e = ne-eqb signal t λ (g : signal ≡ t). omega (arith, leb-false signal 256 e)
+  high : (t : ℕ) → t ≤ signalsMost → leb signal signalsMost ≡ false → eqb signal t ≡ false
+  high t h e = ne-eqb signal t λ (g : signal ≡ t). omega (arith, leb-false signal signalsMost e)
 
-  pub names-turn : (t : ℕ) → t ≤ 256 → names (termsFrom s left at) t ≡ (eqb signal t || names (termsFrom s (left - 1) (at + 6)) t)
-  names-turn t h = rw turn (kept-names (leb signal 256) _ _ t (high t h))
+  pub names-turn : (t : ℕ) → names (termsFrom s left at) t ≡ ((leb signal signalsMost && eqb signal t) || names (termsFrom s (left - 1) (at + 6)) t)
+  names-turn t = rw turn (kept-names (leb signal signalsMost) _ _ t)
 
-  pub others-turn : (S : Standing) (t : ℕ) → othersMarked S t (termsFrom s left at)
-      ≡ ((not (leb signal 256) || (eqb signal 0 || eqb signal t || S .marked signal)) && othersMarked S t (termsFrom s (left - 1) (at + 6)))
-  others-turn S t = rw turn (kept-others (leb signal 256) _ _ S t)
+  pub others-turn : (m : ℕ → Bool) (t : ℕ) → othersMarked m t (termsFrom s left at) ≡ (allowed m t signal && othersMarked m t (termsFrom s (left - 1) (at + 6)))
+  unfolding allowed
+  others-turn m t = rw turn (kept-others (leb signal signalsMost) _ _ m t)
 
-  pub coef-turn : (t : ℕ) → t ≤ 256
+  pub coef-turn : (t : ℕ) → t ≤ signalsMost
       → coef (termsFrom s left at) t ≡ cond (eqb signal t) (u32At s (at + 2)) 0 + coef (termsFrom s (left - 1) (at + 6)) t
-  coef-turn t h = rw turn (kept-coef (leb signal 256) _ _ t (high t h))
-
-  pub added-turn : (p k : ℕ) (acc : List ℕ) → length acc ≤ 257
-      → added p k (termsFrom s left at) acc ≡ added p k (termsFrom s (left - 1) (at + 6)) (addedAt p k acc signal (u32At s (at + 2)))
-  added-turn p k acc h =
-      rw turn (kept-added p k (leb signal 256) _ _ acc λ (e : leb signal 256 ≡ false). omega (arith, leb-false signal 256 e))
+  coef-turn t h = rw turn (kept-coef (leb signal signalsMost) _ _ t (high t h))
 
 -- The steps of each walk, from what is known where it stands on to what the code does there.
 module _ (s : List ℕ) (left at : ℕ) (some : 0 < left) (signal : ℕ) (known : signal ≡ u16At s at) where
-  module _ (t : ℕ) (low : t ≤ 256) (z : Bool) (inv : z ≡ names (termsFrom s left at) t) where
-    pub names-hit : signal ≡ t → z ≡ true
-    names-hit e = inv ∙ names-turn s left at some signal known t low ∙ rw (eq-eqb signal t e)
+  module _ (t : ℕ) (z found b : Bool) (inv : z ≡ (found || names (termsFrom s left at) t)) (told : b ≡ (leb signal signalsMost && eqb signal t)) where
+    pub names-hit : b ≡ true → z ≡ (true || names (termsFrom s (left - 1) (at + 6)) t)
+    names-hit e = inv ∙ rw (names-turn s left at some signal known t, sym told ∙ e) (or-true found)
 
-    pub names-on : (signal ≡ t → ⊥) → z ≡ names (termsFrom s (left - 1) (at + 6)) t
-    names-on d = inv ∙ names-turn s left at some signal known t low ∙ rw (ne-eqb signal t d)
+    pub names-on : b ≡ false → z ≡ (found || names (termsFrom s (left - 1) (at + 6)) t)
+    names-on e = inv ∙ rw (names-turn s left at some signal known t, sym told ∙ e)
 
   module _
-      (S : Standing) (t : ℕ) (z : Bool) (inv : z ≡ othersMarked S t (termsFrom s left at)) (b : Bool)
-      (found : b ≡ (not (leb signal 256) || (eqb signal 0 || eqb signal t || S .marked signal))) where
+      (m : ℕ → Bool) (t : ℕ) (z : Bool) (inv : z ≡ othersMarked m t (termsFrom s left at)) (b : Bool)
+      (found : b ≡ allowed m t signal) where
     pub others-stop : b ≡ false → z ≡ false
-    others-stop e = inv ∙ others-turn s left at some signal known S t ∙ rw (sym found ∙ e)
+    others-stop e = inv ∙ others-turn s left at some signal known m t ∙ rw (sym found ∙ e)
 
-    pub others-on : b ≡ true → z ≡ othersMarked S t (termsFrom s (left - 1) (at + 6))
-    others-on e = inv ∙ others-turn s left at some signal known S t ∙ rw (sym found ∙ e)
+    pub others-on : b ≡ true → z ≡ othersMarked m t (termsFrom s (left - 1) (at + 6))
+    others-on e = inv ∙ others-turn s left at some signal known m t ∙ rw (sym found ∙ e)
 
-  module _ (t : ℕ) (low : t ≤ 256) (z total : ℕ) (inv : z ≡ total + coef (termsFrom s left at) t) where
+  module _ (t : ℕ) (low : t ≤ signalsMost) (z total : ℕ) (inv : z ≡ total + coef (termsFrom s left at) t) where
     pub coef-hit : signal ≡ t → (x : ℕ) → x ≡ u32At s (at + 2) → z ≡ total + x + coef (termsFrom s (left - 1) (at + 6)) t
     coef-hit e x known-x =
         omega (
@@ -130,17 +141,34 @@ module _ (s : List ℕ) (left at : ℕ) (some : 0 < left) (signal : ℕ) (known 
           ap (λ (b : Bool). cond b (u32At s (at + 2)) 0) (ne-eqb signal t d),
         )
 
-  module _ (p k : ℕ) (acc : List ℕ) (z : List ℕ) (inv : z ≡ added p k (termsFrom s left at) acc) (sized : length acc ≤ 257) where
-    pub added-hit : (x r : ℕ) → x ≡ u32At s (at + 2) → r ≡ (coefIn acc signal + k * x) % p
-        → z ≡ added p k (termsFrom s (left - 1) (at + 6)) (set acc signal r)
-    unfolding addedAt
-    added-hit x r known-x e = inv ∙ added-turn s left at some signal known p k acc sized ∙ rw (e, known-x)
+  module _ (p k : ℕ) (acc z : List ℕ) (inv : z ≡ added p k (termsFrom s left at) acc) (place : ℕ) (placed : place ≡ placeOf signal (length acc)) where
+    abbrev rest : Form
+    rest = termsFrom s (left - 1) (at + 6)
 
-    pub added-on : length acc ≤ signal → z ≡ added p k (termsFrom s (left - 1) (at + 6)) acc
-    unfolding addedAt
+    abbrev here : ℕ → List ℕ
+    here i = set acc i ((coefIn acc i + k * u32At s (at + 2)) % p)
+
+    added-kept : leb signal signalsMost ≡ true → z ≡ added p k rest (here signal)
+    unfolding added
+    added-kept e = inv ∙ rw (turn s left at some signal known, e)
+
+    added-passed : leb signal signalsMost ≡ false → z ≡ added p k rest acc
+    added-passed e = inv ∙ rw (turn s left at some signal known, e)
+
+    pub added-hit : place < length acc → (x r : ℕ) → x ≡ u32At s (at + 2) → r ≡ (coefIn acc place + k * x) % p → z ≡ added p k rest (set acc place r)
+    added-hit h x r known-x e =
+        let at-place = place-within signal (length acc) (rw placed at h) in
+        let same : signal ≡ place = sym (placed ∙ at-place .1) in
+        added-kept (at-place .0) ∙ ap (λ (i : ℕ). added p k rest (here i)) same ∙ rw (e, known-x)
+
+    pub added-on : length acc ≤ place → z ≡ added p k rest acc
     added-on h =
-        inv ∙ added-turn s left at some signal known p k acc sized
-        ∙ rw (set-out acc signal ((coefIn acc signal + k * u32At s (at + 2)) % p) h)
+        ⊎-elim added-passed
+        (λ (l : length acc ≤ signal).
+        by-test (leb signal signalsMost)
+        (λ e. added-kept e ∙ rw (set-out acc signal ((coefIn acc signal + k * u32At s (at + 2)) % p) l))
+        added-passed)
+        (place-beyond signal (length acc) (rw placed at h))
 
 -- the start of each walk, by the count byte
 module _ (s : List ℕ) (count : ℕ) (known : count ≡ byteAt s 0) where
@@ -152,13 +180,13 @@ module _ (s : List ℕ) (left at : ℕ) (none : left ≤ 0) where
   pub terms-end : termsFrom s left at ≡ []
   terms-end = ap (λ (k : ℕ). termsFrom s k at) (omega arith) ∙ terms-none s at
 
-  pub names-end : (t : ℕ) (z : Bool) → z ≡ names (termsFrom s left at) t → z ≡ false
+  pub names-end : (t : ℕ) (z found : Bool) → z ≡ (found || names (termsFrom s left at) t) → z ≡ found
   unfolding names
-  names-end t z e = e ∙ ap (λ (f : Form). names f t) terms-end
+  names-end t z found e = e ∙ ap (λ (f : Form). found || names f t) terms-end ∙ or-false found
 
-  pub others-end : (S : Standing) (t : ℕ) (z : Bool) → z ≡ othersMarked S t (termsFrom s left at) → z ≡ true
+  pub others-end : (m : ℕ → Bool) (t : ℕ) (z : Bool) → z ≡ othersMarked m t (termsFrom s left at) → z ≡ true
   unfolding othersMarked
-  others-end S t z e = e ∙ ap (othersMarked S t) terms-end
+  others-end m t z e = e ∙ ap (othersMarked m t) terms-end
 
   pub coef-end : (t z total : ℕ) → z ≡ total + coef (termsFrom s left at) t → z ≡ total
   unfolding coef
@@ -169,17 +197,17 @@ module _ (s : List ℕ) (left at : ℕ) (none : left ≤ 0) where
   added-end p k acc z e = sym (e ∙ ap (λ (f : Form). added p k f acc) terms-end)
 
 -- a form names no signal above 256
-terms-names-beyond : (left : ℕ) (s : List ℕ) (t : ℕ) → 256 < t → names (termsIn left s) t ≡ false
+terms-names-beyond : (left : ℕ) (s : List ℕ) (t : ℕ) → signalsMost < t → names (termsIn left s) t ≡ false
 unfolding names termsIn
 terms-names-beyond zero s t h = refl
 terms-names-beyond (suc left) s t h =
-    by-test (leb (u16At s 0) 256)
-    (λ e. rw (e, ne-eqb (u16At s 0) t (λ (g : u16At s 0 ≡ t). omega (arith, leb-true (u16At s 0) 256 e))) (terms-names-beyond left (drop 6 s) t h))
+    by-test (leb (u16At s 0) signalsMost)
+    (λ e. rw (e, ne-eqb (u16At s 0) t (λ (g : u16At s 0 ≡ t). omega (arith, leb-true (u16At s 0) signalsMost e))) (terms-names-beyond left (drop 6 s) t h))
     (λ e. rw e (terms-names-beyond left (drop 6 s) t h))
 
-pub form-names-beyond : (s : List ℕ) (t : ℕ) → 256 < t → names (formIn s) t ≡ false
+pub form-names-beyond : (s : List ℕ) (t : ℕ) → signalsMost < t → names (formIn s) t ≡ false
 unfolding formIn
 form-names-beyond s t h = terms-names-beyond (byteAt s 0) (drop 1 s) t h
 
-pub form-coef-beyond : (s : List ℕ) (t : ℕ) → 256 < t → coef (formIn s) t ≡ 0
+pub form-coef-beyond : (s : List ℕ) (t : ℕ) → signalsMost < t → coef (formIn s) t ≡ 0
 form-coef-beyond s t h = unnamed-coef (formIn s) t (form-names-beyond s t h)

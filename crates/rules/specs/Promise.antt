@@ -1,7 +1,10 @@
--- What the methods of the standing promise: the struct as a standing of the rules, and one step's outcome.
+-- What the methods of the standing promise: the struct as a standing of the rules, and one step's outcome. How it runs, not what it means.
 use Prim.Native.Nat.{ℕ}
 use mathlib.Core.Path.{_≡_}
-use mathlib.Core.Bool.{Bool, cond}
+use mathlib.Core.Bool.{cond}
+use mathlib.Core.List.{List}
+use Rattle.circuit.specs.Reader.{constraintIn}
+use Rattle.laws.specs.Problem.{Subject}
 use Rattle.laws.specs.Standing as laws
 use Rattle.laws.specs.Step as step
 use Rattle.rules.specs.View.{viewOf}
@@ -14,10 +17,14 @@ use Rattle.rules.specs.declared.standing.Kind.the-variants.{Root, Sum, Z
 abbrev pub view : ℕ → Standing → laws.Standing
 view p st = viewOf p (st .bounds) (st .marks)
 
--- "One step takes the standing and gives the next": the outcome says whether the rule is met and gives `after` if it is
-pub record Gives (p : ℕ) (before : Standing) (o : Outcome) (met : Bool) (after : laws.Standing) : Type 0 where
-  pub told : o .met ≡ met
-  pub next : view p (o .next) ≡ cond met after (view p before)
+-- what a step looks at whose constraint starts a part of the circuit bytes
+abbrev pub subjectIn : ℕ → ℕ → List ℕ → Subject
+subjectIn p n part = record { p = p; n = n; equation = constraintIn part }
+
+-- Rule 3.3: the outcome says whether the rule is met, and gives target t its change if it is.
+pub record Gives (p : ℕ) (before : Standing) (o : Outcome) (t : ℕ) (x : step.Rule) : Type 0 where
+  pub told : o .met ≡ x .met
+  pub next : view p (o .next) ≡ cond (x .met) (laws.apply (x .change) (view p before) t) (view p before)
 
 -- the enum's cases as the kinds of the rules
 abbrev pub kindOf : Kind → step.Kind

@@ -1,4 +1,4 @@
--- Arrays of the code as functions of the signal. Past the end of an array a coefficient is 0, a bound p - 1, and a signal unmarked.
+-- Arrays of the code as functions of the signal: how it runs, not what it means. Past the end a coefficient is 0, a bound p - 1, and a signal unmarked.
 use Prim.Native.Nat.{ℕ, _-_}
 use mathlib.Core.Bool.{Bool, false}
 use mathlib.Core.List.{List}

@@ -2,49 +2,65 @@
 
 use crate::arith::multiply_add;
 use crate::form::coefficient;
-use crate::form::names_signal;
-use crate::form::others_marked;
+use crate::form::survey;
 use circuit::reader::after_form;
 use field::modular::inverse;
 ghost use mathlib.Core.Path.{_≡_};
 ghost use mathlib.Core.Bool.{not, _&&_};
-ghost use Prim.Native.Nat.{ℕ};
 ghost use Rattle.circuit.specs.Circuit.{names};
 ghost use Rattle.circuit.specs.Reader.{formIn, constraintIn};
-ghost use Rattle.laws.specs.Rules.{namesNone, linear, isZero, namesOnly, rootMet, root, rootBound, productMet};
+ghost use Rattle.laws.specs.Rules.{namesNone, linear, isZero, namesOnly, rootMet, root, rootBound, othersMarked, productMet};
 ghost use Rattle.rules.specs.View.{markIn};
-ghost use Rattle.rules.specs.Steps.{allMarked};
+
+// Whether the form names t, and all its other signals are marked.
+fn stands_in(part: &[u8], marks: &[bool], t: u32) -> bool
+    ensures { λ r. ⌜ r ≡ (names (formIn (now (part .entry))) t && othersMarked (markIn (now (marks .entry))) t (formIn (now (part .entry)))) ⌝ }
+{
+    let seen = survey(part, marks, t);
+    if !seen.others {
+        return false;
+    }
+    seen.names
+}
+
+// Whether it does not name t, and all its signals are marked.
+fn stays_out(part: &[u8], marks: &[bool], t: u32) -> bool
+    ensures { λ r. ⌜ r
+        ≡ (not (names (formIn (now (part .entry))) t) && othersMarked (markIn (now (marks .entry))) t (formIn (now (part .entry)))) ⌝ }
+{
+    let seen = survey(part, marks, t);
+    if !seen.others {
+        return false;
+    }
+    !seen.names
+}
 
 // Whether the form names no signal: where none is marked, all others than the constant are.
 fn names_none(part: &[u8]) -> bool
     ensures { λ r. ⌜ r ≡ namesNone (formIn (now (part .entry))) ⌝ }
 {
-    let none = [false; 1];
-    others_marked(part, &none, 0)
+    let unmarked = [false; 1];
+    let seen = survey(part, &unmarked, 0);
+    seen.others
 }
 
 // Whether the form has no terms.
 fn is_zero(part: &[u8]) -> bool
     ensures { λ r. ⌜ r ≡ isZero (formIn (now (part .entry))) ⌝ }
 {
-    if !names_none(part) {
-        return false;
-    }
-    !names_signal(part, 0)
+    let unmarked = [false; 1];
+    stays_out(part, &unmarked, 0)
 }
 
 // Whether the form names signal t and no other.
 fn names_just(part: &[u8], t: u32) -> bool
     ensures { λ r. ⌜ r ≡ (names (formIn (now (part .entry))) t && namesOnly t (formIn (now (part .entry)))) ⌝ }
 {
-    if !names_signal(part, t) {
-        return false;
-    }
-    let none = [false; 1];
-    others_marked(part, &none, t)
+    let unmarked = [false; 1];
+    stands_in(part, &unmarked, t)
 }
 
-// Whether A or B names no signal.
+// Rule 4.1: whether A or B names no signal.
 pub fn is_linear(part: &[u8]) -> bool
     ensures { λ r. ⌜ r ≡ linear (constraintIn (now (part .entry))) ⌝ }
 {
@@ -54,7 +70,7 @@ pub fn is_linear(part: &[u8]) -> bool
     names_none(after_form(part))
 }
 
-// Whether the root rule is met for target t.
+// Rule 4.3: whether the root rule is met for target t.
 pub fn root_met(part: &[u8], t: u32) -> bool
     ensures { λ r. ⌜ r ≡ rootMet (constraintIn (now (part .entry))) t ⌝ }
 {
@@ -80,7 +96,7 @@ fn root_of(part: &[u8], p: u32, t: u32) -> u32
     multiply_add(0, p - constant, scale, p)
 }
 
-// The larger of the two roots.
+// Rule 4.3: the larger of the two roots.
 pub fn root_bound(part: &[u8], p: u32, t: u32) -> u32
     ensures { λ r. ⌜ r ≡ rootBound p (constraintIn (now (part .entry))) t ⌝ }
 {
@@ -89,47 +105,20 @@ pub fn root_bound(part: &[u8], p: u32, t: u32) -> u32
     if a < b { b } else { a }
 }
 
-// Whether t stands in C, in neither A nor B.
-fn stands_in_c(a: &[u8], b: &[u8], c: &[u8], t: u32) -> bool
-    ensures { λ r. ⌜ r
-        ≡ (names (formIn (now (c .entry))) t && not (names (formIn (now (a .entry))) t) && not (names (formIn (now (b .entry))) t)) ⌝ }
-{
-    if !names_signal(c, t) {
-        return false;
-    }
-    if names_signal(a, t) {
-        return false;
-    }
-    !names_signal(b, t)
-}
-
-// Whether all signals of A, B and C but t are marked.
-fn rest_marked(a: &[u8], b: &[u8], c: &[u8], marks: &[bool], t: u32) -> bool
-    ensures { λ r. ⌜ ((f : ℕ → ℕ) → r
-        ≡ allMarked (record { bound = f; marked = markIn (now (marks .entry)) }) t
-        (formIn (now (a .entry))) (formIn (now (b .entry))) (formIn (now (c .entry)))) ⌝ }
-{
-    if !others_marked(a, marks, t) {
-        return false;
-    }
-    if !others_marked(b, marks, t) {
-        return false;
-    }
-    others_marked(c, marks, t)
-}
-
-// Whether the product rule is met for target t.
+// Rule 4.6: whether the product rule is met for target t.
 pub fn product_met(part: &[u8], marks: &[bool], t: u32) -> bool
-    ensures { λ r. ⌜ ((b : ℕ → ℕ) → r
-        ≡ productMet (constraintIn (now (part .entry))) (record { bound = b; marked = markIn (now (marks .entry)) }) t) ⌝ }
+    ensures { λ r. ⌜ r ≡ productMet (constraintIn (now (part .entry))) (markIn (now (marks .entry))) t ⌝ }
 {
     if is_linear(part) {
         return false;
     }
     let b = after_form(part);
     let c = after_form(b);
-    if !stands_in_c(part, b, c, t) {
+    if !stands_in(c, marks, t) {
         return false;
     }
-    rest_marked(part, b, c, marks, t)
+    if !stays_out(part, marks, t) {
+        return false;
+    }
+    stays_out(b, marks, t)
 }

@@ -1,4 +1,4 @@
-// The five rules of document 01 as code over one constraint's part of the circuit bytes and the standing's arrays.
+// The five rules (4.1 to 4.7) as code over one constraint's part of the circuit bytes and the standing's arrays.
 
 mod arith;
 pub mod constraint;

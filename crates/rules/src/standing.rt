@@ -8,13 +8,15 @@ use crate::digits::digits_met;
 use crate::sums::sum_step;
 ghost use mathlib.Core.Path.{_≡_};
 ghost use mathlib.Core.Bool.{true, false};
-ghost use Prim.Native.Nat.{ℕ, _≤_, _<_, min};
-ghost use Rattle.circuit.specs.Reader.{constraintIn};
-ghost use Rattle.laws.specs.Standing.{largest, isInput, lower, mark};
-ghost use Rattle.laws.specs.Rules.{reduced, rootMet, rootBound, sumMet, sumBound, zeroMet, productMet, digitsMet};
-ghost use Rattle.rules.specs.Promise.{view, Gives};
+ghost use mathlib.Core.List.{[]};
+ghost use Prim.Native.Nat.{ℕ, _<_, min};
+ghost use Rattle.laws.specs.Problem.{largest};
+ghost use Rattle.laws.specs.Standing.{isInput, lower, mark};
+ghost use Rattle.laws.specs.Step as laws;
+ghost use Rattle.laws.specs.Step.{rule};
+ghost use Rattle.rules.specs.Promise.{view, subjectIn, Gives, kindOf};
 
-// Signal 0 is the constant one; bounds and marks of signals above 256 are those of the start.
+// Rule 3.1. Signal 0 is the constant one; bounds and marks of signals above 256 are those of the start.
 pub struct Standing {
     pub bounds: [u32; 257],
     pub marks: [bool; 257],
@@ -26,7 +28,7 @@ pub struct Outcome {
     pub met: bool,
 }
 
-// The kinds of steps.
+// Rule 2.2: the kinds of steps.
 pub enum Kind {
     Root,
     Sum,
@@ -36,7 +38,7 @@ pub enum Kind {
 }
 
 impl Standing {
-    // The start: every bound is p - 1, and exactly the inputs 1 to i are marked.
+    // Rule 3.2: every bound is p - 1, and exactly the inputs 1 to i are marked.
     pub fn start(p: u32, i: u32) -> Standing
         ensures { λ r. ⌜ view p r ≡ record { bound = largest p; marked = isInput (min i 256) } ⌝ }
     {
@@ -63,7 +65,7 @@ impl Standing {
         }
     }
 
-    // The target's bound becomes at most x.
+    // Rule 3.3: the target's bound becomes at most x.
     fn lowered(mut self, t: u32, x: u32) -> Outcome
         requires { ⌜ t < 257 ⌝ }
         ensures { λ r. ⌜ (r .met ≡ true) × ((p : ℕ) → view p (r .next) ≡ lower (view p self) t x) ⌝ }
@@ -76,7 +78,7 @@ impl Standing {
         }
     }
 
-    // The target becomes marked.
+    // Rule 3.3: the target becomes marked.
     fn marked(mut self, t: u32) -> Outcome
         requires { ⌜ t < 257 ⌝ }
         ensures { λ r. ⌜ (r .met ≡ true) × ((p : ℕ) → view p (r .next) ≡ mark (view p self) t) ⌝ }
@@ -89,9 +91,11 @@ impl Standing {
         }
     }
 
+    // A method for each kind, by its row in the table of rules; what the kind does not look at is 0 there.
+
+    // Rule 4.3.
     pub fn root(self, part: &[u8], p: u32, t: u32) -> Outcome
-        ensures { λ r. ⌜ Gives p self r (rootMet (constraintIn (now (part .entry))) t)
-            (lower (view p self) t (rootBound p (constraintIn (now (part .entry))) t)) ⌝ }
+        ensures { λ o. ⌜ Gives p self o t (rule laws.Root (subjectIn p 0 (now (part .entry))) (view p self) t 0) ⌝ }
     {
         if !root_met(part, t) {
             return self.unmet();
@@ -99,9 +103,9 @@ impl Standing {
         self.lowered(t, root_bound(part, p, t))
     }
 
+    // Rule 4.4.
     pub fn sum(self, part: &[u8], n: u32, p: u32, t: u32) -> Outcome
-        ensures { λ r. ⌜ Gives p self r (sumMet p n (constraintIn (now (part .entry))) (view p self) t)
-            (lower (view p self) t (sumBound p n (reduced p (constraintIn (now (part .entry)))) (view p self) t)) ⌝ }
+        ensures { λ o. ⌜ Gives p self o t (rule laws.Sum (subjectIn p n (now (part .entry))) (view p self) t 0) ⌝ }
     {
         let bound = sum_step(part, &self.bounds, n, p, t);
         if p as u64 <= bound {
@@ -110,8 +114,9 @@ impl Standing {
         self.lowered(t, bound as u32)
     }
 
+    // Rule 4.5.
     pub fn zero(self, t: u32) -> Outcome
-        ensures { λ r. ⌜ ((p : ℕ) → 1 < p → Gives p self r (zeroMet (view p self) t) (mark (view p self) t)) ⌝ }
+        ensures { λ o. ⌜ ((p : ℕ) → 1 < p → Gives p self o t (rule laws.Zero (subjectIn p 0 []) (view p self) t 0)) ⌝ }
     {
         if 256 < t {
             return self.unmet();
@@ -123,8 +128,9 @@ impl Standing {
         self.marked(t)
     }
 
+    // Rule 4.6.
     pub fn product(self, part: &[u8], t: u32) -> Outcome
-        ensures { λ r. ⌜ ((p : ℕ) → 1 < p → Gives p self r (productMet (constraintIn (now (part .entry))) (view p self) t) (mark (view p self) t)) ⌝ }
+        ensures { λ o. ⌜ ((p : ℕ) → Gives p self o t (rule laws.Product (subjectIn p 0 (now (part .entry))) (view p self) t 0)) ⌝ }
     {
         if !product_met(part, &self.marks, t) {
             return self.unmet();
@@ -132,12 +138,26 @@ impl Standing {
         self.marked(t)
     }
 
+    // Rule 4.7.
     pub fn digits(self, part: &[u8], n: u32, p: u32, t: u32, r: u32) -> Outcome
-        ensures { λ o. ⌜ Gives p self o (digitsMet p n (constraintIn (now (part .entry))) (view p self) t r) (mark (view p self) t) ⌝ }
+        ensures { λ o. ⌜ Gives p self o t (rule laws.Digits (subjectIn p n (now (part .entry))) (view p self) t r) ⌝ }
     {
         if !digits_met(part, &self.bounds, &self.marks, n, p, t, r) {
             return self.unmet();
         }
         self.marked(t)
+    }
+
+    // A step of any kind, by the constraint at the start of the part.
+    pub fn step(self, kind: Kind, part: &[u8], n: u32, p: u32, t: u32, r: u32) -> Outcome
+        ensures { λ o. ⌜ (1 < p → Gives p self o t (rule (kindOf kind) (subjectIn p n (now (part .entry))) (view p self) t r)) ⌝ }
+    {
+        match kind {
+            Kind::Root => self.root(part, p, t),
+            Kind::Sum => self.sum(part, n, p, t),
+            Kind::Zero => self.zero(t),
+            Kind::Product => self.product(part, t),
+            Kind::Digits => self.digits(part, n, p, t, r),
+        }
     }
 }

@@ -9,19 +9,17 @@ use crate::view::coef_at;
 use crate::view::signals_end;
 use field::modular::inverse;
 ghost use mathlib.Core.Path.{_≡_};
-ghost use mathlib.Core.Bool.{Bool};
-ghost use mathlib.Core.List.{[]};
-ghost use Prim.Native.Nat.{ℕ, _≤_, _<_, min};
+ghost use Prim.Native.Nat.{_≤_, _<_, min};
 ghost use Rattle.field.specs.Inverse as field;
 ghost use Rattle.circuit.specs.Reader.{constraintIn};
 ghost use Rattle.laws.specs.Rules.{sumTerm, sumBound};
-ghost use Rattle.rules.specs.View.{coefIn, boundIn, viewOf};
+ghost use Rattle.rules.specs.View.{coefIn, boundIn};
 ghost use Rattle.rules.specs.Steps.{sumStep};
 
 // What signal s adds for the target t, where the scale is the inverse of the target's coefficient.
 fn sum_term(form: &[u32], bounds: &[u32], p: u32, t: usize, scale: u32, s: usize) -> u64
     requires { ⌜ (0 < p) × (scale ≡ field.inverse p (coefIn (now form) t)) ⌝ }
-    ensures { λ r. ⌜ (r ≡ sumTerm p (coefIn (now (form .entry))) (viewOf p (now (bounds .entry)) []) t s) × (r ≤ 18446744065119617025) ⌝ }
+    ensures { λ r. ⌜ (r ≡ sumTerm p (coefIn (now (form .entry))) (boundIn p (now (bounds .entry))) t s) × (r ≤ 18446744065119617025) ⌝ }
 {
     if s == t {
         return 0;
@@ -37,10 +35,9 @@ fn sum_term(form: &[u32], bounds: &[u32], p: u32, t: usize, scale: u32, s: usize
     product(weight, bound_at(bounds, s, p))
 }
 
-// The constant weight plus the sum of weight times bound over signals 1 to n other than t, as far as p.
+// Rule 4.4: the constant weight plus the sum of weight times bound over signals 1 to n other than t, as far as p.
 pub fn sum_bound(form: &[u32], bounds: &[u32], n: u32, p: u32, t: u32) -> u64
-    ensures { λ r. ⌜ ((m : ℕ → Bool) → r
-        ≡ min p (sumBound p n (coefIn (now (form .entry))) (record { bound = boundIn p (now (bounds .entry)); marked = m }) t)) ⌝ }
+    ensures { λ r. ⌜ r ≡ min p (sumBound p n (coefIn (now (form .entry))) (boundIn p (now (bounds .entry))) t) ⌝ }
 {
     if p == 0 {
         return 0;
@@ -61,9 +58,8 @@ pub fn sum_bound(form: &[u32], bounds: &[u32], n: u32, p: u32, t: u32) -> u64
 }
 
 // The bound that the sum rule gives the target, p where the rule isn't met.
-pub fn sum_step(part: &[u8], bounds: &[u32], n: u32, p: u32, t: u32) -> u64
-    ensures { λ r. ⌜ ((m : ℕ → Bool) → r
-        ≡ sumStep p n (constraintIn (now (part .entry))) (record { bound = boundIn p (now (bounds .entry)); marked = m }) t) ⌝ }
+pub(crate) fn sum_step(part: &[u8], bounds: &[u32], n: u32, p: u32, t: u32) -> u64
+    ensures { λ r. ⌜ r ≡ sumStep p n (constraintIn (now (part .entry))) (boundIn p (now (bounds .entry))) t ⌝ }
 {
     if !is_linear(part) {
         return p as u64;

@@ -9,7 +9,7 @@ use Rattle.derivation.proofs.call.check_derivation.Tie as tie
 check-on-requires : tie.Need-check-on-requires
 check-on-requires c κs =
     let told = c .before .before in
-    laws.circuit-sized _ (sym (ap paperOf (told .answer2 .given .1)) ∙ told .before .before .check-circuit .ensures)
+    told .before .before .check-circuit .ensures .1 _ (ap paperOf (told .answer2 .given .1))
 
 returns : tie.Need-returns
 returns c =
@@ -17,15 +17,15 @@ returns c =
     let a = e .before .before .before .before .args in
     let r =
     laws.circuit-refused (a .circuit .now) (a .derivation .now) (a .marks .now)
-    (sym (ap paperOf (c .before .answer .given .1)) ∙ e .check-circuit .ensures)
+    (sym (ap paperOf (c .before .answer .given .1)) ∙ e .check-circuit .ensures .0)
     in
-    laws.call-keeps (a .circuit .now) (a .derivation .now) (a .marks .now) _ _ (r .0) (r .1)
+    laws.call-keeps (a .circuit .now) (a .derivation .now) (a .marks .now) _ _ r
 
 returns-2 : tie.Need-returns-2
 returns-2 c =
     let r = c .before .before in
     let a = r .before .before .before .before .before .before .before .before .before .args in
-    laws.call-keeps (a .circuit .now) (a .derivation .now) (a .marks .now) _ _ (r .check-on .ensures .0) (r .check-on .ensures .1)
+    laws.call-keeps (a .circuit .now) (a .derivation .now) (a .marks .now) _ _ (r .check-on .ensures)
 
 pub check-derivation-spec : {M : Type 1} → statement M
 check-derivation-spec =

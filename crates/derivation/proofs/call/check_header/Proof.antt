@@ -2,7 +2,8 @@
 use mathlib.Core.Path.{sym, _∙_}
 use borrow.Author.Tests.{not-true, not-false}
 use borrow.Author.Needs.{needs}
-use Rattle.derivation.specs.Call.{DerivationResult}
+use Rattle.circuit.specs.Answer.{Answer}
+use Rattle.derivation.specs.Call.{Judgement}
 use Rattle.derivation.proofs.CallLaws as laws
 use Rattle.derivation.proofs.call.check_header.Statement.{statement}
 use Rattle.derivation.proofs.call.check_header.Tie as tie
@@ -17,18 +18,18 @@ versioned c =
     }
 
 returns : tie.Need-returns
-returns c = λ (x : DerivationResult). rw (c .refusal .ensures) (laws.head-short _ _ _ x (c .before .if1 .taken))
+returns c = λ (x : Answer Judgement). rw (c .refusal .ensures) (laws.head-short _ _ _ x (c .before .if1 .taken))
 
 returns-2 : tie.Need-returns-2
 returns-2 c =
-    λ (x : DerivationResult).
+    λ (x : Answer Judgement).
     let m = c .before .before in
     rw (c .refusal2 .ensures)
     (laws.head-mark _ _ _ x (m .before .if1 .left) (sym (m .has-mark .ensures) ∙ not-true _ (c .before .if2 .taken)))
 
 returns-3 : tie.Need-returns-3
 returns-3 c =
-    λ (x : DerivationResult).
+    λ (x : Answer Judgement).
     let v = c .before .before in
     let m = v .before .before in
     rw (c .refusal3 .ensures)
@@ -37,20 +38,20 @@ returns-3 c =
 
 returns-4 : tie.Need-returns-4
 returns-4 c =
-    λ (x : DerivationResult).
+    λ (x : Answer Judgement).
     let k = c .before .before in
     rw (c .refusal4 .ensures) (laws.head-count _ _ _ x (versioned (k .before)) _ (k .u16-at2 .ensures .0) (c .before .if4 .taken))
 
 returns-5 : tie.Need-returns-5
 returns-5 c =
-    λ (x : DerivationResult).
+    λ (x : Answer Judgement).
     let k = c .before .before .before in
     rw (c .refusal5 .ensures)
     (laws.head-length _ _ _ x (versioned (k .before)) _ (k .u16-at2 .ensures .0) (c .before .before .if4 .left) (c .before .if5 .taken))
 
 returns-6 : tie.Need-returns-6
 returns-6 c =
-    λ (x : DerivationResult).
+    λ (x : Answer Judgement).
     let s = c .before .before in
     let k = s .before .before in
     rw (c .refusal6 .ensures)
@@ -58,7 +59,7 @@ returns-6 c =
 
 returns-7 : tie.Need-returns-7
 returns-7 c =
-    λ (x : DerivationResult).
+    λ (x : Answer Judgement).
     let s = c .before in
     let k = s .before .before in
     laws.head-fine _ _ _ x (versioned (k .before)) _ (k .u16-at2 .ensures .0) (s .before .if4 .left) (s .if5 .left) (c .if6 .left)

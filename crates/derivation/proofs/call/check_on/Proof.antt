@@ -1,7 +1,4 @@
 -- `derivation::call::check_on`: the header, the steps, then the marks; each way out is one law.
-use mathlib.Core.Path.{_≡_}
-use native.Mathlib.Omega.{arith}
-use lib.ListN.{length}
 use borrow.Author.Needs.{needs}
 use Rattle.rules.specs.View.{viewOf}
 use Rattle.rules.specs.Promise.{view}
@@ -9,61 +6,45 @@ use Rattle.derivation.proofs.CallLaws as laws
 use Rattle.derivation.proofs.call.check_on.Statement.{statement}
 use Rattle.derivation.proofs.call.check_on.Tie as tie
 
-abbrev entry : tie.After-walk → tie.Start
-entry c = c .before .before .before .before .before .before .before
+checked :
+    (c : tie.After-check-header)
+    → let a = c .before .before .before .before .args in
+    laws.Checked (a .circuit .now) (a .derivation .now) (a .marks .now) (a .sizes) (c .check-header .result)
+checked c = record { sized = c .before .before .before .before .pre; head = c .check-header .ensures }
+
+abbrev header : tie.After-walk → tie.After-check-header
+header c = c .before .before .before .before
+
+walked :
+    (c : tie.After-walk)
+    → let a = header c .before .before .before .before .args in
+    let o = c .walk .result in
+    laws.Walked (a .circuit .now) (a .derivation .now) (a .marks .now) (a .sizes) (header c .check-header .result) (o .way) (view (a .sizes .p) (o .next))
+walked c =
+    let e = header c .before .before .before .before in
+    record {
+      checked = checked (header c);
+      fine = c .before .before .enum-told .given .1;
+      walk = laws.walk-start _ _ (e .pre) (e .args .derivation .now) _ _ (c .before .start .ensures) (c .walk .ensures);
+    }
 
 returns : tie.Need-returns
-returns c =
-    let h = c .before .before .before in
-    let e = h .before .before .before .before in
-    laws.head-refused (e .args .circuit .now) (e .args .derivation .now) (e .args .marks .now) _ _ _ (e .pre .0) _ (h .check-header .ensures) _ _
-    (c .before .header .given .1)
+returns c = laws.head-refused (checked (c .before .before .before)) _ _ (c .before .header .given .1)
 
 returns-2 : tie.Need-returns-2
-returns-2 c =
-    let w = c .before .before .before in
-    let e = entry w in
-    let o = w .walk .result in
-    laws.walk-refused (e .args .circuit .now) (e .args .derivation .now) (e .args .marks .now) _ _ _ (e .pre .0) _
-    (w .before .before .before .check-header .ensures)
-    (w .before .enum-told .given .1)
-    (o .way)
-    (view (e .args .p) (o .next))
-    (w .walk .ensures)
-    _ _
-    (c .before .way .given .1)
+returns-2 c = laws.walk-refused (walked (c .before .before .before)) _ _ (c .before .way .given .1)
 
-write-marks-requires : tie.Need-write-marks-requires
-write-marks-requires c κs =
-    let long : length (c .before .before .before .before .before .before .walk .result .next .marks) ≡ 257 = search needs in
-    let w = c .before .before .before .before .before .before in
-    let e = entry w in (
-      omega (arith, long, laws.few-signals _ _ _ _ (e .pre .0)),
-      laws.head-roomy (e .args .circuit .now) (e .args .derivation .now) (e .args .marks .now) _ _ _ (e .pre .0) _
-          (w .before .before .before .check-header .ensures)
-          (w .before .enum-told .given .1),
-    )
+hand-over-requires : tie.Need-hand-over-requires
+hand-over-requires c κs =
+    let w = walked (c .before .before .before .before) in
+    (laws.few-signals _ _ (w .checked .sized), laws.head-roomy (w .checked) (w .fine))
 
 returns-3 : tie.Need-returns-3
 unfolding viewOf
 returns-3 c =
-    let m = c .before .before .before .before in
-    let on = m .before .before .before .before .before in
-    let w = on .before .before in
-    let e = entry w in
-    let o = w .walk .result in
-    laws.walk-accepts (e .args .circuit .now) (e .args .derivation .now) (e .args .marks .now) _ _ _ (e .pre .0) _
-    (w .before .before .before .check-header .ensures)
-    (w .before .enum-told .given .1)
-    (o .way)
-    (view (e .args .p) (o .next))
-    (w .walk .ensures)
-    (on .enum-told2 .given .1) _ _ _ _ _
-    (e .pre .1)
-    (e .pre .2)
-    (m .write-marks .ensures .0)
-    (c .verdict-of .ensures)
-    (m .write-marks .ensures .1)
+    let h = c .before .before in
+    let on = h .before .before .before in
+    laws.walk-accepts (walked (on .before .before)) (on .enum-told2 .given .1) _ _ (h .hand-over .ensures .0) (h .hand-over .ensures .1)
 
 pub check-on-spec : {M : Type 1} → statement M
 check-on-spec =
@@ -71,9 +52,9 @@ check-on-spec =
     (tie.spec
     (λ c κs. search needs) (λ c. search needs)
     returns
-    (λ c. search needs) (λ c κs. search needs) (λ c. search needs)
+    (λ c. search needs) (λ c κs. search needs) (λ c κs. search needs) (λ c. search needs)
     returns-2
-    (λ c. search needs) (λ c. search needs)
-    write-marks-requires
-    (λ c. search needs) (λ c κs. search needs) (λ c. search needs)
+    (λ c. search needs)
+    hand-over-requires
+    (λ c. search needs)
     returns-3)

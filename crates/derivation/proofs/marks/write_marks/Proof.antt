@@ -1,27 +1,25 @@
 -- `derivation::marks::write_marks`: the bytes of the first s signals stand before what was there, and the count is theirs.
-use Prim.Native.Nat.{_+_, _-_, _≤_}
+use Prim.Native.Nat.{_+_, _-_}
 use mathlib.Core.Bool.{false}
-use mathlib.Core.List.{_++_}
-use mathlib.Core.Path.{_≡_, refl}
+use mathlib.Core.Path.{refl}
 use native.Mathlib.Omega.{arith}
-use lib.ListN.{length, drop, getD}
+use lib.ListN.{getD}
 use borrow.Author.Needs.{needs}
 use Rattle.rules.specs.View.{markIn}
-use Rattle.derivation.specs.Call.{marksFrom, total}
 use Rattle.derivation.proofs.MarkLaws as laws
 use Rattle.derivation.proofs.marks.write_marks.Statement.{statement}
 use Rattle.derivation.proofs.marks.write_marks.Tie as tie
 
 abbrev Inv-loop : tie.InvT-loop
 Inv-loop out₀ marks n end count₀ s₀ out count s =
-    (s ≤ end) × (length out ≡ length out₀) × (count ≤ s) × (count ≡ total (marksFrom (markIn marks) 0 s))
-    × (out ≡ marksFrom (markIn marks) 0 s ++ drop s out₀)
+    laws.Written (markIn marks) out₀ end out count s
 
 abbrev μ-loop : tie.MeasureT-loop
 μ-loop out₀ marks n end count₀ s₀ out count s = end - s
 
 loop-holds : tie.Need-loop-holds Inv-loop μ-loop
-loop-holds c = (search needs, refl, search needs, laws.none-counted _, laws.none-written _ _)
+loop-holds c =
+    record { most = search needs; room = refl; few = search needs; counted = laws.none-counted _; written = laws.none-written _ _ }
 
 add-count : tie.Need-add-count Inv-loop μ-loop
 add-count c =
@@ -31,17 +29,19 @@ add-count c =
 loop-again : tie.Need-loop-again Inv-loop μ-loop
 unfolding markIn
 loop-again c =
-    let l = c .before .before .before .loop in (
-      search needs,
-      search needs,
-      omega (arith, laws.bit-most (getD (c .before .before .before .before .before .before .args .marks .now) (l .s + 1) false)),
-      laws.marks-counted _ _ _ _ (l .inv .3) (c .bit-of .ensures),
-      laws.marks-stored _ _ _ _ (search needs) (l .inv .4) _ (c .bit-of .ensures),
-    )
+    let l = c .before .before .before .loop in
+    record {
+      most = search needs;
+      room = search needs;
+      few = omega (arith, laws.bit-most (getD (c .before .before .before .before .before .before .args .marks .now) (l .s + 1) false));
+      counted = laws.marks-counted _ _ _ _ (l .inv .counted) (c .bit-of .ensures);
+      written = laws.marks-stored _ _ _ _ (search needs) (l .inv .written) _ (c .bit-of .ensures);
+    }
 
 returns : tie.Need-returns Inv-loop μ-loop
 returns c =
-    laws.all-written _ _ _ _ _ _ (c .before .loop .inv .0) (c .loop-test .left) (c .before .loop .inv .3) (c .before .loop .inv .4)
+    let inv = c .before .loop .inv in
+    laws.all-written _ _ _ _ _ _ (inv .most) (c .loop-test .left) (inv .counted) (inv .written)
 
 pub write-marks-spec : {M : Type 1} → statement M
 write-marks-spec =

@@ -20,7 +20,7 @@ sub-multiply-add c =
 returns-2 : tie.Need-returns-2
 returns-2 c =
     let c₃ = c .before .before .before in
-    tests.root-made _ _ _ _ _ _ _ (c₃ .coefficient .ensures) (c .before .before .coefficient2 .ensures) (c .before .inverse .ensures)
+    tests.root-made _ _ _ _ _ _ _ (c₃ .coefficient .ensures) (c .before .before .coefficient2 .ensures) (c .before .inverse .ensures .0)
     (c .multiply-add .ensures .0)
 
 pub root-of-spec : {M : Type 1} → statement M

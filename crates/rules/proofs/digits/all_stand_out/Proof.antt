@@ -1,31 +1,29 @@
--- `rules::digits::all_stand_out`: at each turn the weights passed stand out.
+-- `rules::digits::all_stand_out`: at each turn the signals passed stand out.
 use borrow.Author.Needs.{needs}
 use Prim.Native.Nat.{_-_, _≤_}
 use mathlib.Core.Bool.{true}
 use mathlib.Core.Path.{_≡_, sym}
 use native.Mathlib.Omega.{arith}
 use borrow.Author.Tests.{not-true, not-false}
-use Rattle.rules.proofs.DigitsLaws as laws
-use Rattle.rules.specs.Steps.{exceeds}
-use Rattle.rules.specs.View.{coefIn}
 use Rattle.laws.specs.Sum.{all}
+use Rattle.rules.proofs.DigitsLaws as laws
+use Rattle.rules.specs.View.{coefIn, markIn}
+use Rattle.rules.specs.Weights.{exceeds}
 use Rattle.rules.proofs.digits.all_stand_out.Statement.{statement}
 use Rattle.rules.proofs.digits.all_stand_out.Tie as tie
 
 abbrev Inv-loop : tie.InvT-loop
-Inv-loop weights products count i₀ i = (i ≤ count) × (all i (exceeds (coefIn weights) (coefIn products) count) ≡ true)
+Inv-loop form marks end p scale weights products count s₀ s =
+    (s ≤ end) × (all s (exceeds p (coefIn form) (markIn marks) scale (coefIn weights) (coefIn products) count) ≡ true)
 
 abbrev μ-loop : tie.MeasureT-loop
-μ-loop weights products count i₀ i = count - i
+μ-loop form marks end p scale weights products count s₀ s = end - s
 
 loop-holds : tie.Need-loop-holds Inv-loop μ-loop
 loop-holds c = (omega arith, laws.all-start _)
 
 returns : tie.Need-returns Inv-loop μ-loop
 returns c = sym (laws.all-stop _ _ _ (c .before .before .loop-test .taken) _ (c .before .stands-out .ensures) (not-true _ (c .if1 .taken)))
-
-add-i : tie.Need-add-i Inv-loop μ-loop
-add-i c = omega arith
 
 loop-less : tie.Need-loop-less Inv-loop μ-loop
 loop-less c = omega arith
@@ -47,7 +45,7 @@ all-stand-out-spec =
     loop-holds
     (λ c κs. search needs)
     returns
-    add-i
+    (λ c. search needs)
     loop-less
     loop-again
     returns-2)

@@ -7,17 +7,17 @@ use Rattle.rules.proofs.digits.digits_met.Statement.{statement}
 use Rattle.rules.proofs.digits.digits_met.Tie as tie
 
 returns : tie.Need-returns
-returns c = laws.digits-crooked _ _ _ _ _ _ (sym (c .before .is-linear .ensures) ∙ not-true _ (c .if1 .taken))
+returns c = laws.digits-crooked _ _ _ _ _ _ _ (sym (c .before .is-linear .ensures) ∙ not-true _ (c .if1 .taken))
 
 returns-2 : tie.Need-returns-2
 returns-2 c =
     let c₃ = c .before .before .before in
-    laws.digits-no-target _ _ _ (c₃ .reduced-form .ensures) _ _ _ _ (sym (c .before .coef-at .ensures) ∙ c .if2 .taken)
+    laws.digits-no-target _ _ _ (c₃ .reduced-form .ensures) _ _ _ _ _ (sym (c .before .coef-at .ensures) ∙ c .if2 .taken)
 
 returns-3 : tie.Need-returns-3
 returns-3 c =
     let c₆ = c .before .before .before .before .before .before in
-    laws.digits-no-reference _ _ _ (c₆ .reduced-form .ensures) _ _ _ _ (sym (c .before .coef-at2 .ensures) ∙ c .if3 .taken)
+    laws.digits-no-reference _ _ _ (c₆ .reduced-form .ensures) _ _ _ _ _ (sym (c .before .coef-at2 .ensures) ∙ c .if3 .taken)
 
 returns-4 : tie.Need-returns-4
 returns-4 c =
@@ -27,7 +27,7 @@ returns-4 c =
     let c₈ = c₆ .before .before in
     let c₉ = c₈ .before in
     let c₁₀ = c₉ .before in
-    laws.digits-made _ _ _ (c₈ .reduced-form .ensures) _ _ _ _ (sym (c₁₀ .is-linear .ensures) ∙ not-false _ (c₉ .if1 .left))
+    laws.digits-made _ _ _ (c₈ .reduced-form .ensures) _ _ _ _ _ (sym (c₁₀ .is-linear .ensures) ∙ not-false _ (c₉ .if1 .left))
     (λ e. c₅ .if2 .left (c₆ .coef-at .ensures ∙ e)) (λ e. c .before .before .if3 .left (c₃ .coef-at2 .ensures ∙ e)) _ (c .separated .ensures)
 
 pub digits-met-spec : {M : Type 1} → statement M

@@ -1,14 +1,13 @@
 -- `rules::digits::smaller_product`: by the weight.
-use borrow.Author.Needs.{needs}
 use Rattle.rules.proofs.DigitsLaws as laws
 use Rattle.rules.proofs.digits.smaller_product.Statement.{statement}
 use Rattle.rules.proofs.digits.smaller_product.Tie as tie
 
 returns : tie.Need-returns
-returns c = laws.smaller-yes _ _ _ _ _ _ (c .before .before .coef-at .ensures) (c .before .if1 .taken) (c .coef-at2 .ensures)
+returns c = laws.smaller-yes _ _ _ (c .if1 .taken)
 
 returns-2 : tie.Need-returns-2
-returns-2 c = laws.smaller-no _ _ _ _ _ (c .before .coef-at .ensures) (c .if1 .left)
+returns-2 c = laws.smaller-no _ _ _ (c .if1 .left)
 
 pub smaller-product-spec : {M : Type 1} → statement M
-smaller-product-spec = tie.close (tie.spec (λ c κs. search needs) (λ c κs. search needs) returns returns-2)
+smaller-product-spec = tie.close (tie.spec returns returns-2)

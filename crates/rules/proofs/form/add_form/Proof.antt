@@ -41,13 +41,13 @@ loop-less c = omega arith
 loop-again : tie.Need-loop-again Inv-loop μ-loop
 unfolding coefIn
 loop-again c =
-    let l = c .before .before .before .loop in
-    let sized : length (l .acc) ≤ 257 = omega arith in
-    let hit = walk.added-hit _ _ _ (c .before .before .loop-test .taken) _ (c .before .u16-at .ensures .0) _ _ _ _ (l .inv .2) sized in
-    let on = walk.added-on _ _ _ (c .before .before .loop-test .taken) _ (c .before .u16-at .ensures .0) _ _ _ _ (l .inv .2) sized in (
+    let turn = c .before .before .before in
+    let l = turn .before .loop in
+    let hit = walk.added-hit _ _ _ (turn .loop-test .taken) _ (c .before .before .u16-at .ensures .0) _ _ _ _ (l .inv .2) _ (c .before .place-of .ensures) in
+    let on = walk.added-on _ _ _ (turn .loop-test .taken) _ (c .before .before .u16-at .ensures .0) _ _ _ _ (l .inv .2) _ (c .before .place-of .ensures) in (
       omega arith,
       ⊎-elim (λ w. ap length (w .4) ∙ simp length-set (l .inv .1)) (λ w. ap length (w .1) ∙ l .inv .1) (c .if1 .came),
-      ⊎-elim (λ w. rw (w .4) (hit _ _ (w .2 .ensures) (w .3 .ensures .0))) (λ w. rw (w .1) (on (w .0 .left))) (c .if1 .came),
+      ⊎-elim (λ w. rw (w .4) (hit (w .0 .taken) _ _ (w .2 .ensures) (w .3 .ensures .0))) (λ w. rw (w .1) (on (w .0 .left))) (c .if1 .came),
     )
 
 same-length : tie.Need-same-length Inv-loop μ-loop

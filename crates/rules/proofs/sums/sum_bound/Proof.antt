@@ -26,7 +26,7 @@ sum-term-requires : tie.Need-sum-term-requires Inv-loop μ-loop
 sum-term-requires c κs =
     let c₃ = c .before .before .before in
     let c₄ = c₃ .before in
-    (omega arith, c₃ .inverse .ensures ∙ ap (field.inverse _) (c₄ .coef-at .ensures))
+    (omega arith, c₃ .inverse .ensures .0 ∙ ap (field.inverse _) (c₄ .coef-at .ensures))
 
 add-total : tie.Need-add-total Inv-loop μ-loop
 add-total c = omega arith

@@ -7,12 +7,12 @@ use Rattle.rules.proofs.sums.sum_step.Statement.{statement}
 use Rattle.rules.proofs.sums.sum_step.Tie as tie
 
 returns : tie.Need-returns
-returns c = λ m. laws.sum-crooked _ _ _ _ _ (sym (c .before .is-linear .ensures) ∙ not-true _ (c .if1 .taken))
+returns c = laws.sum-crooked _ _ _ _ _ (sym (c .before .is-linear .ensures) ∙ not-true _ (c .if1 .taken))
 
 returns-2 : tie.Need-returns-2
 returns-2 c =
     let c₃ = c .before .before .before in
-    λ m. laws.sum-no-target _ _ _ (c₃ .reduced-form .ensures) _ _ _ (sym (c .before .coef-at .ensures) ∙ c .if2 .taken)
+    laws.sum-no-target _ _ _ (c₃ .reduced-form .ensures) _ _ _ (sym (c .before .coef-at .ensures) ∙ c .if2 .taken)
 
 returns-3 : tie.Need-returns-3
 returns-3 c =
@@ -20,8 +20,8 @@ returns-3 c =
     let c₅ = c₃ .before .before in
     let c₆ = c₅ .before in
     let c₇ = c₆ .before in
-    λ m. laws.sum-made _ _ _ (c₅ .reduced-form .ensures) _ _ _ (sym (c₇ .is-linear .ensures) ∙ not-false _ (c₆ .if1 .left))
-    (λ e. c .before .before .if2 .left (c₃ .coef-at .ensures ∙ e)) _ (c .sum-bound .ensures m)
+    laws.sum-made _ _ _ (c₅ .reduced-form .ensures) _ _ _ (sym (c₇ .is-linear .ensures) ∙ not-false _ (c₆ .if1 .left))
+    (λ e. c .before .before .if2 .left (c₃ .coef-at .ensures ∙ e)) _ (c .sum-bound .ensures)
 
 pub sum-step-spec : {M : Type 1} → statement M
 sum-step-spec =

@@ -3,26 +3,24 @@ use borrow.Author.Needs.{needs}
 use mathlib.Core.Path.{sym, _∙_}
 use borrow.Author.Tests.{not-true, not-false}
 use Rattle.rules.proofs.Outcomes as laws
-use Rattle.rules.specs.View.{boundIn, viewOf}
+use Rattle.rules.specs.View.{viewOf}
 use Rattle.rules.proofs.standing.Standing.product.Statement.{statement}
 use Rattle.rules.proofs.standing.Standing.product.Tie as tie
 
 returns : tie.Need-returns
 unfolding viewOf
 returns c =
-    let c₇ = c .before .before .before .before .before .before .before in
-    λ p h. laws.gives-no _ _ _ _ _ (c .unmet .ensures)
-    (sym (c .before .before .product-met .ensures (boundIn p (c₇ .args .t1 .bounds))) ∙ not-true _ (c .before .if1 .taken))
+    λ p. laws.gives-no _ _ _ _ _ (c .unmet .ensures)
+    (sym (c .before .before .product-met .ensures) ∙ not-true _ (c .before .if1 .taken))
 
 marked-requires : tie.Need-marked-requires
-marked-requires c κs = laws.product-low _ _ _ (sym (c .before .product-met .ensures (λ s. 0)) ∙ not-false _ (c .if1 .left))
+marked-requires c κs = laws.product-low _ _ _ (sym (c .before .product-met .ensures) ∙ not-false _ (c .if1 .left))
 
 returns-2 : tie.Need-returns-2
 unfolding viewOf
 returns-2 c =
-    let c₇ = c .before .before .before .before .before .before .before in
-    λ p h. laws.gives-yes _ _ _ _ _ (c .marked .ensures .0) (c .marked .ensures .1 p)
-    (sym (c .before .before .product-met .ensures (boundIn p (c₇ .args .t1 .bounds))) ∙ not-false _ (c .before .if1 .left))
+    λ p. laws.gives-yes _ _ _ _ _ (c .marked .ensures .0) (c .marked .ensures .1 p)
+    (sym (c .before .before .product-met .ensures) ∙ not-false _ (c .before .if1 .left))
 
 pub product-spec : {M : Type 1} → statement M
 product-spec =
