@@ -1,6 +1,7 @@
--- The circuits of cases a to g of document 01's "Small circuits".
+-- The circuits of the table: those of cases a to g (Rule 7.4), a copy of an input, and headers alone.
 use Prim.Native.Nat.{ℕ, _-_}
-use mathlib.Core.List.{List, [], _∷_}
+use mathlib.Core.Bool.{Bool, true, false}
+use mathlib.Core.List.{[], _∷_}
 use Rattle.circuit.specs.Circuit.{Term, Form, Constraint, Circuit}
 
 abbrev pub times : ℕ → ℕ → Term
@@ -13,12 +14,12 @@ one c = record { signal = 0; coefficient = c }
 abbrev pub product : Form → Form → Form → Constraint
 product a b c = record { a = a; b = b; c = c }
 
--- "p = 7, input 1, output 2, A = B = signal 1, C = signal 2"
+-- a: output 2 is the square of input 1
 abbrev pub circuit-a : Circuit
 circuit-a =
     record { p = 7; n = 2; i = 1; o = 1; m = 1; constraints = product (times 1 1 ∷ []) (times 1 1 ∷ []) (times 1 2 ∷ []) ∷ [] }
 
--- "Input i, output o, third signal w, p = 7: w·(w - 1) = -i; 1·(w + 1 - o) = 0"
+-- b: signal 3 times itself less one is minus input 1; output 2 is signal 3 and one more
 abbrev pub circuit-b : Circuit
 circuit-b =
     record {
@@ -33,11 +34,11 @@ circuit-b =
           ∷ [];
     }
 
--- s·(s - 1) = 0
+-- signal s is 0 or 1
 abbrev pub binary : ℕ → ℕ → Constraint
 binary p s = product (times 1 s ∷ []) (one (p - 1) ∷ times 1 s ∷ []) []
 
--- "input 1, outputs 2 to 4: three constraints s·(s - 1) = 0, then 1·(-s1 + s2 + 2·s3 + 4·s4) = 0", over p
+-- input 1 and its three bits, outputs 2 to 4, over p
 abbrev pub digits : ℕ → Circuit
 digits p =
     record {
@@ -52,24 +53,24 @@ digits p =
           ∷ [];
     }
 
--- "p = 13"
+-- c
 abbrev pub circuit-c : Circuit
 circuit-c = digits 13
 
--- "c with p = 7"
+-- d
 abbrev pub circuit-d : Circuit
 circuit-d = digits 7
 
--- "p = 5, one output, s·s = 0"
+-- e: the square of the only signal is 0
 abbrev pub circuit-e : Circuit
 circuit-e = record { p = 5; n = 1; i = 0; o = 1; m = 1; constraints = product (times 1 1 ∷ []) (times 1 1 ∷ []) [] ∷ [] }
 
--- "p = 5, one output, s·s = s"
+-- f: the square of the only signal is the signal
 abbrev pub circuit-f : Circuit
 circuit-f =
     record { p = 5; n = 1; i = 0; o = 1; m = 1; constraints = product (times 1 1 ∷ []) (times 1 1 ∷ []) (times 1 1 ∷ []) ∷ [] }
 
--- "p = 7, input x, output y, third w: x·w = 1 - y; x·y = 0"
+-- g: input 1 times signal 3 is 1 less output 2; input 1 times output 2 is 0
 abbrev pub circuit-g : Circuit
 circuit-g =
     record {
@@ -84,6 +85,11 @@ circuit-g =
           ∷ [];
     }
 
--- a circuit of case j: p and n as given, one output and no constraint
+-- output 2 equals input 1, by a linear constraint: A is the constant and B the input, or the other way about
+abbrev pub copy : Bool → Circuit
+copy true = record { p = 7; n = 2; i = 1; o = 1; m = 1; constraints = product (one 1 ∷ []) (times 1 1 ∷ []) (times 1 2 ∷ []) ∷ [] }
+copy false = record { p = 7; n = 2; i = 1; o = 1; m = 1; constraints = product (times 1 1 ∷ []) (one 1 ∷ []) (times 1 2 ∷ []) ∷ [] }
+
+-- j: p and n as given, one output and no constraint
 abbrev pub bare : ℕ → ℕ → Circuit
 bare p n = record { p = p; n = n; i = 0; o = 1; m = 0; constraints = [] }

@@ -1,10 +1,10 @@
--- The bytes of circuits and pairs, for the table: the formats of document 01 written out.
+-- The bytes of circuits, pairs and steps, for the table: the formats of Rules 1.1, 1.3, 2.1 and 2.4 written out.
 use Prim.Native.Nat.{ℕ, _/_, _%_}
 use mathlib.Core.List.{List, [], _∷_, _++_}
 use lib.ListN.{length}
-use Rattle.circuit.specs.Circuit.{Term, Form, Constraint, Circuit}
+use Rattle.circuit.specs.Circuit.{Form, Constraint, Circuit}
 
--- "Little-endian throughout."
+-- Rule 1.1: low byte first
 unfoldable pub u16Bytes : ℕ → List ℕ
 u16Bytes x = x % 256 ∷ x / 256 ∷ []
 

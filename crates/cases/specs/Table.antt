@@ -1,34 +1,40 @@
--- The shared table of cases a to j: each row names a circuit's bytes, the call with what is handed in, and what document 01 says of it.
-use Prim.Native.Nat.{ℕ, _+_, _*_, _-_}
-use mathlib.Core.List.{List, [], _∷_, _++_, map}
+-- The shared table of cases a to j (Rule 7.4) and of false rules that look sound (Rule 7.5): each row names a circuit's bytes, the call with what is
+-- handed in, and what the rules say of it.
+use Prim.Native.Nat.{ℕ, zero, suc, _+_, _*_, _-_}
+use mathlib.Core.Bool.{true, false}
+use mathlib.Core.List.{List, [], _∷_, _++_}
 use lib.ListN.{length, take, replicate}
 use Rattle.circuit.specs.Circuit.{Circuit}
 use Rattle.circuit.specs.Reading.{Reading, whole, fault}
 use Rattle.circuit.specs.Reader.{readCircuit}
+use Rattle.circuit.specs.Answer.{Answer, refused, given}
+use Rattle.laws.specs.Problem.{problem}
 use Rattle.laws.specs.Step.{Step, Root, Sum, Zero, Product, Digits}
 use Rattle.laws.specs.Solver.{step}
 use Rattle.derivation.specs.Call as derivation
-use Rattle.derivation.specs.Call.{Fixed, Open}
+use Rattle.derivation.specs.Call.{Fixed, Open, lastOf}
 use Rattle.derivation.specs.Encoded.{encoded}
 use Rattle.pair.specs.Call as pair
 use Rattle.solver.specs.Call as solver
 use Rattle.cases.specs.Encode.{circuitBytes, pairBytes, oneStep}
-use Rattle.cases.specs.Circuits.{circuit-a, circuit-b, circuit-c, circuit-d, circuit-e, circuit-f, circuit-g, bare}
+use Rattle.cases.specs.Circuits.{circuit-a, circuit-b, circuit-c, circuit-d, circuit-e, circuit-f, circuit-g, copy, bare}
 
--- a call: reading the circuit, solving it, or judging a hand-in
+-- a call: reading the circuit, solving it, or judging a hand-in; or the bounds that a derivation reaches
 pub data Asked : Type 0 where
   reading : Asked
   solving : Asked
   judging : List ℕ → Asked
+  bounding : List ℕ → Asked
   pairing : List ℕ → Asked
 
--- what is said: a circuit's p, n, i, o and m and its file's length, or each call's answer; the solver's with the bytes that it leaves
+-- what is said: a circuit's p, n, i, o and m and its file's length, or each call's answer; the solver's with the bytes that it leaves; or bounds
 pub data Said : Type 0 where
   numbers : ℕ → ℕ → ℕ → ℕ → ℕ → ℕ → Said
   unread : ℕ → ℕ → Said
-  solves : solver.SolverResult → List ℕ → Said
-  judges : derivation.DerivationResult → List ℕ → Said
-  pairs : pair.PairResult → Said
+  solves : Answer solver.Solved → List ℕ → Said
+  judges : Answer derivation.Judgement → List ℕ → Said
+  bounds : List ℕ → Said
+  pairs : Answer ℕ → Said
 
 pub record Row : Type 0 where
   pub circuit : List ℕ
@@ -43,10 +49,21 @@ abbrev pub readingOf : Reading Circuit → Said
 readingOf (whole C size) = numbers (C .p) (C .n) (C .i) (C .o) (C .m) size
 readingOf (fault number place) = unread number place
 
+-- the bounds of the signals after s, `left` of them
+unfoldable pub boundsFrom : (ℕ → ℕ) → ℕ → ℕ → List ℕ
+boundsFrom bound s zero = []
+boundsFrom bound s (suc left) = bound (suc s) ∷ boundsFrom bound (suc s) left
+
+-- Rule 3.5: the bounds of signals 1 to n after the derivation's last step
+abbrev pub boundsOf : Reading Circuit → List ℕ → Said
+boundsOf (whole C size) d = bounds (boundsFrom (lastOf (problem C) d .bound) 0 (C .n))
+boundsOf (fault number place) d = unread number place
+
 abbrev pub answer : List ℕ → Asked → Said
 answer c reading = readingOf (readCircuit c)
 answer c solving = solves (solver.solverCall c (length buffer)) (solver.solverOutput c buffer)
 answer c (judging d) = judges (derivation.derivationCall c d (length buffer)) (derivation.derivationMarks c d buffer)
+answer c (bounding d) = boundsOf (readCircuit c) d
 answer c (pairing t) = pairs (pair.pairCall c t)
 
 abbrev pub found : Row → Said
@@ -59,14 +76,14 @@ solvedRow C xs count verdict =
       circuit = circuitBytes C;
       asked = solving;
       said =
-          solves (solver.solved count verdict (7 + 7 * length xs))
+          solves (given (record { judgement = record { count = count; verdict = verdict }; bytes = 7 + 7 * length xs }))
           (encoded xs ++ take (100 - (7 + 7 * length xs)) buffer);
     }
 
 -- a hand-in that is refused: nothing is written
 abbrev pub turnedRow : Circuit → List ℕ → ℕ → ℕ → Row
 turnedRow C d number place =
-    record { circuit = circuitBytes C; asked = judging d; said = judges (derivation.refused number place) buffer }
+    record { circuit = circuitBytes C; asked = judging d; said = judges (refused number place) buffer }
 
 -- a derivation that is accepted, with its marks
 abbrev pub judgedRow : Circuit → List Step → List ℕ → ℕ → derivation.Verdict → Row
@@ -74,57 +91,71 @@ judgedRow C xs marks count verdict =
     record {
       circuit = circuitBytes C;
       asked = judging (encoded xs);
-      said = judges (derivation.accepted count verdict) (marks ++ take (100 - length marks) buffer);
+      said = judges (given (record { count = count; verdict = verdict })) (marks ++ take (100 - length marks) buffer);
     }
+
+-- the bounds that the steps reach
+abbrev pub boundedRow : Circuit → List Step → List ℕ → Row
+boundedRow C xs said = record { circuit = circuitBytes C; asked = bounding (encoded xs); said = bounds said }
 
 -- a pair that is accepted at q
 abbrev pub pairRow : Circuit → ℕ → List ℕ → List ℕ → Row
 pairRow C q first second =
-    record { circuit = circuitBytes C; asked = pairing (pairBytes q first second); said = pairs (pair.accepted q) }
+    record { circuit = circuitBytes C; asked = pairing (pairBytes q first second); said = pairs (given q) }
 
 abbrev pub readRow : List ℕ → Said → Row
 readRow c says = record { circuit = c; asked = reading; said = says }
 
--- Case c's seven steps, as its listing has them
+-- the seven steps of case c's listing
 abbrev pub steps-c : List Step
 steps-c =
     step Root 2 1 0 ∷ step Root 3 2 0 ∷ step Root 4 3 0 ∷ step Sum 1 4 0
     ∷ step Digits 2 4 2 ∷ step Digits 3 4 2 ∷ step Digits 4 4 1 ∷ []
 
+-- the three bits of case d bounded by 1, then one step more
+abbrev pub after-bits : Step → List Step
+after-bits last = step Root 2 1 0 ∷ step Root 3 2 0 ∷ step Root 4 3 0 ∷ last ∷ []
+
 abbrev pub table : List Row
 table =
-    -- a. "one step, product 2 by constraint 1; fixed"
+    -- a: one product step marks the output
     solvedRow circuit-a (step Product 2 1 0 ∷ []) 2 Fixed
     ∷ judgedRow circuit-a (step Product 2 1 0 ∷ []) (1 ∷ 1 ∷ []) 2 Fixed
-    -- b. "open. The pair i = 0, o = 1, w = 0 against 0, 2, 1 is accepted at signal 2"
+    -- b: nothing to be had; two runs that differ at output 2
     ∷ solvedRow circuit-b [] 1 Open
     ∷ pairRow circuit-b 2 (0 ∷ 1 ∷ 0 ∷ []) (0 ∷ 2 ∷ 1 ∷ [])
-    -- c. "The file has 113 bytes"; the listing's numbers, steps, verdict and count; "`refused 6 112` for c cut to 112 bytes"
+    -- c: the file's length; the listing's numbers, steps, bounds, verdict and count; the last byte cut off
     ∷ readRow (circuitBytes circuit-c) (numbers 13 4 1 3 4 113)
     ∷ solvedRow circuit-c steps-c 4 Fixed
     ∷ judgedRow circuit-c steps-c (1 ∷ 1 ∷ 1 ∷ 1 ∷ []) 4 Fixed
+    ∷ boundedRow circuit-c steps-c (7 ∷ 1 ∷ 1 ∷ 1 ∷ [])
     ∷ readRow (take 112 (circuitBytes circuit-c)) (unread 6 112)
-    -- d. "open .. Input 0 with outputs 0, 0, 0 against 1, 1, 1 is an accepted pair"
+    -- d: 1 + 2 + 4 is p itself; the outputs stay open, and two runs say why
     ∷ solvedRow circuit-d (step Root 2 1 0 ∷ step Root 3 2 0 ∷ step Root 4 3 0 ∷ []) 1 Open
     ∷ pairRow circuit-d 2 (0 ∷ 0 ∷ 0 ∷ 0 ∷ []) (0 ∷ 1 ∷ 1 ∷ 1 ∷ [])
-    -- .. so the digits step for 2, whose only fault is a sum equal to p, must be refused
-    ∷ turnedRow circuit-d (encoded (step Root 2 1 0 ∷ step Root 3 2 0 ∷ step Root 4 3 0 ∷ step Digits 2 4 2 ∷ [])) 17 4
-    -- e. "root, then zero; fixed"
+    -- .. so the digits step for 2 and the sum step for 1, whose only fault is a sum equal to p, are refused
+    ∷ turnedRow circuit-d (encoded (after-bits (step Digits 2 4 2))) 17 4
+    ∷ turnedRow circuit-d (encoded (after-bits (step Sum 1 4 0))) 17 4
+    -- e: bound 0 by a double root, then marked by it
     ∷ solvedRow circuit-e (step Root 1 1 0 ∷ step Zero 1 0 0 ∷ []) 1 Fixed
-    -- f. "open; 0 against 1 is an accepted pair"
+    -- f: nothing to be had; two runs
     ∷ solvedRow circuit-f [] 0 Open
     ∷ pairRow circuit-f 1 (0 ∷ []) (1 ∷ [])
-    -- .. so the product step for 1, whose only fault is that 1 stands in A and B too, must be refused
+    -- .. so the product step for 1, whose only fault is that 1 stands in A and B too, is refused
     ∷ turnedRow circuit-f (oneStep 4 1 1 0) 17 1
-    -- g. "open, though y is settled"
+    -- g: open, though the output has one value for each input
     ∷ solvedRow circuit-g [] 1 Open
-    -- h. "c with one byte more: refusal 10 at 113"
+    -- h: one byte after c's last constraint
     ∷ readRow (circuitBytes circuit-c ++ 0 ∷ []) (unread 10 113)
-    -- i. "a with product 2 of kind 6: 15; target 0: 16; c with kind 4 on constraint 4: 17"
+    -- i: a step of kind 6, one with target 0, a product step by c's sum
     ∷ turnedRow circuit-a (oneStep 6 2 1 0) 15 1
     ∷ turnedRow circuit-a (oneStep 4 0 1 0) 16 1
     ∷ turnedRow circuit-c (oneStep 4 2 4 0) 17 1
-    -- j. "p = 2, 9 or 2,147,483,645: refusal 4. p = 2,147,483,647 passes. n = 257: refusal 5"
+    -- .. and product steps whose only fault is that the constraint is linear, by A and by B; digits marks the output
+    ∷ turnedRow (copy true) (oneStep 4 2 1 0) 17 1
+    ∷ turnedRow (copy false) (oneStep 4 2 1 0) 17 1
+    ∷ solvedRow (copy true) (step Digits 2 1 2 ∷ []) 2 Fixed
+    -- j: three numbers that aren't odd primes in range, the largest that is, one signal too many
     ∷ readRow (circuitBytes (bare 2 1)) (unread 4 0)
     ∷ readRow (circuitBytes (bare 9 1)) (unread 4 0)
     ∷ readRow (circuitBytes (bare 2147483645 1)) (unread 4 0)

@@ -1,1 +1,1 @@
-// The small circuits of document 01, cases a to j: a table in specs/ and one theorem in proofs/; no code.
+// The small circuits of cases a to j (Rule 7.4): a table in specs/ and one theorem in proofs/; no code.

@@ -1,20 +1,22 @@
--- The searches of the marks phase: from where they stand, what is left of them is what they have still to find.
+-- The searches of the marks phase as the solver's: what one target, one constraint and one reference find.
 use Prim.Native.Nat.{ℕ, zero, suc, _+_, _-_, _≤_, _<_}
 use mathlib.Core.Path.{_≡_, refl, sym, ap, _∙_}
-use mathlib.Core.Bool.{Bool, true, false, cond}
+use mathlib.Core.Bool.{Bool, true, false}
 use mathlib.Core.Option.{Option, none, some}
 use native.Mathlib.Numerals.{add-one}
 use native.Mathlib.Omega.{arith}
-use borrow.Author.Tests.{eq-eqb, ne-eqb}
-use Rattle.circuit.specs.Circuit.{Circuit, constraintAt}
-use Rattle.laws.specs.Standing.{Standing}
+use native.Mathlib.Decide.{decLe}
+use lib.Dec.{leb}
+use borrow.Author.Tests.{le-leb, eq-eqb, ne-eqb}
+use Rattle.laws.specs.Problem.{Problem}
+use Rattle.laws.specs.Standing.{Standing, Change, atMost, fixed, idle, marks}
 use Rattle.laws.specs.Rules.{productMet, digitsMet, zeroMet}
-use Rattle.laws.specs.Step.{Step, Zero, Product, Digits, met}
-use Rattle.laws.specs.Solver.{step, pick, firstReference, firstDigits, firstProduct, firstFor, firstTarget, firstMark}
-use Rattle.solver.specs.Marks.{found}
-
-one-less : (m k : ℕ) → k < m → m - k ≡ suc (m - (k + 1))
-one-less m k h = omega arith
+use Rattle.laws.specs.Step.{Root, Sum, Zero, Product, Digits, kinds, Step, within, inRange, change, adds}
+use Rattle.laws.specs.Solver.{step, addsBy, pick, try, tryReferences, tryKind, tryKinds, firstAdding}
+use Rattle.laws.proofs.Sum.{and-left, and-right, and-both, true-or-false, false-by}
+use Rattle.laws.proofs.Turns.{adds-says}
+use Rattle.laws.proofs.Search.{Passed, passed-start, passed-on, passed-hit, passed-end, kind-quiet, kinds-quiet, other-sort, tries-rule}
+use Rattle.solver.specs.Choice.{found}
 
 pub found-none : (x : Step) (later : Option Step) → later ≡ found 0 x later
 unfolding found
@@ -24,230 +26,176 @@ pub found-some : (k : ℕ) (x : Step) (later : Option Step) → 1 ≤ k → some
 unfolding found
 found-some k x later h = sym (rw (ne-eqb k 0 (λ (z : k ≡ 0). omega arith)))
 
-module _ (C : Circuit) (S : Standing) (t : ℕ) where
-  -- Product
+-- what can be passed over up to j
+pub passed-over : {f : ℕ → Option Step → Option Step} {m k : ℕ} → Passed f m k → (j : ℕ) → k ≤ j → j ≤ m
+    → ((u : ℕ) → k < u → u ≤ j → (later : Option Step) → f u later ≡ later) → Passed f m j
+passed-over {f} {m} {k} F zero a b h = let z : k ≡ 0 = omega arith in rw z at F
+passed-over {f} {m} {k} F (suc j) a b h = go (λ l. passed-over F j l (omega arith) (λ u x y. h u x (omega arith))) (decLe k j)
+  where
+    go : (k ≤ j → Passed f m j) → Dec (k ≤ j) → Passed f m (suc j)
+    go rec (yes l) =
+        rw (← (add-one j)) (passed-on (rec l) (omega arith) (rw (add-one j) (h (suc j) (omega arith) (omega arith))))
+    go rec (no x) = let z : k ≡ suc j = omega arith in rw z at F
 
-  -- constraints up to k have been passed
-  pub record ProductFrom (m k : ℕ) : Type 0 where
-    pub same : (later : Option Step) → firstProduct C S t 0 m later ≡ firstProduct C S t k (m - k) later
+pub within-holds : (n s : ℕ) → 1 ≤ s → s ≤ n → within n s ≡ true
+unfolding within
+within-holds n s a b = and-both (leb 1 s) (leb s n) (le-leb 1 s a) (le-leb s n b)
 
-  pub product-start : (m : ℕ) → ProductFrom m 0
-  product-start m = let all : m ≡ m - 0 = omega arith in record { same = λ later. ap (λ (j : ℕ). firstProduct C S t 0 j later) all }
+fixed-idle : (d : Change) (S : Standing) (t : ℕ) → marks d ≡ true → idle d S t ≡ false → S .marked t ≡ false
+fixed-idle (atMost x) S t e i = true-or-false false e refl
+fixed-idle fixed S t e i = i
 
-  module _ (m k : ℕ) (F : ProductFrom m k) where
-    product-turn : k < m → (later : Option Step) → firstProduct C S t 0 m later
-        ≡ pick (productMet (constraintAt C (k + 1)) S t) (step Product t (k + 1) 0) (firstProduct C S t (k + 1) (m - (k + 1)) later)
-    unfolding firstProduct met
-    product-turn h later = F .same later ∙ ap (λ (j : ℕ). firstProduct C S t k j later) (one-less m k h) ∙ rw (← (add-one k)) refl
+module _ (P : Problem) (S : Standing) (t : ℕ) where
+  -- a target that is marked
+  pub marked-quiet : S .marked t ≡ true → (later : Option Step) → tryKinds marks P S kinds t later ≡ later
+  unfolding addsBy
+  marked-quiet m =
+      kinds-quiet marks P S t kinds
+      (λ q k r.
+      false-by _
+      (λ e.
+      let a = and-left (adds P S (step q t k r)) _ e in
+      true-or-false _ m
+      (fixed-idle (change P S (step q t k r)) S t (and-right (adds P S (step q t k r)) _ e) (adds-says P S (step q t k r) a .1))))
 
-    pub product-on : k < m → productMet (constraintAt C (k + 1)) S t ≡ false → ProductFrom m (k + 1)
-    product-on h e =
-        record {
-          same = λ later.
-              product-turn h later
-              ∙ ap (λ (b : Bool). pick b (step Product t (k + 1) 0) (firstProduct C S t (k + 1) (m - (k + 1)) later)) e;
-        }
+  module _ (low : 1 ≤ t) (high : t ≤ P .n) (free : S .marked t ≡ false) where
+    zero-range : inRange P (step Zero t 0 0) ≡ true
+    unfolding inRange
+    zero-range = and-both (within (P .n) t) _ (within-holds (P .n) t low high) refl
 
-    pub product-hit : k < m → productMet (constraintAt C (k + 1)) S t ≡ true → (later : Option Step)
-        → firstProduct C S t 0 m later ≡ found (k + 1) (step Product t (k + 1) 0) later
-    product-hit h e later =
-        product-turn h later
-        ∙ ap (λ (b : Bool). pick b (step Product t (k + 1) 0) (firstProduct C S t (k + 1) (m - (k + 1)) later)) e
-        ∙ found-some (k + 1) (step Product t (k + 1) 0) later (omega arith)
+    zero-try : (later : Option Step) → tryKind marks P S t Zero later ≡ pick (zeroMet (S .bound) t) (step Zero t 0 0) later
+    unfolding tryKind tryReferences
+    zero-try later = tries-rule marks P S t Zero 0 0 zero-range refl free later
 
-    pub product-end : m ≤ k → (later : Option Step) → firstProduct C S t 0 m later ≡ found 0 (step Product t 0 0) later
-    unfolding firstProduct
-    product-end h later =
-        let none-left : m - k ≡ 0 = omega arith in
-        F .same later ∙ ap (λ (j : ℕ). firstProduct C S t k j later) none-left ∙ found-none (step Product t 0 0) later
+    -- a target that isn't marked: zero, then product, then digits
+    target-turn : (later : Option Step) → tryKinds marks P S kinds t later
+        ≡ pick (zeroMet (S .bound) t) (step Zero t 0 0) (tryKind marks P S t Product (tryKind marks P S t Digits later))
+    unfolding tryKinds
+    target-turn later =
+        kind-quiet marks P S t Root (other-sort marks P S t Root (λ k r. refl)) _
+        ∙ kind-quiet marks P S t Sum (other-sort marks P S t Sum (λ k r. refl)) _
+        ∙ zero-try _
 
-  -- Digits
+    pub target-zero : S .bound t ≡ 0 → (later : Option Step) → tryKinds marks P S kinds t later ≡ some (step Zero t 0 0)
+    unfolding zeroMet
+    target-zero e later =
+        target-turn later
+        ∙ ap (λ (b : Bool). pick b (step Zero t 0 0) (tryKind marks P S t Product (tryKind marks P S t Digits later))) (eq-eqb (S .bound t) 0 e)
 
-  pub record DigitsFrom (m k : ℕ) : Type 0 where
-    pub same : (later : Option Step) → firstDigits C S t 0 m later ≡ firstDigits C S t k (m - k) later
+    pub target-later : (S .bound t ≡ 0 → ⊥) → (later : Option Step)
+        → tryKinds marks P S kinds t later ≡ tryKind marks P S t Product (tryKind marks P S t Digits later)
+    unfolding zeroMet
+    target-later d later =
+        target-turn later
+        ∙ ap (λ (b : Bool). pick b (step Zero t 0 0) (tryKind marks P S t Product (tryKind marks P S t Digits later))) (ne-eqb (S .bound t) 0 d)
 
-  -- of constraint k the references up to r have been passed
-  pub record ReferenceFrom (m k r : ℕ) : Type 0 where
-    pub same : (later : Option Step)
-        → firstDigits C S t 0 m later ≡ firstReference C S t k r (C .n - r) (firstDigits C S t k (m - k) later)
+    module _ (k : ℕ) (first : 1 ≤ k) (last : k ≤ P .m) where
+      product-range : inRange P (step Product t k 0) ≡ true
+      unfolding inRange
+      product-range =
+          and-both (within (P .n) t) _ (within-holds (P .n) t low high) (and-both (within (P .m) k) _ (within-holds (P .m) k first last) refl)
 
-  pub digits-start : (m : ℕ) → DigitsFrom m 0
-  digits-start m = let all : m ≡ m - 0 = omega arith in record { same = λ later. ap (λ (j : ℕ). firstDigits C S t 0 j later) all }
+      product-try : (later : Option Step) → tryReferences marks P S t Product k later
+          ≡ pick (productMet (P .constraint k) (S .marked) t) (step Product t k 0) later
+      unfolding tryReferences
+      product-try later = tries-rule marks P S t Product k 0 product-range refl free later
 
-  -- no reference is met
-  none-met : (k r j : ℕ) (later : Option Step)
-      → ((u : ℕ) → 1 ≤ u → u ≤ r + j → digitsMet (C .p) (C .n) (constraintAt C k) S t u ≡ false) → firstReference C S t k r j later ≡ later
-  unfolding firstReference met
-  none-met k r zero later h = refl
-  none-met k r (suc j) later h =
-      rw (h (suc r) (omega arith) (omega arith)) (none-met k (suc r) j later (λ u a b. h u a (omega arith)))
+      pub product-unmet : productMet (P .constraint k) (S .marked) t ≡ false → (later : Option Step) → tryReferences marks P S t Product k later ≡ later
+      product-unmet e later = product-try later ∙ ap (λ (b : Bool). pick b (step Product t k 0) later) e
 
-  module _ (m k : ℕ) (F : DigitsFrom m k) where
-    pub digits-enter : k < m → ReferenceFrom m (k + 1) 0
-    unfolding firstDigits
-    digits-enter h =
-        let all : C .n ≡ C .n - 0 = omega arith in
-        record {
-          same = λ later.
-              F .same later
-              ∙ ap (λ (j : ℕ). firstDigits C S t k j later) (one-less m k h)
-              ∙ ap (λ (j : ℕ). firstReference C S t (suc k) 0 j (firstDigits C S t (suc k) (m - (k + 1)) later)) all
-              ∙ rw (← (add-one k)) refl;
-        }
+      pub product-is : productMet (P .constraint k) (S .marked) t ≡ true → (later : Option Step)
+          → tryReferences marks P S t Product k later ≡ some (step Product t k 0)
+      product-is e later = product-try later ∙ ap (λ (b : Bool). pick b (step Product t k 0) later) e
 
-    pub digits-on : k < m → ((u : ℕ) → 1 ≤ u → u ≤ C .n → digitsMet (C .p) (C .n) (constraintAt C (k + 1)) S t u ≡ false)
-        → DigitsFrom m (k + 1)
-    digits-on h f =
-        record {
-          same = λ later.
-              digits-enter h .same later
-              ∙ none-met (k + 1) 0 (C .n - 0) (firstDigits C S t (k + 1) (m - (k + 1)) later) (λ u a b. f u a (omega arith));
-        }
+      module _ (r : ℕ) (least : 1 ≤ r) (most : r ≤ P .n) where
+        digits-range : inRange P (step Digits t k r) ≡ true
+        unfolding inRange
+        digits-range =
+            and-both (within (P .n) t) _ (within-holds (P .n) t low high)
+            (and-both (within (P .m) k) _ (within-holds (P .m) k first last) (within-holds (P .n) r least most))
 
-    pub digits-end : m ≤ k → (r : ℕ) (later : Option Step) → firstDigits C S t 0 m later ≡ found 0 (step Digits t 0 r) later
-    unfolding firstDigits
-    digits-end h r later =
-        let none-left : m - k ≡ 0 = omega arith in
-        F .same later ∙ ap (λ (j : ℕ). firstDigits C S t k j later) none-left ∙ found-none (step Digits t 0 r) later
+        digits-try : (later : Option Step) → try marks P S t Digits k r later
+            ≡ pick (digitsMet (P .p) (P .n) (P .constraint k) (S .bound) (S .marked) t r) (step Digits t k r) later
+        digits-try later = tries-rule marks P S t Digits k r digits-range refl free later
 
-  module _ (m k r : ℕ) (F : ReferenceFrom m k r) where
-    reference-turn : r < C .n → (later : Option Step) → firstDigits C S t 0 m later
-        ≡ pick (digitsMet (C .p) (C .n) (constraintAt C k) S t (r + 1)) (step Digits t k (r + 1))
-        (firstReference C S t k (r + 1) (C .n - (r + 1)) (firstDigits C S t k (m - k) later))
-    unfolding firstReference met
-    reference-turn h later =
-        F .same later
-        ∙ ap (λ (j : ℕ). firstReference C S t k r j (firstDigits C S t k (m - k) later)) (one-less (C .n) r h)
-        ∙ rw (← (add-one r)) refl
+        pub digits-unmet : digitsMet (P .p) (P .n) (P .constraint k) (S .bound) (S .marked) t r ≡ false → (later : Option Step)
+            → try marks P S t Digits k r later ≡ later
+        digits-unmet e later = digits-try later ∙ ap (λ (b : Bool). pick b (step Digits t k r) later) e
 
-    pub reference-on : r < C .n → digitsMet (C .p) (C .n) (constraintAt C k) S t (r + 1) ≡ false → ReferenceFrom m k (r + 1)
-    reference-on h e =
-        record {
-          same = λ later.
-              reference-turn h later
-              ∙ ap
-              (λ (b : Bool).
-              pick b (step Digits t k (r + 1)) (firstReference C S t k (r + 1) (C .n - (r + 1)) (firstDigits C S t k (m - k) later)))
-              e;
-        }
+        pub digits-is : digitsMet (P .p) (P .n) (P .constraint k) (S .bound) (S .marked) t r ≡ true → (later : Option Step)
+            → try marks P S t Digits k r later ≡ some (step Digits t k r)
+        digits-is e later = digits-try later ∙ ap (λ (b : Bool). pick b (step Digits t k r) later) e
 
-    pub reference-hit : 1 ≤ k → r < C .n → digitsMet (C .p) (C .n) (constraintAt C k) S t (r + 1) ≡ true → (later : Option Step)
-        → firstDigits C S t 0 m later ≡ found k (step Digits t k (r + 1)) later
-    reference-hit l h e later =
-        reference-turn h later
-        ∙ ap
-        (λ (b : Bool).
-        pick b (step Digits t k (r + 1)) (firstReference C S t k (r + 1) (C .n - (r + 1)) (firstDigits C S t k (m - k) later)))
-        e
-        ∙ found-some k (step Digits t k (r + 1)) later l
+-- Constraints and references passed
 
-    pub reference-end : C .n ≤ r → DigitsFrom m k
-    unfolding firstReference
-    reference-end h =
-        let none-left : C .n - r ≡ 0 = omega arith in
-        record {
-          same = λ later.
-              F .same later ∙ ap (λ (j : ℕ). firstReference C S t k r j (firstDigits C S t k (m - k) later)) none-left;
-        }
+module _ (P : Problem) (S : Standing) (t : ℕ) where
+  -- constraints up to k give no product step
+  abbrev pub ProductFrom : ℕ → Type 0
+  ProductFrom k = Passed (tryReferences marks P S t Product) (P .m) k
 
--- Targets
+  pub product-hit : {k : ℕ} → ProductFrom k → k < P .m
+      → ((later : Option Step) → tryReferences marks P S t Product (k + 1) later ≡ some (step Product t (k + 1) 0))
+      → (later : Option Step) → tryKind marks P S t Product later ≡ found (k + 1) (step Product t (k + 1) 0) later
+  unfolding tryKind
+  product-hit {k} F h e later =
+      passed-hit F h (step Product t (k + 1) 0) e later ∙ found-some (k + 1) (step Product t (k + 1) 0) later (omega arith)
 
-module _ (C : Circuit) (S : Standing) where
-  -- targets up to t have been passed
-  pub record TargetFrom (t : ℕ) : Type 0 where
-    pub same : firstMark C S ≡ firstTarget C S t (C .n - t)
+  pub product-end : {k : ℕ} → ProductFrom k → P .m ≤ k → (later : Option Step) → tryKind marks P S t Product later ≡ found 0 (step Product t 0 0) later
+  unfolding tryKind
+  product-end F h later = passed-end F h later ∙ found-none (step Product t 0 0) later
 
-  pub target-start : TargetFrom 0
-  unfolding firstMark
-  target-start = let all : C .n ≡ C .n - 0 = omega arith in record { same = ap (firstTarget C S 0) all }
+  -- constraints up to k give no digits step
+  abbrev pub DigitsFrom : ℕ → Type 0
+  DigitsFrom k = Passed (tryReferences marks P S t Digits) (P .m) k
 
-  pub target-end : (t : ℕ) → TargetFrom t → C .n ≤ t → firstMark C S ≡ none
-  unfolding firstTarget
-  target-end t F h = let none-left : C .n - t ≡ 0 = omega arith in F .same ∙ ap (firstTarget C S t) none-left
+  -- of constraint k references up to r give none
+  abbrev pub ReferenceFrom : ℕ → ℕ → Type 0
+  ReferenceFrom k r = Passed (try marks P S t Digits k) (P .n) r
 
-  no-product : (t k j : ℕ) (later : Option Step)
-      → ((i : ℕ) → k < i → i ≤ k + j → productMet (constraintAt C i) S t ≡ false) → firstProduct C S t k j later ≡ later
-  unfolding firstProduct met
-  no-product t k zero later h = refl
-  no-product t k (suc j) later h =
-      rw (h (suc k) (omega arith) (omega arith)) (no-product t (suc k) j later (λ i a b. h i (omega arith) (omega arith)))
+  pub references-end : (k : ℕ) {r : ℕ} → ReferenceFrom k r → P .n ≤ r → (later : Option Step) → tryReferences marks P S t Digits k later ≡ later
+  unfolding tryReferences
+  references-end k F h later = passed-end F h later
 
-  no-digits : (t k j : ℕ) (later : Option Step)
-      → ((i : ℕ) → k < i → i ≤ k + j → (u : ℕ) → 1 ≤ u → u ≤ C .n → digitsMet (C .p) (C .n) (constraintAt C i) S t u ≡ false)
-      → firstDigits C S t k j later ≡ later
-  unfolding firstDigits
-  no-digits t k zero later h = refl
-  no-digits t k (suc j) later h =
-      none-met C S t (suc k) 0 (C .n) (firstDigits C S t (suc k) j later) (λ u a b. h (suc k) (omega arith) (omega arith) u a (omega arith))
-      ∙ no-digits t (suc k) j later (λ i a b. h i (omega arith) (omega arith))
+  pub references-none : (k : ℕ) → ((r : ℕ) → 1 ≤ r → r ≤ P .n → (later : Option Step) → try marks P S t Digits k r later ≡ later)
+      → (later : Option Step) → tryReferences marks P S t Digits k later ≡ later
+  references-none k h =
+      references-end k
+      (passed-over (passed-start (try marks P S t Digits k) (P .n)) (P .n) (omega arith) (omega arith) (λ u a b. h u (omega arith) b)) (omega arith)
 
-  module _ (t : ℕ) (F : TargetFrom t) (more : t < C .n) where
-    rest : Option Step
-    rest = firstTarget C S (t + 1) (C .n - (t + 1))
+  -- the reference q is the first after r
+  pub references-hit : (k : ℕ) {r : ℕ} → ReferenceFrom k r → (q : ℕ) → r < q → q ≤ P .n
+      → ((u : ℕ) → r < u → u < q → (later : Option Step) → try marks P S t Digits k u later ≡ later)
+      → ((later : Option Step) → try marks P S t Digits k q later ≡ some (step Digits t k q))
+      → (later : Option Step) → tryReferences marks P S t Digits k later ≡ some (step Digits t k q)
+  unfolding tryReferences
+  references-hit k {r} F q a b gap e later =
+      let before : q ≡ (q - 1) + 1 = omega arith in
+      passed-hit (passed-over F (q - 1) (omega arith) (omega arith) (λ u x y. gap u x (omega arith))) (omega arith) (step Digits t k q)
+      (λ l. ap (λ (j : ℕ). try marks P S t Digits k j l) (sym before) ∙ e l) later
 
-    turn : firstMark C S ≡ cond (S .marked (t + 1)) rest (firstFor C S (t + 1) rest)
-    unfolding firstTarget rest
-    turn = F .same ∙ ap (firstTarget C S t) (one-less (C .n) t more) ∙ rw (← (add-one t)) refl
+  pub digits-hit : {k r : ℕ} → DigitsFrom k → k < P .m
+      → ((later : Option Step) → tryReferences marks P S t Digits (k + 1) later ≡ some (step Digits t (k + 1) r))
+      → (later : Option Step) → tryKind marks P S t Digits later ≡ found (k + 1) (step Digits t (k + 1) r) later
+  unfolding tryKind
+  digits-hit {k} {r} F h e later =
+      passed-hit F h (step Digits t (k + 1) r) e later ∙ found-some (k + 1) (step Digits t (k + 1) r) later (omega arith)
 
-    pub target-marked : S .marked (t + 1) ≡ true → TargetFrom (t + 1)
-    unfolding rest
-    target-marked e = record { same = turn ∙ ap (λ (b : Bool). cond b rest (firstFor C S (t + 1) rest)) e }
+  pub digits-end : {k : ℕ} → DigitsFrom k → P .m ≤ k → (r : ℕ) (later : Option Step)
+      → tryKind marks P S t Digits later ≡ found 0 (step Digits t 0 r) later
+  unfolding tryKind
+  digits-end F h r later = passed-end F h later ∙ found-none (step Digits t 0 r) later
 
-    module _ (unmarked : S .marked (t + 1) ≡ false) where
-      unmarked-turn : firstMark C S
-          ≡ pick (zeroMet S (t + 1)) (step Zero (t + 1) 0 0) (firstProduct C S (t + 1) 0 (C .m) (firstDigits C S (t + 1) 0 (C .m) rest))
-      unfolding firstFor met
-      unmarked-turn = turn ∙ ap (λ (b : Bool). cond b rest (firstFor C S (t + 1) rest)) unmarked
+-- Targets passed
 
-      pub target-zero : S .bound (t + 1) ≡ 0 → some (step Zero (t + 1) 0 0) ≡ firstMark C S
-      unfolding zeroMet
-      target-zero e =
-          sym
-          (unmarked-turn
-          ∙ ap
-          (λ (b : Bool). pick b (step Zero (t + 1) 0 0) (firstProduct C S (t + 1) 0 (C .m) (firstDigits C S (t + 1) 0 (C .m) rest)))
-          (eq-eqb (S .bound (t + 1)) 0 e))
+module _ (P : Problem) (S : Standing) where
+  abbrev pub TargetFrom : ℕ → Type 0
+  TargetFrom t = Passed (tryKinds marks P S kinds) (P .n) t
 
-      module _ (some-bound : S .bound (t + 1) ≡ 0 → ⊥) where
-        later-turn : firstMark C S ≡ firstProduct C S (t + 1) 0 (C .m) (firstDigits C S (t + 1) 0 (C .m) rest)
-        unfolding zeroMet
-        later-turn =
-            unmarked-turn
-            ∙ ap
-            (λ (b : Bool). pick b (step Zero (t + 1) 0 0) (firstProduct C S (t + 1) 0 (C .m) (firstDigits C S (t + 1) 0 (C .m) rest)))
-            (ne-eqb (S .bound (t + 1)) 0 some-bound)
+  pub target-end : {t : ℕ} → TargetFrom t → P .n ≤ t → none ≡ firstAdding marks P S
+  unfolding firstAdding
+  target-end F h = sym (passed-end F h none)
 
-        -- below every floor
-        pub target-below : ((k : ℕ) → 1 ≤ k → k ≤ C .m → productMet (constraintAt C k) S (t + 1) ≡ false)
-            → ((k : ℕ) → 1 ≤ k → k ≤ C .m → (u : ℕ) → 1 ≤ u → u ≤ C .n → digitsMet (C .p) (C .n) (constraintAt C k) S (t + 1) u ≡ false)
-            → TargetFrom (t + 1)
-        unfolding rest
-        target-below f g =
-            record {
-              same =
-                  later-turn
-                  ∙ no-product (t + 1) 0 (C .m) (firstDigits C S (t + 1) 0 (C .m) rest) (λ i a b. f i a (omega arith))
-                  ∙ no-digits (t + 1) 0 (C .m) rest (λ i a b. g i a (omega arith));
-            }
-
-        module _ (k : ℕ)
-            (products : (later : Option Step) → firstProduct C S (t + 1) 0 (C .m) later ≡ found k (step Product (t + 1) k 0) later) where
-          pub target-product : (k ≡ 0 → ⊥) → some (step Product (t + 1) k 0) ≡ firstMark C S
-          target-product d =
-              sym (later-turn ∙ products (firstDigits C S (t + 1) 0 (C .m) rest) ∙ sym (found-some k (step Product (t + 1) k 0) _ (omega arith)))
-
-          module _ (none-such : k ≡ 0) (j r : ℕ)
-              (digits : (later : Option Step) → firstDigits C S (t + 1) 0 (C .m) later ≡ found j (step Digits (t + 1) j r) later) where
-            digits-turn : firstMark C S ≡ found j (step Digits (t + 1) j r) rest
-            digits-turn =
-                later-turn
-                ∙ products (firstDigits C S (t + 1) 0 (C .m) rest)
-                ∙ rw none-such (sym (found-none (step Product (t + 1) 0 0) (firstDigits C S (t + 1) 0 (C .m) rest)))
-                ∙ digits rest
-
-            pub target-digits : (j ≡ 0 → ⊥) → some (step Digits (t + 1) j r) ≡ firstMark C S
-            target-digits d = found-some j (step Digits (t + 1) j r) rest (omega arith) ∙ sym digits-turn
-
-            pub target-on : j ≡ 0 → TargetFrom (t + 1)
-            unfolding rest
-            target-on z = record { same = digits-turn ∙ rw z (sym (found-none (step Digits (t + 1) 0 r) rest)) }
+  pub target-hit : {t : ℕ} → TargetFrom t → t < P .n → (x : Step) → ((later : Option Step) → tryKinds marks P S kinds (t + 1) later ≡ some x)
+      → some x ≡ firstAdding marks P S
+  unfolding firstAdding
+  target-hit F h x e = sym (passed-hit F h x e none)

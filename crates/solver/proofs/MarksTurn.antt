@@ -1,164 +1,222 @@
 -- The turns of the marks phase: what the loop knows, and what a turn does with it.
-use Prim.Native.Nat.{ℕ, _+_, _*_, _-_, _≤_, _<_}
+use Prim.Native.Nat.{ℕ, _+_, _*_, _≤_, _<_}
 use mathlib.Core.Path.{_≡_, refl, sym, ap, _∙_}
-use mathlib.Core.Bool.{Bool, true}
+use mathlib.Core.Bool.{Bool, true, false, cond}
 use mathlib.Core.List.{List, [], _∷_, _++_}
-use mathlib.Core.Option.{some}
+use mathlib.Core.Option.{none, some}
 use native.Mathlib.Omega.{arith}
-use lib.Dec.{eqb}
-use lib.ListN.{length, set, replicate, length-append}
+use lib.ListN.{length, length-append}
 use borrow.Author.Tests.{eqb-true}
-use Rattle.circuit.specs.Circuit.{Circuit, WellFormed}
-use Rattle.laws.specs.Standing.{Standing, start}
-use Rattle.laws.specs.Step.{Kind, Step, within, fields, after, replay}
-use Rattle.laws.specs.Solver.{step, kindNumber, firstMark, boundSteps, markSteps}
-use Rattle.laws.proofs.Sum.{and-left, and-right}
-use Rattle.laws.proofs.Turns.{within-says, target-within, fields-fit}
-use Rattle.laws.proofs.Marks.{Marker, by-zero, by-product, by-digits, Marking, marking-after, first-mark-some}
-use Rattle.rules.specs.View.{viewOf}
-use Rattle.rules.specs.Promise.{kindOf}
-use Rattle.rules.proofs.ViewLaws.{view-mark}
-use Rattle.derivation.specs.Encoded.{stepBytes, stepsBytes}
-use Rattle.derivation.specs.Inner.{circuitOf}
-use Rattle.rules.specs.declared.standing.Kind as K
-use Rattle.solver.specs.Bytes.{listed, stored}
-use Rattle.solver.specs.Marks.{Floors, choiceOf, StandingOf, Marked}
-use Rattle.solver.specs.Search.{Forgotten}
-use Rattle.solver.specs.declared.marks.Choice.{Choice}
-use Rattle.solver.specs.declared.marks.Choice.the-variants.{Nothing, Taken}
-use Rattle.solver.proofs.Written.{nothing-stored, written-next, step-listed}
+use Rattle.laws.specs.Problem.{Problem, Names, nothing, aConstraint, Subject, subject, given}
+use Rattle.laws.specs.Standing as laws
+use Rattle.laws.specs.Standing.{Change, atMost, fixed, apply, add, mark}
+use Rattle.laws.specs.Step as step
+use Rattle.laws.specs.Step.{Kind, Root, Sum, Zero, Product, Digits, Step, namesOf, refers, within, inside, named, referred}
+use Rattle.laws.specs.Step.{constraints, references, inRange, fits, met, change, after, replay, rule, ruleOf, adds}
+use Rattle.laws.specs.Solver.{addsBy, firstAdding}
+use Rattle.laws.proofs.Sum.{and-left, and-right, true-or-false}
+use Rattle.laws.proofs.Turns.{within-says, adds-says, adds-target}
+use Rattle.laws.proofs.First.{first-some}
+use Rattle.rules.specs.View.{boundIn, markIn, viewOf}
+use Rattle.rules.specs.Promise.{view, subjectIn, Gives, kindOf}
+use Rattle.rules.specs.declared.standing.Standing as rules
+use Rattle.rules.specs.declared.standing.Outcome as outcome
+use Rattle.rules.specs.declared.standing.Kind as kind
+use Rattle.derivation.specs.Steps.{headSize, stepSize}
+use Rattle.derivation.specs.Encoded.{stepBytes, stepsBytes, stored}
+use Rattle.derivation.proofs.Written.{nothing-stored, written-next}
+use Rattle.circuit.specs.Offsets.{partOf}
+use Rattle.circuit.specs.Call.{circuitOf}
+use Rattle.solver.specs.Rows.{at, Links, Walkable, Forgotten}
+use Rattle.solver.specs.Live.{width}
+use Rattle.solver.specs.Marks.{Floors, Prepared, Standing}
+use Rattle.solver.specs.Choice.{Marked}
 use Rattle.solver.proofs.Progress.{Turned, turned-start, turned-next, turned-none, turned-all}
-use Rattle.solver.proofs.CandidateLaws.{well-formed}
-use Rattle.solver.proofs.Floors.{no-floors, floors-kept}
+use Rattle.solver.proofs.PhaseLaws.{part-is, floors-kept}
 
--- where the bounds phase ends
-abbrev bounded : Circuit → Standing
-bounded C = replay C (start C) (boundSteps C)
+-- the numbers of the loop
+pub record Going (n room count : ℕ) (floors : List ℕ) (loose : List Bool) (output bounds : List ℕ) (marks : List Bool) : Type 0 where
+  pub more : count ≤ n
+  pub floors-sized : length floors ≡ 513
+  pub loose-sized : length loose ≡ 513
+  pub output-same : length output ≡ room
+  pub bounds-sized : length bounds ≡ width
+  pub marks-sized : length marks ≡ width
 
--- the steps so far, where they led, the floors, and the bytes written
-pub record Turning (c bounds : List ℕ) (marks : List Bool) (floors output₀ output : List ℕ) (p base count : ℕ) : Type 0 where
+-- the steps so far, where they led, and the bytes written
+pub record Turning (P : Problem) (S₀ : laws.Standing) (output₀ output : List ℕ) (base count : ℕ) (S : laws.Standing) : Type 0 where
   pub steps : List Step
-  pub turned : Turned (firstMark (circuitOf c)) (circuitOf c) (bounded (circuitOf c)) (circuitOf c .n) (viewOf p bounds marks) steps
+  pub turned : Turned (firstAdding laws.marks P) P S₀ (P .n) S steps
   pub counted : count ≡ length steps
-  pub written : output ≡ stored output₀ (7 + 7 * base) (stepsBytes steps)
-  pub floored : Floors (circuitOf c) (viewOf p bounds marks) floors
+  pub written : output ≡ stored output₀ (headSize + stepSize * base) (stepsBytes steps)
 
--- a marking step's fields are small
-marker-small : {q : Kind} (n m k r : ℕ) → n ≤ 256 → m ≤ 512 → Marker q → fields q n m k r ≡ true → (k ≤ 512) × (r ≤ 256)
-marker-small n m k r hn hm by-zero e =
-    (omega (arith, eqb-true k 0 (and-left _ (eqb r 0) e)), omega (arith, eqb-true r 0 (and-right (eqb k 0) _ e)))
-marker-small n m k r hn hm by-product e =
-    let w = within-says m k (and-left _ (eqb r 0) e) in
-    (omega arith, omega (arith, eqb-true r 0 (and-right (within m k) _ e)))
-marker-small n m k r hn hm by-digits e =
-    let w = within-says m k (and-left _ (within n r) e) in
-    let v = within-says n r (and-right (within m k) _ e) in
-    (omega arith, omega arith)
-
-module _ (c table bounds : List ℕ) (marks : List Bool) (p n : ℕ) (B : StandingOf c table bounds marks p n) where
-  abbrev C : Circuit
-  C = circuitOf c
-
-  W : WellFormed C
-  W = well-formed c table (B .prepared)
-
-  pub turning-start : (output : List ℕ) (base size : ℕ) → viewOf p bounds marks ≡ bounded C
-      → Turning c bounds marks (replicate size 0) output output p base 0
-  unfolding stepsBytes
-  turning-start output base size e =
-      record {
-        steps = [];
-        turned = rw e (turned-start (firstMark C) C (bounded C) (C .n));
-        counted = refl;
-        written = nothing-stored output (7 + 7 * base);
-        floored = no-floors C W (viewOf p bounds marks) size;
-      }
-
--- A turn, at the marks so far
-module _ (c table bounds : List ℕ) (marks : List Bool) (p n : ℕ) (B : StandingOf c table bounds marks p n) (floors output₀ output : List ℕ)
-    (base count : ℕ) (T : Turning c bounds marks floors output₀ output p base count) where
-  abbrev S : Standing
-  S = viewOf p bounds marks
-
-  over : markSteps (circuitOf c) ≡ T .steps → Marked c bounds marks output₀ output base (base + count)
-  over e =
-      record {
-        reached =
-            ap (λ (q : ℕ). viewOf q bounds marks) (sym (B .is-p)) ∙ T .turned .led ∙ ap (replay (circuitOf c) (bounded (circuitOf c))) (sym e);
-        counted = ap (λ (k : ℕ). base + k) (T .counted ∙ ap length (sym e));
-        written = T .written ∙ ap (λ (xs : List Step). stored output₀ (7 + 7 * base) (stepsBytes xs)) (sym e);
-      }
-
-  pub turning-all : n ≤ count → Marked c bounds marks output₀ output base (base + count)
-  unfolding markSteps
-  turning-all h =
-      over
-      (turned-all (firstMark (circuitOf c)) (circuitOf c) (bounded (circuitOf c)) (circuitOf c .n) S (T .steps) (T .turned)
-      (omega (arith, T .counted, B .is-n)))
-
-  module _ (choice : Choice) (chosen : choiceOf choice ≡ firstMark (circuitOf c) S) where
-    pub turning-none : choice ≡ Nothing → Marked c bounds marks output₀ output base (base + count)
-    unfolding markSteps
-    turning-none e =
-        over
-        (turned-none (firstMark (circuitOf c)) (circuitOf c) (bounded (circuitOf c)) (circuitOf c .n) S (T .steps) (T .turned)
-        (sym chosen ∙ ap choiceOf e))
-
-    module _ (kind : K.Kind) (target constraint reference : ℕ) (is : choice ≡ Taken kind target constraint reference) where
-      abbrev x : Step
-      x = step (kindOf kind) target constraint reference
-
-      taken : firstMark (circuitOf c) S ≡ some x
-      taken = sym chosen ∙ ap choiceOf is
-
-      M : Marking (circuitOf c) S x
-      M = first-mark-some (circuitOf c) S x taken
-
-      pub target-small : (1 ≤ target) × (target ≤ 256) × (target ≤ n)
-      target-small =
-          let w = target-within (circuitOf c) x (M .in-range) in
-          (w .0, omega (arith, w .1, W c table bounds marks p n B .n-most), omega (arith, w .1, B .is-n))
-
-      pub fields-small : (constraint ≤ 512) × (reference ≤ 256)
-      fields-small =
-          marker-small (circuitOf c .n) (circuitOf c .m) constraint reference (W c table bounds marks p n B .n-most)
-          (W c table bounds marks p n B .m-most) (M .marker) (fields-fit (circuitOf c) x (M .in-range))
-
-      marked : viewOf p bounds (set marks target true) ≡ after (circuitOf c) S x
-      marked =
-          view-mark p bounds marks target (omega (arith, target-small .1, B .marks-sized)) ∙ sym (marking-after (circuitOf c) S x (M .marker))
-
-      pub turning-next : count < n → (floors₁ floors₂ output′ : List ℕ) (number : ℕ) → number ≡ kindNumber (kindOf kind)
-          → output′ ≡ stored output (7 + 7 * (base + count)) (listed number target constraint reference)
-          → Floors (circuitOf c) S floors₁ → Forgotten (circuitOf c) target floors₁ floors₂
-          → Turning c bounds (set marks target true) floors₂ output₀ output′ p base (count + 1)
-      turning-next more floors₁ floors₂ output′ number is-number e F G =
-          let at : 7 + 7 * (base + count) ≡ 7 + 7 * base + 7 * length (T .steps) = omega (arith, T .counted) in
-          record {
-            steps = T .steps ++ (x ∷ []);
-            turned =
-                rw marked
-                (turned-next (firstMark (circuitOf c)) (circuitOf c) (bounded (circuitOf c)) (circuitOf c .n) S (T .steps) x (T .turned)
-                (omega (arith, T .counted, B .is-n)) taken);
-            counted = omega (arith, T .counted, length-append (T .steps) (x ∷ []));
-            written =
-                e
-                ∙ ap (stored output (7 + 7 * (base + count))) (step-listed x number target is-number refl)
-                ∙ ap (λ (j : ℕ). stored output j (stepBytes x)) at
-                ∙ written-next output₀ output (7 + 7 * base) (T .steps) x (T .written);
-            floored =
-                rw (marked, marking-after (circuitOf c) S x (M .marker))
-                (floors-kept (circuitOf c) (W c table bounds marks p n B) S target (target-small .0) floors₁ floors₂ F G);
-          }
-
--- the same with other marks
-pub standing-on : {c table bounds : List ℕ} {marks : List Bool} {p n : ℕ} → StandingOf c table bounds marks p n → (marks′ : List Bool)
-    → length marks′ ≡ 257 → StandingOf c table bounds marks′ p n
-standing-on B marks′ e =
+pub turning-start : (P : Problem) (S : laws.Standing) (output : List ℕ) (base : ℕ) → Turning P S output output base 0 S
+unfolding stepsBytes
+turning-start P S output base =
     record {
-      prepared = B .prepared;
-      is-p = B .is-p;
-      is-n = B .is-n;
-      bounds-sized = B .bounds-sized;
-      marks-sized = e;
+      steps = [];
+      turned = turned-start (firstAdding laws.marks P) P S (P .n);
+      counted = refl;
+      written = nothing-stored output (headSize + stepSize * base);
+    }
+
+module _ {P : Problem} {S₀ : laws.Standing} {output₀ output : List ℕ} {base count : ℕ} {S : laws.Standing}
+    (T : Turning P S₀ output₀ output base count S) where
+  ended : (xs : List Step) → xs ≡ T .steps → (S ≡ replay P S₀ xs) × (base + count ≡ base + length xs)
+      × (output ≡ stored output₀ (headSize + stepSize * base) (stepsBytes xs))
+  ended xs e = (
+    T .turned .led ∙ ap (replay P S₀) (sym e),
+    ap (λ (k : ℕ). base + k) (T .counted ∙ ap length (sym e)),
+    T .written ∙ ap (λ (ys : List Step). stored output₀ (headSize + stepSize * base) (stepsBytes ys)) (sym e),
+  )
+
+  pub turning-all : P .n ≤ count → Marked P S₀ S output₀ output base (base + count)
+  turning-all h =
+      let w = ended _ (turned-all (firstAdding laws.marks P) P S₀ (P .n) S (T .steps) (T .turned) (omega (arith, T .counted))) in
+      record { reached = w .0; counted = w .1; written = w .2 }
+
+  pub turning-none : firstAdding laws.marks P S ≡ none → Marked P S₀ S output₀ output base (base + count)
+  turning-none e =
+      let w = ended _ (turned-none (firstAdding laws.marks P) P S₀ (P .n) S (T .steps) (T .turned) e) in
+      record { reached = w .0; counted = w .1; written = w .2 }
+
+  pub turning-next : count < P .n → (x : Step) → firstAdding laws.marks P S ≡ some x → {output′ : List ℕ}
+      → output′ ≡ stored output (headSize + stepSize * (base + count)) (stepBytes x)
+      → {S′ : laws.Standing} → S′ ≡ after P S x → Turning P S₀ output₀ output′ base (count + 1) S′
+  turning-next more x taken e s =
+      let place : headSize + stepSize * (base + count) ≡ headSize + stepSize * base + stepSize * length (T .steps) = omega (arith, T .counted) in
+      record {
+        steps = T .steps ++ (x ∷ []);
+        turned =
+            rw s
+            (turned-next (firstAdding laws.marks P) P S₀ (P .n) S (T .steps) x (T .turned) (omega (arith, T .counted)) taken);
+        counted = omega (arith, T .counted, length-append (T .steps) (x ∷ []));
+        written =
+            e
+            ∙ ap (λ (j : ℕ). stored output j (stepBytes x)) place
+            ∙ written-next output₀ output (headSize + stepSize * base) (T .steps) x (T .written);
+      }
+
+-- The step that was chosen
+
+names-most : (q : Names) (P : Problem) (k : ℕ) → inside (named q P) k ≡ true → k ≤ P .m
+names-most nothing P k e = omega (arith, eqb-true k 0 e)
+names-most aConstraint P k e = within-says (P .m) k e .1
+
+refers-most : (b : Bool) (P : Problem) (r : ℕ) → inside (referred b P) r ≡ true → r ≤ P .n
+refers-most false P r e = omega (arith, eqb-true r 0 e)
+refers-most true P r e = within-says (P .n) r e .1
+
+names-least : (q : Names) (P : Problem) (k : ℕ) → inside (named q P) k ≡ true → q ≡ aConstraint → 1 ≤ k
+names-least nothing P k e g = let z : _≡_ {A = ℕ} 0 1 = cc in absurd (omega arith)
+names-least aConstraint P k e g = within-says (P .m) k e .0
+
+fixed-apply : (d : Change) (S : laws.Standing) (t : ℕ) → laws.marks d ≡ true → apply d S t ≡ mark S t
+fixed-apply (atMost x) S t e = true-or-false false e refl
+fixed-apply fixed S t e = refl
+
+-- a rule looks at the constraint only where its kind names one
+rule-at : (q : Kind) (J : Subject) (P : Problem) (k : ℕ) (S : laws.Standing) (t r : ℕ) → J .p ≡ P .p → J .n ≡ P .n
+    → (namesOf q ≡ aConstraint → J .equation ≡ P .constraint k) → rule q J S t r ≡ rule q (subject (namesOf q) P k) S t r
+rule-at Root J P k S t r a b e = rw (a, e refl)
+rule-at Sum J P k S t r a b e = rw (a, b, e refl)
+rule-at Zero J P k S t r a b e = refl
+rule-at Product J P k S t r a b e = rw (e refl)
+rule-at Digits J P k S t r a b e = rw (a, b, e refl)
+
+pub record Chosen (P : Problem) (S : laws.Standing) (x : Step) : Type 0 where
+  pub target-least : 1 ≤ x .target
+  pub target-most : x .target ≤ P .n
+  pub constraint-most : x .constraint ≤ P .m
+  pub constraint-least : namesOf (x .kind) ≡ aConstraint → 1 ≤ x .constraint
+  pub reference-most : x .reference ≤ P .n
+  pub is-met : met P S x ≡ true
+  pub is-mark : laws.marks (change P S x) ≡ true
+
+pub chosen : (P : Problem) (S : laws.Standing) (x : Step) → firstAdding laws.marks P S ≡ some x → Chosen P S x
+unfolding addsBy fits inRange
+chosen P S x e =
+    let a = first-some laws.marks P S x e in
+    let b : adds P S x ≡ true = and-left _ (laws.marks (change P S x)) a in
+    let w = adds-target P S x b in
+    let g = adds-says P S x b .0 in
+    let i : inRange P x ≡ true = and-left _ (met P S x) g in
+    let j = and-right (within (P .n) (x .target)) _ i in
+    let k = and-left _ (inside (references (x .kind) P) (x .reference)) j in
+    record {
+      target-least = w .0;
+      target-most = w .1;
+      constraint-most = names-most (namesOf (x .kind)) P (x .constraint) k;
+      constraint-least = names-least (namesOf (x .kind)) P (x .constraint) k;
+      reference-most = refers-most (refers (x .kind)) P (x .reference) (and-right (inside (constraints (x .kind) P) (x .constraint)) _ j);
+      is-met = and-right (inRange P x) _ g;
+      is-mark = and-right (adds P S x) _ a;
+    }
+
+-- The standing after it
+
+module _ {c table starts signals coefs : List ℕ} {p n m : ℕ} (D : Prepared c table starts signals coefs p n m) (st : rules.Standing) (f : ℕ → ℕ)
+    (q : kind.Kind) (t k r : ℕ) where
+  abbrev P : Problem
+  P = given (circuitOf c) f
+
+  abbrev x : Step
+  x = record { kind = kindOf q; target = t; constraint = k; reference = r }
+
+  module _ (X : Chosen P (view p st) x) {part : List ℕ} (is-part : part ≡ partOf c table k) (o : outcome.Outcome)
+      (G : 1 < p → Gives p st o t (rule (kindOf q) (subjectIn p n part) (view p st) t r)) where
+    same-rule : rule (kindOf q) (subjectIn p n part) (view p st) t r ≡ ruleOf P (view p st) x
+    unfolding ruleOf
+    same-rule =
+        rule-at (kindOf q) (subjectIn p n part) P k (view p st) t r (D .is-p) (D .is-n)
+        (λ z. part-is (D .located) k (X .constraint-least z) (omega (arith, X .constraint-most, D .located .is-m)) is-part)
+
+    pub step-after : view p (o .next) ≡ after P (view p st) x
+    unfolding after change met
+    step-after =
+        G (omega (arith, D .is-p, D .formed .p-least)) .next
+        ∙ ap (λ (R : step.Rule). cond (R .met) (apply (R .change) (view p st) t) (view p st)) same-rule
+        ∙ ap (λ (b : Bool). cond b (apply (ruleOf P (view p st) x .change) (view p st) t) (view p st)) (X .is-met)
+
+    step-mark : view p (o .next) ≡ mark (view p st) t
+    unfolding after
+    step-mark = step-after ∙ fixed-apply (change P (view p st) x) (view p st) t (X .is-mark)
+
+    bounds-stay : boundIn p (o .next .bounds) ≡ boundIn p (st .bounds)
+    unfolding viewOf mark
+    bounds-stay = ap (λ (Z : laws.Standing). Z .bound) step-mark
+
+    marks-grow : markIn (o .next .marks) ≡ add (markIn (st .marks)) t
+    unfolding viewOf mark
+    marks-grow = ap (λ (Z : laws.Standing). Z .marked) step-mark
+
+    -- floors of constraints that name the signal are forgotten, the others stay
+    pub floors-next : {before later : List ℕ} → Floors (circuitOf c) (boundIn p (st .bounds)) (markIn (st .marks)) before
+        → Forgotten (circuitOf c) t before later → length later ≡ length before
+        → Floors (circuitOf c) (boundIn p (o .next .bounds)) (markIn (o .next .marks)) later
+    floors-next F E e =
+        rw (bounds-stay, marks-grow) (floors-kept t (omega (arith, D .formed .p-least)) (X .target-least) F E e)
+
+-- the entries of a signal can be walked over
+pub walkable : {n m : ℕ} {starts signals lasts befores owners : List ℕ} → Links n m starts signals lasts befores owners → {size s : ℕ} → 1 ≤ s → s ≤ n
+    → m < size → Walkable lasts befores owners size s
+walkable {n} {m} {starts} L {size} {s} a b h =
+    record {
+      end = at starts (m + 1);
+      known = omega (arith, L .lasts-room);
+      first = L .last s a b .before;
+      befores-room = L .befores-room;
+      owners-room = L .owners-room;
+      falls = λ e l. L .before e l .before;
+      owned = λ e l. omega (arith, L .owned e l .1);
+    }
+
+-- what the loop works on
+pub standing-here : {c table starts signals coefs : List ℕ} {p n m : ℕ} → Prepared c table starts signals coefs p n m → {bounds : List ℕ} {marks : List Bool}
+    → length bounds ≡ width → length marks ≡ width → Standing c table starts signals coefs bounds marks p n m
+standing-here D a b =
+    record {
+      prepared = D;
+      bounds-long = omega (arith, D .is-n, D .formed .n-most);
+      marks-long = omega (arith, D .is-n, D .formed .n-most);
     }

@@ -1,9 +1,10 @@
--- The answers of the code in document 01's numbers and values.
+-- The answers of the code as those of the definition.
+use Rattle.circuit.specs.Answer.{Answer, refused, given}
 use Rattle.derivation.specs.Answer.{verdictIn}
-use Rattle.solver.specs.Call.{SolverResult, refused, solved}
+use Rattle.solver.specs.Call as call
 use Rattle.solver.specs.declared.answer.SolverAnswer.{SolverAnswer}
 use Rattle.solver.specs.declared.answer.SolverAnswer.the-variants.{Refused, Solved}
 
-abbrev pub paperOf : SolverAnswer → SolverResult
+abbrev pub paperOf : SolverAnswer → Answer call.Solved
 paperOf (Refused number place) = refused number place
-paperOf (Solved count verdict length) = solved count (verdictIn verdict) length
+paperOf (Solved count verdict bytes) = given (record { judgement = record { count = count; verdict = verdictIn verdict }; bytes = bytes })

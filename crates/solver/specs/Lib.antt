@@ -1,8 +1,10 @@
-pub mod Bytes
-pub mod Call
-pub mod Demand
-pub mod Bounds
-pub mod Search
 pub mod Rows
+pub mod Filling
+pub mod Search
+pub mod Bounds
+pub mod Live
 pub mod Marks
+pub mod Choice
+pub mod Call
 pub mod Answer
+pub mod Demand

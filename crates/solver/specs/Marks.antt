@@ -1,99 +1,62 @@
--- What the marks phase keeps of each constraint, and what its searches find.
-use Prim.Native.Nat.{ℕ, _+_, _*_, _-_, _≤_, _<_}
+-- What the marks phase keeps of each constraint, and what its searches find. How the solver runs, not what it means.
+use Prim.Native.Nat.{ℕ, _≤_, _<_}
 use mathlib.Core.Path.{_≡_}
-use mathlib.Core.Bool.{Bool, true, false, cond}
+use mathlib.Core.Bool.{Bool, true, false}
 use mathlib.Core.List.{List}
-use mathlib.Core.Option.{Option, none, some}
-use mathlib.Core.Logic.{_⊎_}
-use lib.Dec.{eqb}
-use lib.ListN.{length, getD}
-use Rattle.circuit.specs.Circuit.{Circuit, constraintAt}
-use Rattle.laws.specs.Standing.{Standing, start}
-use Rattle.laws.specs.Rules.{live, productMet, digitsMet}
-use Rattle.laws.specs.Step.{Step, replay}
-use Rattle.laws.specs.Solver.{step, boundSteps, markSteps}
-use Rattle.rules.specs.View.{markIn, viewOf}
-use Rattle.rules.specs.Promise.{kindOf}
-use Rattle.derivation.specs.Encoded.{stepsBytes}
-use Rattle.derivation.specs.Inner.{circuitOf}
-use Rattle.solver.specs.Bytes.{stored}
-use Rattle.solver.specs.Search.{Prepared}
-use Rattle.solver.specs.declared.marks.Choice.{Choice}
-use Rattle.solver.specs.declared.marks.Choice.the-variants.{Nothing, Taken}
+use lib.ListN.{length}
+use Rattle.circuit.specs.Circuit.{Circuit, WellFormed, Constraint, constraintAt}
+use Rattle.circuit.specs.Reader.{constraintIn}
+use Rattle.laws.specs.Rules.{productMet, digitsMet}
+use Rattle.circuit.specs.Offsets.{partOf}
+use Rattle.circuit.specs.Call.{circuitOf}
+use Rattle.solver.specs.Rows.{at, Rows}
 
--- the standing with the marks of an array
-abbrev pub withMarks : (ℕ → ℕ) → List Bool → Standing
-withMarks b marks = record { bound = b; marked = markIn marks }
+-- a floor above all signals: the constraint marks nothing
+abbrev pub none : ℕ
+none = 0xffff_ffff_ffff_ffff
 
--- no step by constraint k marks an unmarked signal below the floor
-pub record IsFloor (C : Circuit) (S : Standing) (k floor : ℕ) : Type 0 where
-  pub product : (t : ℕ) → 1 ≤ t → S .marked t ≡ false → productMet (constraintAt C k) S t ≡ true → floor ≤ t
-  pub digits : (t r : ℕ) → 1 ≤ t → 1 ≤ r → r ≤ C .n → S .marked t ≡ false → digitsMet (C .p) (C .n) (constraintAt C k) S t r ≡ true → floor ≤ t
+-- A floor, a lower bound on the targets that a constraint can mark: below it no step by the constraint marks an unmarked signal.
+pub record IsFloor (p n : ℕ) (K : Constraint) (b : ℕ → ℕ) (m : ℕ → Bool) (floor : ℕ) : Type 0 where
+  pub product : (t : ℕ) → 1 ≤ t → m t ≡ false → productMet K m t ≡ true → floor ≤ t
+  pub digits : (t r : ℕ) → 1 ≤ t → t ≤ n → 1 ≤ r → r ≤ n → m t ≡ false → digitsMet p n K b m t r ≡ true → floor ≤ t
 
 -- a floor of each constraint, 0 where nothing is known
-pub record Floors (C : Circuit) (S : Standing) (floors : List ℕ) : Type 0 where
-  pub each : (k : ℕ) → 1 ≤ k → k ≤ C .m → IsFloor C S k (getD floors k 0)
+pub record Floors (C : Circuit) (b : ℕ → ℕ) (m : ℕ → Bool) (floors : List ℕ) : Type 0 where
+  pub long : C .m < length floors
+  pub each : (k : ℕ) → 1 ≤ k → k ≤ C .m → IsFloor (C .p) (C .n) (constraintAt C k) b m (at floors k)
 
 -- r is at most each of the entries 1 to m
 pub record AtMost (floors : List ℕ) (m r : ℕ) : Type 0 where
-  pub each : (k : ℕ) → 1 ≤ k → k ≤ m → r ≤ getD floors k 0
+  pub each : (k : ℕ) → 1 ≤ k → k ≤ m → r ≤ at floors k
 
--- two unmarked signals of the form have bound p - 1
-pub record Crowded (p n : ℕ) (R : ℕ → ℕ) (S : Standing) : Type 0 where
-  pub one : ℕ
-  pub other : ℕ
-  pub one-least : 1 ≤ one
-  pub one-below : one < other
-  pub other-most : other ≤ n
-  pub one-live : live R S one ≡ true
-  pub other-live : live R S other ≡ true
-  pub one-bound : S .bound one ≡ p - 1
-  pub other-bound : S .bound other ≡ p - 1
+-- the bytes hold a circuit with m constraints, which the table of offsets finds
+pub record Located (c table : List ℕ) (m : ℕ) : Type 0 where
+  pub is-m : m ≡ circuitOf c .m
+  pub parts : (k : ℕ) → 1 ≤ k → k ≤ m → constraintIn (partOf c table k) ≡ constraintAt (circuitOf c) k
 
--- two unmarked signals of the form have equal coefficients
-pub record Equals (n : ℕ) (R : ℕ → ℕ) (S : Standing) : Type 0 where
-  pub one : ℕ
-  pub other : ℕ
-  pub one-below : one < other
-  pub other-most : other ≤ n
-  pub one-live : live R S one ≡ true
-  pub other-live : live R S other ≡ true
-  pub same : R one ≡ R other
-
--- x is one of the first entries
-pub record Among (values : List ℕ) (count x : ℕ) : Type 0 where
-  pub place : ℕ
-  pub early : place < count
-  pub is : getD values place 0 ≡ x
-
--- t is at most each unmarked signal of the form, 0 where it has none
-pub record FirstLive (R : ℕ → ℕ) (S : Standing) (n t : ℕ) : Type 0 where
-  pub low : (s : ℕ) → 1 ≤ s → s ≤ n → live R S s ≡ true → (1 ≤ t) × (t ≤ s)
-
--- t is the lowest unmarked signal with bound 0, n + 1 where there is none
-pub record FirstZero (S : Standing) (n t : ℕ) : Type 0 where
-  pub found : (t ≡ n + 1) ⊎ ((1 ≤ t) × (t ≤ n) × (S .marked t ≡ false) × (S .bound t ≡ 0))
-  pub lowest : (s : ℕ) → 1 ≤ s → s ≤ n → S .marked s ≡ false → S .bound s ≡ 0 → t ≤ s
-
--- the step found, or what is found later where there is none
-unfoldable pub found : ℕ → Step → Option Step → Option Step
-found constraint x later = cond (eqb constraint 0) later (some x)
-
-abbrev pub choiceOf : Choice → Option Step
-choiceOf Nothing = none
-choiceOf (Taken kind target constraint reference) = some (step (kindOf kind) target constraint reference)
-
--- what the marks phase works on: a circuit that was read, its p and n, and arrays of bounds and marks
-pub record StandingOf (c table bounds : List ℕ) (marks : List Bool) (p n : ℕ) : Type 0 where
-  pub prepared : Prepared c table
+-- What the phase works on: the bytes of a circuit with its sizes, where its constraints are, and its rows ..
+pub record Prepared (c table starts signals coefs : List ℕ) (p n m : ℕ) : Type 0 where
+  pub formed : WellFormed (circuitOf c)
   pub is-p : p ≡ circuitOf c .p
   pub is-n : n ≡ circuitOf c .n
-  pub bounds-sized : length bounds ≡ 257
-  pub marks-sized : length marks ≡ 257
+  pub located : Located c table m
+  pub constants : List ℕ
+  pub rows : Rows (circuitOf c) starts signals coefs constants
 
--- what the marks phase leaves: its steps written after those before, counted with them and taken
-pub record Marked (c bounds : List ℕ) (marks : List Bool) (output output′ : List ℕ) (base count : ℕ) : Type 0 where
-  pub reached : viewOf (circuitOf c .p) bounds marks
-      ≡ replay (circuitOf c) (replay (circuitOf c) (start (circuitOf c)) (boundSteps (circuitOf c))) (markSteps (circuitOf c))
-  pub counted : count ≡ base + length (markSteps (circuitOf c))
-  pub written : output′ ≡ stored output (7 + 7 * base) (stepsBytes (markSteps (circuitOf c)))
+-- .. and a standing's arrays
+pub record Standing (c table starts signals coefs bounds : List ℕ) (marks : List Bool) (p n m : ℕ) : Type 0 where
+  pub prepared : Prepared c table starts signals coefs p n m
+  pub bounds-long : n < length bounds
+  pub marks-long : n < length marks
+
+-- a constraint, of which something is kept
+pub record Within (k m : ℕ) (kept : List Bool) : Type 0 where
+  pub first : 1 ≤ k
+  pub last : k ≤ m
+  pub long : m < length kept
+
+-- a target of 1 to n that isn't marked
+pub record Unmarked (marked : ℕ → Bool) (n t : ℕ) : Type 0 where
+  pub least : 1 ≤ t
+  pub most : t ≤ n
+  pub free : marked t ≡ false

@@ -1,78 +1,83 @@
--- A table with a row for each constraint, made once per call: what the searches ask again and again of its signals.
-use Prim.Native.Nat.{ℕ, zero, suc, _+_, _*_, _≤_, _<_}
+-- Rows: for each constraint the signals that it names and their coefficients in the reduced form, and for each signal the entries that hold it.
+-- How the solver runs, not what it means.
+use Prim.Native.Nat.{ℕ, zero, suc, _+_, _-_, _≤_, _<_}
 use mathlib.Core.Path.{_≡_}
-use mathlib.Core.Bool.{true, false}
+use mathlib.Core.Bool.{Bool, false, _||_}
 use mathlib.Core.List.{List}
+use mathlib.Core.Logic.{_⊎_}
 use lib.ListN.{length, getD, take, drop}
-use Rattle.circuit.specs.Circuit.{Circuit, Constraint, Form, constraintAt, names}
-use Rattle.laws.specs.Rules.{linear, reduced}
-use Rattle.rules.specs.View.{coefIn}
-use Rattle.solver.specs.Search.{involves}
+use Rattle.circuit.specs.Circuit.{Circuit, Constraint, constraintAt, names}
+use Rattle.laws.specs.Rules.{reduced}
 
--- row k starts at k · 2 · (n + 1): n + 1 entries, then the number of its signals, then the signals
-unfoldable pub entry : List ℕ → ℕ → ℕ → ℕ → ℕ
-entry rows n k s = getD rows (k * (2 * (n + 1)) + s) 0
+-- one of the three forms names the signal
+unfoldable pub involves : Constraint → ℕ → Bool
+involves K s = names (K .a) s || names (K .b) s || names (K .c) s
 
-unfoldable pub row : List ℕ → ℕ → ℕ → List ℕ
-row rows n k = take (n + 1) (drop (k * (2 * (n + 1))) rows)
-
-unfoldable pub count : List ℕ → ℕ → ℕ → ℕ
-count rows n k = getD rows (k * (2 * (n + 1)) + (n + 1)) 0
-
-unfoldable pub signals : List ℕ → ℕ → ℕ → List ℕ
-signals rows n k = take (count rows n k) (drop (k * (2 * (n + 1)) + (n + 1) + 1) rows)
-
--- the numbers that stand after a place
-unfoldable pub after : List ℕ → ℕ → ℕ → ℕ
-after rows at i = getD rows (at + 1 + i) 0
+-- the number at a place
+unfoldable pub at : List ℕ → ℕ → ℕ
+at list i = getD list i 0
 
 -- where a walk over signals has come to before its turn i
-unfoldable pub reach : (ℕ → ℕ) → ℕ → ℕ
+unfoldable pub reach : List ℕ → ℕ → ℕ
 reach list zero = 0
-reach list (suc i) = list i
+reach list (suc i) = at list i
 
--- the first `length` numbers of the list are the signals of 1 to n at which the form isn't 0, rising
-pub record Listed (form : ℕ → ℕ) (n : ℕ) (list : ℕ → ℕ) (length : ℕ) : Type 0 where
-  pub few : length ≤ n
-  pub rising : (i : ℕ) → i < length → reach list i < list i
-  pub within : (i : ℕ) → i < length → list i ≤ n
-  pub present : (i : ℕ) → i < length → form (list i) ≡ 0 → ⊥
-  pub gaps : (i s : ℕ) → i < length → reach list i < s → s < list i → form s ≡ 0
-  pub rest : (s : ℕ) → reach list length < s → s ≤ n → form s ≡ 0
+-- The signals of 1 to n that the constraint names, rising, and the coefficient of each in the reduced form, also where that is 0.
+pub record Row (p n : ℕ) (K : Constraint) (signals coefs : List ℕ) : Type 0 where
+  pub few : length signals ≤ n
+  pub paired : length coefs ≡ length signals
+  pub rising : (i : ℕ) → i < length signals → reach signals i < at signals i
+  pub within : (i : ℕ) → i < length signals → at signals i ≤ n
+  pub gaps : (i s : ℕ) → i < length signals → reach signals i < s → s < at signals i → involves K s ≡ false
+  pub rest : (s : ℕ) → reach signals (length signals) < s → s ≤ n → involves K s ≡ false
+  pub weighed : (i : ℕ) → i < length signals → at coefs i ≡ reduced p K (at signals i)
 
--- the same of a list as it is lent
-abbrev pub SignalsOf : (ℕ → ℕ) → ℕ → List ℕ → Type 0
-SignalsOf form n list = Listed form n (coefIn list) (length list)
+-- the entries from the start of constraint k to that of the next one
+unfoldable pub entries : List ℕ → List ℕ → ℕ → List ℕ
+entries starts list k = take (at starts (k + 1) - at starts k) (drop (at starts k) list)
 
--- each number of the list is below the bound
-pub record Below (list : List ℕ) (bound : ℕ) : Type 0 where
-  pub each : (i : ℕ) → i < length list → getD list i 0 < bound
+-- the entries of constraint k lie in a list of this length
+pub record Inside (starts : List ℕ) (size k : ℕ) : Type 0 where
+  pub known : k + 1 < length starts
+  pub small : k < 65536
+  pub rises : at starts k ≤ at starts (k + 1)
+  pub ends : at starts (k + 1) ≤ size
 
--- up to n the entries are the reduced form of a linear constraint; for another one 0 stands only at signals that it doesn't name
-pub record IsRow (p n : ℕ) (K : Constraint) (entries : ℕ → ℕ) : Type 0 where
-  pub reduces : linear K ≡ true → (s : ℕ) → s ≤ n → entries s ≡ reduced p K s
-  pub unnamed : linear K ≡ false → (s : ℕ) → s ≤ n → entries s ≡ 0 → involves K s ≡ false
+-- the row of each constraint, and the constants of the reduced forms
+pub record Rows (C : Circuit) (starts signals coefs constants : List ℕ) : Type 0 where
+  pub signals-inside : (k : ℕ) → 1 ≤ k → k ≤ C .m → Inside starts (length signals) k
+  pub coefs-inside : (k : ℕ) → 1 ≤ k → k ≤ C .m → Inside starts (length coefs) k
+  pub row : (k : ℕ) → 1 ≤ k → k ≤ C .m → Row (C .p) (C .n) (constraintAt C k) (entries starts signals k) (entries starts coefs k)
+  pub constant : (k : ℕ) → 1 ≤ k → k ≤ C .m → at constants k ≡ reduced (C .p) (constraintAt C k) 0
 
--- row k with the list of its signals
-pub record RowAt (C : Circuit) (rows : List ℕ) (k : ℕ) : Type 0 where
-  pub form : IsRow (C .p) (C .n) (constraintAt C k) (entry rows (C .n) k)
-  pub list : Listed (entry rows (C .n) k) (C .n) (after rows (k * (2 * (C .n + 1)) + (C .n + 1))) (count rows (C .n) k)
+-- x is one more than the last place below e that holds s, 0 where none does
+pub record Last (signals : List ℕ) (s e x : ℕ) : Type 0 where
+  pub before : x ≤ e
+  pub holds : (x ≡ 0) ⊎ (at signals (x - 1) ≡ s)
+  pub later : (j : ℕ) → x ≤ j → j < e → at signals j ≡ s → ⊥
 
--- the row of each constraint
-pub record Rows (C : Circuit) (rows : List ℕ) : Type 0 where
-  pub inside : (C .m + 1) * (2 * (C .n + 1)) ≤ length rows
-  pub each : (k : ℕ) → 1 ≤ k → k ≤ C .m → RowAt C rows k
+-- Each signal's last entry, each entry's last one before it with the same signal, and the constraint that an entry belongs to.
+pub record Links (n m : ℕ) (starts signals lasts befores owners : List ℕ) : Type 0 where
+  pub last : (s : ℕ) → 1 ≤ s → s ≤ n → Last signals s (at starts (m + 1)) (at lasts s)
+  pub before : (e : ℕ) → e < at starts (m + 1) → Last signals (at signals e) e (at befores e)
+  pub owned : (e : ℕ) → e < at starts (m + 1) → (1 ≤ at owners e) × (at owners e ≤ m)
+  pub owner : (k e : ℕ) → 1 ≤ k → k ≤ m → at starts k ≤ e → e < at starts (k + 1) → at owners e ≡ k
+  pub befores-room : at starts (m + 1) ≤ length befores
+  pub owners-room : at starts (m + 1) ≤ length owners
+  pub lasts-room : n < length lasts
+  pub ends : (k : ℕ) → 1 ≤ k → k ≤ m → at starts (k + 1) ≤ at starts (m + 1)
 
--- signals that the form names are no longer 0
-pub record NamesAdded (f : Form) (before later : List ℕ) : Type 0 where
-  pub unnamed : (s : ℕ) → s ≤ 256 → coefIn later s ≡ 0 → (coefIn before s ≡ 0) × (names f s ≡ false)
+-- what was kept is forgotten, but for constraints that don't name the signal
+pub record Forgotten (C : Circuit) (signal : ℕ) (before after : List ℕ) : Type 0 where
+  pub top : at after 0 ≡ at before 0
+  pub each : (k : ℕ) → 1 ≤ k → k ≤ C .m → (at after k ≡ 0) ⊎ ((at after k ≡ at before k) × (involves (constraintAt C k) signal ≡ false))
 
--- the first `count` entries of the form stand from `start` on, and what stood before them is kept
-pub record Copied (form before : List ℕ) (start count : ℕ) (later : List ℕ) : Type 0 where
-  pub copied : (s : ℕ) → s < count → getD later (start + s) 0 ≡ coefIn form s
-  pub kept : (i : ℕ) → i < start → getD later i 0 ≡ getD before i 0
-
--- at a place stands how many signals follow, after it the signals of the form, and what stood before it is kept
-pub record Written (form before : List ℕ) (at n : ℕ) (later : List ℕ) : Type 0 where
-  pub list : Listed (coefIn form) n (after later at) (getD later at 0)
-  pub kept : (i : ℕ) → i < at → getD later i 0 ≡ getD before i 0
+-- what a walk over the entries of a signal asks: links that fall, and constraints of which something is kept
+pub record Walkable (lasts befores owners : List ℕ) (size s : ℕ) : Type 0 where
+  pub end : ℕ
+  pub known : s < length lasts
+  pub first : at lasts s ≤ end
+  pub befores-room : end ≤ length befores
+  pub owners-room : end ≤ length owners
+  pub falls : (e : ℕ) → e < end → at befores e ≤ e
+  pub owned : (e : ℕ) → e < end → at owners e < size

@@ -2,7 +2,7 @@
 
 use derivation::answer::Verdict;
 
-// A refusal's number and place, or how many signals are marked, the verdict and the length of the derivation written.
+// A refusal's number and place, or how many signals are marked, the verdict and the bytes of the derivation written.
 pub enum SolverAnswer {
     Refused {
         number: u32,
@@ -11,6 +11,6 @@ pub enum SolverAnswer {
     Solved {
         count: u32,
         verdict: Verdict,
-        length: usize,
+        bytes: usize,
     },
 }

@@ -1,134 +1,173 @@
 // The bounds phase: of all steps that lower some bound the one with the smallest new bound, until none is left.
 
-use crate::memo::forget;
-use crate::memo::least;
-use crate::output::put_step;
-use crate::rows::row_of;
+use crate::keys::NO_KEY;
+use crate::keys::key_by;
+use crate::memory::forget;
+use crate::rows::coefs_of;
 use crate::rows::signals_of;
-use crate::search::only_free;
-use crate::search::unmarked_in;
-use derivation::offsets::part_of;
-use rules::constraint::is_linear;
-use rules::constraint::root_bound;
-use rules::constraint::root_met;
-use rules::sums::sum_bound;
+use circuit::offsets::part_of;
+use circuit::reader::Sizes;
+use derivation::writer::put_step;
+use rules::standing::Kind;
+use rules::standing::Standing;
 ghost use mathlib.Core.Path.{_≡_};
-ghost use Prim.Native.Nat.{_+_, _*_, _≤_, _<_};
+ghost use mathlib.Core.Bool.{cond};
+ghost use Prim.Native.Nat.{ℕ, _/_, _%_, _<_};
 ghost use lib.ListN.{length};
-ghost use Rattle.laws.specs.Standing.{start};
-ghost use Rattle.solver.specs.Bounds.{keyOf, withBounds, IsKey, SomeKeys, Keys, BoundsOf, Lowered};
-ghost use Rattle.solver.specs.Rows.{Rows};
-ghost use Rattle.derivation.specs.Inner.{circuitOf};
+ghost use lib.Dec.{eqb};
+ghost use Rattle.laws.specs.Problem.{given};
+ghost use Rattle.laws.specs.Step as laws;
+ghost use Rattle.rules.specs.View.{boundIn};
+ghost use Rattle.rules.specs.Promise.{view, kindOf};
+ghost use Rattle.solver.specs.Rows.{Links};
+ghost use Rattle.circuit.specs.Call.{circuitOf};
+ghost use Rattle.circuit.specs.Circuit.{constraintAt};
+ghost use Rattle.solver.specs.Bounds.{IsKey, Keys, SomeKeys, Least, Prepared, Room, Place, Lowered};
 
-// A key above all keys of steps.
-const NONE: u64 = 0xffff_ffff_ffff_ffff;
-
-// The key of a step: new bound, target and number of the kind.
-fn key_of(bound: u32, target: u32, kind: u32) -> u64
-    requires { ⌜ (target < 512) × (kind < 4) ⌝ }
-    ensures { λ r. ⌜ r ≡ keyOf bound target kind ⌝ }
-{
-    (bound as u64 * 512 + target as u64) * 4 + kind as u64
+// What the bounds phase leaves: the standing, and how many steps were taken.
+pub(crate) struct Bounded {
+    pub standing: Standing,
+    pub count: u32,
 }
 
-// The key of the one step by which constraint k lowers a bound: a root, or a sum at the only signal whose bound is still p - 1.
-fn candidate(
+// The key of constraint k.
+fn key_at(
     circuit: &[u8],
-    table: &[u32; 513],
-    rows: &[u32],
+    table: &[u32],
+    starts: &[u32],
+    signals: &[u16],
+    coefs: &[u32],
+    constants: &[u32],
     bounds: &[u32],
-    p: u32,
-    n: u32,
+    sizes: Sizes,
     k: u32,
 ) -> u64
-    requires { ⌜ BoundsOf (now circuit) (now table) (now bounds) p n × (1 ≤ k) × (k ≤ circuitOf (now circuit) .m)
-        × Rows (circuitOf (now circuit)) (now rows) ⌝ }
-    ensures { λ r. ⌜ IsKey (circuitOf (now (circuit .entry))) (withBounds (circuitOf (now (circuit .entry))) (now (bounds .entry))) k r ⌝ }
+    requires { ⌜ Prepared (now circuit) (now table) (now starts) (now signals) (now coefs) (now constants) sizes
+        × Place (circuitOf (now circuit)) k × (circuitOf (now circuit) .n < length (now bounds)) ⌝ }
+    ensures { λ r. ⌜ IsKey (circuitOf (now (circuit .entry)) .p) (circuitOf (now (circuit .entry)) .n)
+        (constraintAt (circuitOf (now (circuit .entry))) k) (boundIn (sizes .p) (now (bounds .entry))) r ⌝ }
 {
-    let part = part_of(circuit, table, k);
-    if !is_linear(part) {
-        let nothing = [false; 1];
-        let t = unmarked_in(part, &nothing);
-        if t == 0 {
-            return NONE;
-        }
-        if !root_met(part, t) {
-            return NONE;
-        }
-        let bound = root_bound(part, p, t);
-        if bounds[t as usize] <= bound {
-            return NONE;
-        }
-        return key_of(bound, t, 1);
-    }
-    let t = only_free(signals_of(rows, n, k), bounds, p);
-    if t == 0 {
-        return NONE;
-    }
-    let bound = sum_bound(row_of(rows, n, k), bounds, n, p, t);
-    if p as u64 - 1 <= bound {
-        return NONE;
-    }
-    key_of(bound as u32, t, 2)
+    key_by(
+        part_of(circuit, table, k),
+        signals_of(starts, signals, k),
+        coefs_of(starts, coefs, k),
+        constants[k as usize],
+        bounds,
+        sizes.p,
+        sizes.n,
+    )
 }
 
-// Finds the keys that are not known.
-fn refresh(
+// Finds the keys that are not known, and the first constraint with the least key; 0 where none has one.
+fn next_key(
     circuit: &[u8],
-    table: &[u32; 513],
-    rows: &[u32],
+    table: &[u32],
+    starts: &[u32],
+    signals: &[u16],
+    coefs: &[u32],
+    constants: &[u32],
     bounds: &[u32],
     keys: &mut [u64],
-    p: u32,
-    n: u32,
-    m: u32,
-)
-    requires { ⌜ BoundsOf (now circuit) (now table) (now bounds) p n × (m ≡ circuitOf (now circuit) .m) × (m < length (now keys))
-        × SomeKeys (circuitOf (now circuit)) (withBounds (circuitOf (now circuit)) (now bounds)) (now keys)
-        × Rows (circuitOf (now circuit)) (now rows) ⌝ }
-    ensures { λ r. ⌜ Keys (circuitOf (now (circuit .entry))) (withBounds (circuitOf (now (circuit .entry))) (now (bounds .entry)))
-        (now (keys .exit)) ⌝ }
+    sizes: Sizes,
+) -> u32
+    requires { ⌜ Prepared (now circuit) (now table) (now starts) (now signals) (now coefs) (now constants) sizes
+        × SomeKeys (circuitOf (now circuit)) (boundIn (sizes .p) (now bounds)) (now keys) × Room (circuitOf (now circuit)) (now keys) (now bounds) ⌝ }
+    ensures { λ r. ⌜ Keys (circuitOf (now (circuit .entry))) (boundIn (sizes .p) (now (bounds .entry))) (now (keys .exit))
+        × Least (now (keys .exit)) (circuitOf (now (circuit .entry)) .m) r ⌝ }
 {
+    let mut r: u32 = 0;
+    let mut lowest: u64 = NO_KEY;
     let mut k: u32 = 0;
-    while k < m {
+    while k < sizes.m {
         k = k + 1;
-        if keys[k as usize] == 0 {
-            keys[k as usize] = candidate(circuit, table, rows, bounds, p, n, k);
+        let known = keys[k as usize];
+        if known == 0 {
+            let key = key_at(
+                circuit,
+                table,
+                starts,
+                signals,
+                coefs,
+                constants,
+                bounds,
+                sizes,
+                k,
+            );
+            keys[k as usize] = key;
+            if key < lowest {
+                r = k;
+                lowest = key;
+            }
+        } else if known < lowest {
+            r = k;
+            lowest = known;
         }
     }
+    r
 }
 
-// Lowers bounds until no step lowers any, writes the steps and counts them.
+// The target of the step with this key.
+fn target_in(key: u64) -> u16
+    ensures { λ r. ⌜ r ≡ key / 8 % 65536 ⌝ }
+{
+    (key / 8 % 65536) as u16
+}
+
+// The kind of the step with this key.
+fn kind_in(key: u64) -> Kind
+    ensures { λ r. ⌜ kindOf r ≡ cond (eqb (key % 8) 1) laws.Root laws.Sum ⌝ }
+{
+    if key % 8 == 1 { Kind::Root } else { Kind::Sum }
+}
+
+// Lowers bounds until no step lowers any, and writes the steps.
 pub(crate) fn lower_bounds(
     circuit: &[u8],
-    table: &[u32; 513],
-    rows: &[u32],
-    bounds: &mut [u32],
+    table: &[u32],
+    starts: &[u32],
+    signals: &[u16],
+    coefs: &[u32],
+    constants: &[u32],
+    lasts: &[u16],
+    befores: &[u16],
+    owners: &[u16],
+    first: Standing,
     output: &mut [u8],
-    p: u32,
-    n: u32,
-    m: u32,
-) -> u32
-    requires { ⌜ BoundsOf (now circuit) (now table) (now bounds) p n × (m ≡ circuitOf (now circuit) .m)
-        × (withBounds (circuitOf (now circuit)) (now bounds) ≡ start (circuitOf (now circuit))) × (7 + 14 * n ≤ length (now output))
-        × Rows (circuitOf (now circuit)) (now rows) ⌝ }
-    ensures { λ r. ⌜ Lowered (now (circuit .entry)) (now (bounds .exit)) (now (output .entry)) (now (output .exit)) r ⌝ }
+    sizes: Sizes,
+) -> Bounded
+    requires { ⌜ Prepared (now circuit) (now table) (now starts) (now signals) (now coefs) (now constants) sizes
+        × Links (sizes .n) (sizes .m) (now starts) (now signals) (now lasts) (now befores) (now owners) ⌝ }
+    ensures { λ r. ⌜ ((f : ℕ → ℕ) → Lowered (given (circuitOf (now (circuit .entry))) f) (view (sizes .p) first) (view (sizes .p) (r .standing))
+        (now (output .entry)) (now (output .exit)) (r .count)) ⌝ }
 {
+    let mut standing = first;
     let mut keys = [0u64; 513];
-    keys[0] = NONE;
+    keys[0] = NO_KEY;
     let mut count: u32 = 0;
-    while count < n {
-        refresh(circuit, table, rows, bounds, &mut keys, p, n, m);
-        let k = least(&keys, m);
+    while count < sizes.n {
+        let k = next_key(
+            circuit,
+            table,
+            starts,
+            signals,
+            coefs,
+            constants,
+            &standing.bounds,
+            &mut keys,
+            sizes,
+        );
         if k == 0 {
-            return count;
+            return Bounded { standing, count };
         }
         let key = keys[k as usize];
-        let target = (key / 4 % 512) as u32;
-        put_step(output, count, (key % 4) as u32, target, k, 0);
-        bounds[target as usize] = (key / 4 / 512) as u32;
-        forget(rows, &mut keys, n, m, target);
+        let target = target_in(key);
+        let kind = kind_in(key);
+        put_step(output, count, kind, target, k as u16, 0);
+        let part = part_of(circuit, table, k);
+        let outcome = standing.step(kind, part, sizes.n, sizes.p, target as u32, 0);
+        standing = outcome.next;
+        forget(lasts, befores, owners, &mut keys, target as u32);
         count = count + 1;
     }
-    count
+    Bounded { standing, count }
 }

@@ -1,25 +1,38 @@
-// The solver call: the circuit and the buffer first, then the two phases, then the header and the answer.
+// The solver call: the circuit and the buffer first, then the table of rows and the two phases, then the header and the answer.
 
 use crate::answer::SolverAnswer;
 use crate::bounds::lower_bounds;
+use crate::marks::Phase;
 use crate::marks::add_marks;
-use crate::output::put_header;
 use crate::rows::fill_rows;
+use circuit::offsets::offsets;
 use circuit::reader::CircuitAnswer;
+use circuit::reader::Sizes;
 use circuit::reader::check_circuit;
 use derivation::marks::verdict_of;
-use derivation::offsets::offsets;
+use derivation::writer::put_header;
 use rules::standing::Standing;
 use rules::view::mark_at;
 ghost use mathlib.Core.Path.{_≡_};
-ghost use Prim.Native.Nat.{_+_, _*_, _≤_};
+ghost use Prim.Native.Nat.{ℕ, _+_, _*_, _≤_};
 ghost use lib.ListN.{length};
+ghost use Rattle.circuit.specs.Call.{circuitOf, Sized};
+ghost use Rattle.laws.specs.Problem.{given};
 ghost use Rattle.rules.specs.View.{markIn};
+ghost use Rattle.rules.specs.Promise.{view};
 ghost use Rattle.derivation.specs.Call.{marksFrom, total};
-ghost use Rattle.derivation.specs.Inner.{circuitOf, Sized};
 ghost use Rattle.solver.specs.Answer.{paperOf};
 ghost use Rattle.solver.specs.Call.{solverCall, solverOutput};
 ghost use Rattle.solver.specs.Demand.{Demand};
+ghost use Rattle.solver.specs.Rows.{Links};
+ghost use Rattle.solver.specs.Filling.{Entries};
+ghost use Rattle.solver.specs.Bounds.{Prepared};
+ghost use Rattle.solver.specs.Choice.{Taken};
+
+// Entries that the rows of the largest file may have, a term taking six bytes, and those of a small one.
+const MOST_ENTRIES: usize = 9998;
+
+const FEW_ENTRIES: usize = 512;
 
 // How many of the signals 1 to n are marked.
 fn count_marks(marks: &[bool], n: u32) -> u32
@@ -36,86 +49,173 @@ fn count_marks(marks: &[bool], n: u32) -> u32
     count
 }
 
-// The call on a circuit that isn't refused and a buffer that is long enough, with room for the table of rows.
+// The bounds phase, then the marks phase. Steps are written as they are found.
+fn take_phases(
+    circuit: &[u8],
+    table: &[u32],
+    starts: &[u32],
+    signals: &[u16],
+    coefs: &[u32],
+    constants: &[u32],
+    lasts: &[u16],
+    befores: &[u16],
+    owners: &[u16],
+    first: Standing,
+    output: &mut [u8],
+    sizes: Sizes,
+) -> Phase
+    requires { ⌜ Prepared (now circuit) (now table) (now starts) (now signals) (now coefs) (now constants) sizes
+        × Links (sizes .n) (sizes .m) (now starts) (now signals) (now lasts) (now befores) (now owners) ⌝ }
+    ensures { λ r. ⌜ ((f : ℕ → ℕ) → Taken (given (circuitOf (now (circuit .entry))) f) (view (sizes .p) first) (view (sizes .p) (r .standing))
+        (now (output .entry)) (now (output .exit)) (r .count)) ⌝ }
+{
+    let lowered = lower_bounds(
+        circuit,
+        table,
+        starts,
+        signals,
+        coefs,
+        constants,
+        lasts,
+        befores,
+        owners,
+        first,
+        output,
+        sizes,
+    );
+    let bounded = lowered.standing;
+    let base = lowered.count;
+    add_marks(
+        circuit,
+        table,
+        starts,
+        signals,
+        coefs,
+        lasts,
+        befores,
+        owners,
+        bounded,
+        output,
+        sizes.p,
+        sizes.n,
+        sizes.m,
+        base,
+    )
+}
+
+// The call on a circuit that isn't refused and a buffer that is long enough, with room for the entries of the rows. After 25 the answer is
+// certain, so steps are written as they are found, the header last.
 fn solve_with(
     circuit: &[u8],
-    rows: &mut [u32],
+    signals: &mut [u16],
+    coefs: &mut [u32],
+    befores: &mut [u16],
+    owners: &mut [u16],
     output: &mut [u8],
-    p: u32,
-    n: u32,
-    i: u32,
-    o: u32,
-    m: u32,
+    sizes: Sizes,
 ) -> SolverAnswer
-    requires { ⌜ Sized (now circuit) p n m × (i ≡ circuitOf (now circuit) .i) × (o ≡ circuitOf (now circuit) .o)
-        × (7 + 14 * n ≤ length (now output)) × ((m + 1) * (2 * (n + 1)) ≤ length (now rows)) ⌝ }
+    requires { ⌜ Sized (now circuit) sizes × Entries (length (now circuit)) (now signals) (now coefs) (now befores) (now owners)
+        × (7 + 14 * sizes .n ≤ length (now output)) ⌝ }
     ensures { λ r. ⌜ paperOf r ≡ solverCall (now (circuit .entry)) (length (now (output .entry))) ⌝ }
     ensures { λ r. ⌜ now (output .exit) ≡ solverOutput (now (circuit .entry)) (now (output .entry)) ⌝ }
 {
-    let table = offsets(circuit, m);
-    fill_rows(circuit, &table, rows, p, n, m);
-    let first = Standing::start(p, i);
-    let mut bounds = first.bounds;
-    let mut marks = first.marks;
-    let base = lower_bounds(circuit, &table, rows, &mut bounds, output, p, n, m);
-    let steps = add_marks(
+    let table = offsets(circuit, sizes.m);
+    let mut starts = [0u32; 514];
+    let mut constants = [0u32; 513];
+    let mut lasts = [0u16; 257];
+    fill_rows(
         circuit,
         &table,
-        rows,
-        &bounds,
-        &mut marks,
-        output,
-        p,
-        n,
-        m,
-        base,
+        &mut starts,
+        signals,
+        coefs,
+        &mut constants,
+        &mut lasts,
+        befores,
+        owners,
+        sizes,
     );
-    put_header(output, steps);
+    let first = Standing::start(sizes.p, sizes.i);
+    let phase = take_phases(
+        circuit,
+        &table,
+        &starts,
+        signals,
+        coefs,
+        &constants,
+        &lasts,
+        befores,
+        owners,
+        first,
+        output,
+        sizes,
+    );
+    let last = phase.standing;
+    let marks = last.marks;
+    let steps = phase.count;
+    put_header(output, steps as u16);
     SolverAnswer::Solved {
-        count: count_marks(&marks, n),
-        verdict: verdict_of(&marks, i, o),
-        length: 7 + 7 * (steps as usize),
+        count: count_marks(&marks, sizes.n),
+        verdict: verdict_of(&marks, sizes.i, sizes.o),
+        bytes: 7 + 7 * (steps as usize),
     }
 }
 
-// The call on a circuit that isn't refused. After 25 the answer is certain, so steps are written as they are found, the header last.
-// A small circuit gets a small table, since the zeros of a large one take longer than its steps.
-fn solve_on(
-    circuit: &[u8],
-    output: &mut [u8],
-    p: u32,
-    n: u32,
-    i: u32,
-    o: u32,
-    m: u32,
-) -> SolverAnswer
-    requires { ⌜ Sized (now circuit) p n m × (i ≡ circuitOf (now circuit) .i) × (o ≡ circuitOf (now circuit) .o) ⌝ }
+// The call on a circuit that isn't refused. A small file gets small arrays, since clearing large ones takes longer than solving it.
+fn solve_on(circuit: &[u8], output: &mut [u8], sizes: Sizes) -> SolverAnswer
+    requires { ⌜ Sized (now circuit) sizes ⌝ }
     ensures { λ r. ⌜ paperOf r ≡ solverCall (now (circuit .entry)) (length (now (output .entry))) ⌝ }
     ensures { λ r. ⌜ now (output .exit) ≡ solverOutput (now (circuit .entry)) (now (output .entry)) ⌝ }
 {
-    if output.len() < 7 + 14 * (n as usize) {
+    if output.len() < 7 + 14 * (sizes.n as usize) {
         return SolverAnswer::Refused {
             number: 25,
             place: 0,
         };
     }
-    if (m as usize + 1) * (2 * (n as usize + 1)) <= 4096 {
-        let mut few = [0u32; 4096];
-        return solve_with(circuit, &mut few, output, p, n, i, o, m);
+    if circuit.len() <= 17 + 6 * FEW_ENTRIES {
+        let mut signals = [0u16; FEW_ENTRIES];
+        let mut coefs = [0u32; FEW_ENTRIES];
+        let mut befores = [0u16; FEW_ENTRIES];
+        let mut owners = [0u16; FEW_ENTRIES];
+        return solve_with(
+            circuit,
+            &mut signals,
+            &mut coefs,
+            &mut befores,
+            &mut owners,
+            output,
+            sizes,
+        );
     }
-    let mut rows = [0u32; 263682];
-    solve_with(circuit, &mut rows, output, p, n, i, o, m)
+    let mut signals = [0u16; MOST_ENTRIES];
+    let mut coefs = [0u32; MOST_ENTRIES];
+    let mut befores = [0u16; MOST_ENTRIES];
+    let mut owners = [0u16; MOST_ENTRIES];
+    solve_with(
+        circuit,
+        &mut signals,
+        &mut coefs,
+        &mut befores,
+        &mut owners,
+        output,
+        sizes,
+    )
 }
 
 // The solver call: refusals 1 to 10 and 25, or the best derivation written and what it marks.
 pub fn solve(circuit: &[u8], output: &mut [u8]) -> SolverAnswer
     ensures answer { λ r. ⌜ paperOf r ≡ solverCall (now (circuit .entry)) (length (now (output .entry))) ⌝ }
     ensures written { λ r. ⌜ now (output .exit) ≡ solverOutput (now (circuit .entry)) (now (output .entry)) ⌝ }
-    ensures demand { λ r. ⌜ Demand (now (circuit .entry)) (now (output .entry)) ⌝ }
+    ensures demand { λ r. ⌜ Demand (now (circuit .entry)) (now (output .entry)) (paperOf r) (now (output .exit)) ⌝ }
 {
     let answer = check_circuit(circuit);
     match answer {
         CircuitAnswer::Refused { number, place } => SolverAnswer::Refused { number, place },
-        CircuitAnswer::Sizes { p, n, i, o, m } => solve_on(circuit, output, p, n, i, o, m),
+        CircuitAnswer::Sizes { p, n, i, o, m } => solve_on(
+            circuit,
+            output,
+            Sizes { p, n, i, o, m },
+        ),
     }
 }

@@ -1,122 +1,144 @@
 // Floors: below the floor of a constraint no step by it marks an unmarked signal. They are searched as far as the next mark asks.
 
-use crate::references::first_live;
-use crate::references::has_equals;
+use crate::live::first_live;
+use crate::live::gather;
+use crate::live::is_crowded;
 use crate::references::has_reference;
-use crate::references::is_crowded;
-use crate::rows::row_of;
+use crate::rows::coefs_of;
 use crate::rows::signals_of;
 use crate::search::unmarked_in;
+use circuit::offsets::part_of;
 use circuit::reader::after_form;
-use derivation::offsets::part_of;
 use rules::constraint::is_linear;
 use rules::constraint::product_met;
 ghost use mathlib.Core.Path.{_≡_};
 ghost use Prim.Native.Nat.{ℕ, _≤_, _<_};
 ghost use lib.ListN.{length};
-ghost use Rattle.rules.specs.View.{viewOf};
-ghost use Rattle.derivation.specs.Inner.{circuitOf};
-ghost use Rattle.solver.specs.Marks.{withMarks, IsFloor, Floors, AtMost, FirstZero, StandingOf};
-ghost use Rattle.solver.specs.Rows.{Rows};
-ghost use Rattle.solver.specs.Search.{Prepared};
+ghost use Rattle.field.specs.Prime.{Prime};
+ghost use Rattle.circuit.specs.Reader.{constraintIn};
+ghost use Rattle.rules.specs.View.{boundIn, markIn};
+ghost use Rattle.circuit.specs.Call.{circuitOf};
+ghost use Rattle.solver.specs.Rows.{at, Row};
+ghost use Rattle.solver.specs.Live.{Readable, Bounded};
+ghost use Rattle.solver.specs.Marks.{IsFloor, Floors, AtMost, Standing, Within};
 
 // A floor above all signals: the constraint marks nothing.
 const NONE: u64 = 0xffff_ffff_ffff_ffff;
 
-// A number at most the lowest unmarked signal that a step by constraint k marks: where k is linear, its lowest unmarked signal.
-fn low_of(circuit: &[u8], table: &[u32; 513], rows: &[u32], marks: &[bool], n: u32, k: u32) -> u64
-    requires { ⌜ Prepared (now circuit) (now table) × Rows (circuitOf (now circuit)) (now rows) × (n ≡ circuitOf (now circuit) .n)
-        × (length (now marks) ≡ 257) × (1 ≤ k) × (k ≤ circuitOf (now circuit) .m) ⌝ }
-    ensures { λ r. ⌜ ((b : ℕ → ℕ) → IsFloor (circuitOf (now (circuit .entry))) (withMarks b (now (marks .entry))) k r) ⌝ }
+// A constraint's floor, and whether it is loose: it may be raised still, to none, where no reference separates the unmarked signals.
+struct Floor {
+    floor: u64,
+    is_loose: bool,
+}
+
+// A loose floor: the lowest unmarked signal of a linear constraint, the target of the product step by another.
+fn low_of(part: &[u8], signals: &[u16], coefs: &[u32], marks: &[bool]) -> u64
+    requires { ⌜ Readable (now signals) (now coefs) (now marks) ⌝ }
+    ensures { λ r. ⌜ ((p n : ℕ) (b : ℕ → ℕ) → 0 < p → Row p n (constraintIn (now (part .entry))) (now (signals .entry)) (now (coefs .entry))
+        → IsFloor p n (constraintIn (now (part .entry))) b (markIn (now (marks .entry))) r) ⌝ }
 {
-    let part = part_of(circuit, table, k);
-    if !is_linear(part) {
-        let b = after_form(part);
-        let t = unmarked_in(after_form(b), marks);
+    if is_linear(part) {
+        let t = first_live(signals, coefs, marks);
         if t == 0 {
-            return NONE;
-        }
-        if !product_met(part, marks, t) {
             return NONE;
         }
         return t as u64;
     }
-    let t = first_live(signals_of(rows, n, k), marks);
+    let b = after_form(part);
+    let t = unmarked_in(after_form(b), marks);
     if t == 0 {
+        return NONE;
+    }
+    if !product_met(part, marks, t) {
         return NONE;
     }
     t as u64
 }
 
-// The floor `low` of constraint k, or none where it's loose, k is linear, and no digits step by k is met.
-fn floor_of<'a>(
-    circuit: &[u8],
-    table: &[u32; 513],
-    rows: &[u32],
+// The floor that is known, else a loose one.
+fn known_or_low(part: &[u8], signals: &[u16], coefs: &[u32], marks: &[bool], known: u64) -> u64
+    requires { ⌜ Readable (now signals) (now coefs) (now marks) ⌝ }
+    ensures { λ r. ⌜ ((p n : ℕ) (b : ℕ → ℕ) → 0 < p → Row p n (constraintIn (now (part .entry))) (now (signals .entry)) (now (coefs .entry))
+        → IsFloor p n (constraintIn (now (part .entry))) b (markIn (now (marks .entry))) known
+        → IsFloor p n (constraintIn (now (part .entry))) b (markIn (now (marks .entry))) r) ⌝ }
+{
+    if known != 0 {
+        return known;
+    }
+    low_of(part, signals, coefs, marks)
+}
+
+// The floor `low`, or none where the constraint is linear and no digits step by it is met.
+fn raised<'a>(
+    part: &[u8],
+    signals: &[u16],
+    coefs: &[u32],
     bounds: &'a [u32],
     marks: &'a [bool],
     p: u32,
-    n: u32,
-    k: u32,
     low: u64,
-    is_loose: bool,
 ) -> u64
-    requires { ⌜ StandingOf (now circuit) (now table) (now bounds) (now marks) p n × (1 ≤ k) × (k ≤ circuitOf (now circuit) .m)
-        × IsFloor (circuitOf (now circuit)) (viewOf p (now bounds) (now marks)) k low
-        × Rows (circuitOf (now circuit)) (now rows) ⌝ }
-    ensures { λ r. ⌜ IsFloor (circuitOf (now (circuit .entry))) (viewOf p (now (bounds .entry)) (now (marks .entry))) k r ⌝ }
+    requires { ⌜ Readable (now signals) (now coefs) (now marks) × Bounded (now signals) (now bounds) × (0 < p) ⌝ }
+    ensures { λ r. ⌜ ((n : ℕ) → Prime p → Row p n (constraintIn (now (part .entry))) (now (signals .entry)) (now (coefs .entry))
+        → IsFloor p n (constraintIn (now (part .entry))) (boundIn p (now (bounds .entry))) (markIn (now (marks .entry))) low
+        → IsFloor p n (constraintIn (now (part .entry))) (boundIn p (now (bounds .entry))) (markIn (now (marks .entry))) r) ⌝ }
 {
-    if !is_loose {
-        return low;
-    }
-    let part = part_of(circuit, table, k);
     if !is_linear(part) {
         return low;
     }
-    let signals = signals_of(rows, n, k);
-    if is_crowded(signals, bounds, marks, p) {
+    if is_crowded(signals, coefs, bounds, marks, p) {
         return NONE;
     }
-    let form = row_of(rows, n, k);
-    if has_equals(form, signals, marks) {
+    let live = gather(signals, coefs, bounds, marks);
+    if !live.differ {
         return NONE;
     }
-    if !has_reference(form, signals, bounds, marks, n, p) {
-        return NONE;
+    if has_reference(
+        coefs,
+        &live.coefs,
+        &live.bounds,
+        live.few,
+        &live.zeros,
+        live.rest,
+        p,
+    ) {
+        return low;
     }
-    low
+    NONE
 }
 
-// Finds the floors that are not known, as loose ones.
-fn fill_floors(
-    circuit: &[u8],
-    table: &[u32; 513],
-    rows: &[u32],
-    marks: &[bool],
-    floors: &mut [u64],
-    loose: &mut [bool],
-    n: u32,
-    m: u32,
-)
-    requires { ⌜ Prepared (now circuit) (now table) × Rows (circuitOf (now circuit)) (now rows) × (n ≡ circuitOf (now circuit) .n)
-        × (length (now marks) ≡ 257) × (m ≡ circuitOf (now circuit) .m) × (m < length (now floors)) × (m < length (now loose)) ⌝ }
-    ensures { λ r. ⌜ ((b : ℕ → ℕ) → Floors (circuitOf (now (circuit .entry))) (withMarks b (now (marks .entry))) (now (floors .entry))
-        → Floors (circuitOf (now (circuit .entry))) (withMarks b (now (marks .entry))) (now (floors .exit))) ⌝ }
+// The floor that is known, 0 where none is, found or raised where it is below `lowest`.
+fn floor_of<'a>(
+    part: &[u8],
+    signals: &[u16],
+    coefs: &[u32],
+    bounds: &'a [u32],
+    marks: &'a [bool],
+    p: u32,
+    known: u64,
+    lowest: u64,
+) -> Floor
+    requires { ⌜ Readable (now signals) (now coefs) (now marks) × Bounded (now signals) (now bounds) × (0 < p) ⌝ }
+    ensures { λ r. ⌜ ((n : ℕ) → Prime p → Row p n (constraintIn (now (part .entry))) (now (signals .entry)) (now (coefs .entry))
+        → IsFloor p n (constraintIn (now (part .entry))) (boundIn p (now (bounds .entry))) (markIn (now (marks .entry))) known
+        → IsFloor p n (constraintIn (now (part .entry))) (boundIn p (now (bounds .entry))) (markIn (now (marks .entry))) (r .floor)) ⌝ }
 {
-    let mut k: u32 = 0;
-    while k < m {
-        k = k + 1;
-        if floors[k as usize] == 0 {
-            floors[k as usize] = low_of(circuit, table, rows, marks, n, k);
-            loose[k as usize] = true;
-        }
+    let low = known_or_low(part, signals, coefs, marks, known);
+    if lowest <= low {
+        return Floor {
+            floor: low,
+            is_loose: true,
+        };
+    }
+    Floor {
+        floor: raised(part, signals, coefs, bounds, marks, p, low),
+        is_loose: false,
     }
 }
 
-// The lowest unmarked signal with bound 0, n + 1 where there is none.
-fn first_zero<'a>(bounds: &'a [u32], marks: &'a [bool], n: u32) -> u32
-    requires { ⌜ (n < length (now bounds)) × (n < length (now marks)) × (n ≤ 256) ⌝ }
-    ensures { λ r. ⌜ ((p : ℕ) → FirstZero (viewOf p (now (bounds .entry)) (now (marks .entry))) n r) ⌝ }
+// The lowest unmarked signal with bound 0, n + 1 where there is none. Only speed rests on it.
+fn first_zero<'a>(bounds: &'a [u32], marks: &'a [bool], n: u32) -> u64
+    requires { ⌜ (n < length (now bounds)) × (n < length (now marks)) ⌝ }
 {
     let mut s: u32 = 0;
     while s < n {
@@ -124,18 +146,72 @@ fn first_zero<'a>(bounds: &'a [u32], marks: &'a [bool], n: u32) -> u32
         let at = s as usize;
         if bounds[at] == 0 {
             if !marks[at] {
-                return s;
+                return s as u64;
             }
         }
     }
-    n + 1
+    n as u64 + 1
 }
 
-// The lowest of the floors and the lowest target of a zero step. A loose floor is raised only where it is below what was found before.
+// Whether a floor is to be found or raised: it isn't known, or it's loose and below `lowest`. Only speed rests on it.
+fn is_due(floor: u64, is_loose: bool, lowest: u64) -> bool {
+    if floor == 0 {
+        return true;
+    }
+    if !is_loose {
+        return false;
+    }
+    floor < lowest
+}
+
+// Finds or raises the floor of constraint k, where it is due.
+fn refresh<'a>(
+    circuit: &[u8],
+    table: &[u32],
+    starts: &[u32],
+    signals: &[u16],
+    coefs: &[u32],
+    bounds: &'a [u32],
+    marks: &'a [bool],
+    floors: &mut [u64],
+    loose: &mut [bool],
+    p: u32,
+    n: u32,
+    m: u32,
+    k: u32,
+    lowest: u64,
+)
+    requires { ⌜ Standing (now circuit) (now table) (now starts) (now signals) (now coefs) (now bounds) (now marks) p n m × Within k m (now loose)
+        × Floors (circuitOf (now circuit)) (boundIn p (now bounds)) (markIn (now marks)) (now floors) ⌝ }
+    ensures { λ r. ⌜ Floors (circuitOf (now (circuit .entry))) (boundIn p (now (bounds .entry))) (markIn (now (marks .entry))) (now (floors .exit))
+        × ((j : ℕ) → (j ≡ k → ⊥) → at (now (floors .exit)) j ≡ at (now (floors .entry)) j) ⌝ }
+{
+    let place = k as usize;
+    let known = floors[place];
+    if !is_due(known, loose[place], lowest) {
+        return;
+    }
+    let part = part_of(circuit, table, k);
+    let row = signals_of(starts, signals, k);
+    let list = coefs_of(starts, coefs, k);
+    let floor = floor_of(part, row, list, bounds, marks, p, known, lowest);
+    floors[place] = floor.floor;
+    loose[place] = floor.is_loose;
+}
+
+fn lesser(a: u64, b: u64) -> u64
+    ensures { λ r. ⌜ (r ≤ a) × (r ≤ b) ⌝ }
+{
+    if a < b { a } else { b }
+}
+
+// The lowest of the floors and of the targets of zero steps. A loose floor is raised only where it is below what was found before.
 pub(crate) fn raise_floors<'a>(
     circuit: &[u8],
-    table: &[u32; 513],
-    rows: &[u32],
+    table: &[u32],
+    starts: &[u32],
+    signals: &[u16],
+    coefs: &[u32],
     bounds: &'a [u32],
     marks: &'a [bool],
     floors: &mut [u64],
@@ -144,28 +220,33 @@ pub(crate) fn raise_floors<'a>(
     n: u32,
     m: u32,
 ) -> u64
-    requires { ⌜ StandingOf (now circuit) (now table) (now bounds) (now marks) p n × (m ≡ circuitOf (now circuit) .m)
-        × (m < length (now floors)) × (m < length (now loose))
-        × Floors (circuitOf (now circuit)) (viewOf p (now bounds) (now marks)) (now floors)
-        × Rows (circuitOf (now circuit)) (now rows) ⌝ }
-    ensures { λ r. ⌜ Floors (circuitOf (now (circuit .entry))) (viewOf p (now (bounds .entry)) (now (marks .entry))) (now (floors .exit))
+    requires { ⌜ Standing (now circuit) (now table) (now starts) (now signals) (now coefs) (now bounds) (now marks) p n m × (m < length (now loose))
+        × Floors (circuitOf (now circuit)) (boundIn p (now bounds)) (markIn (now marks)) (now floors) ⌝ }
+    ensures { λ r. ⌜ Floors (circuitOf (now (circuit .entry))) (boundIn p (now (bounds .entry))) (markIn (now (marks .entry))) (now (floors .exit))
         × AtMost (now (floors .exit)) m r ⌝ }
 {
-    fill_floors(circuit, table, rows, marks, floors, loose, n, m);
-    let mut lowest = first_zero(bounds, marks, n) as u64;
+    let mut lowest = first_zero(bounds, marks, n);
     let mut k: u32 = 0;
     while k < m {
         k = k + 1;
-        let at = k as usize;
-        let low = floors[at];
-        if low < lowest {
-            let floor = floor_of(circuit, table, rows, bounds, marks, p, n, k, low, loose[at]);
-            floors[at] = floor;
-            loose[at] = false;
-            if floor < lowest {
-                lowest = floor;
-            }
-        }
+        refresh(
+            circuit,
+            table,
+            starts,
+            signals,
+            coefs,
+            bounds,
+            marks,
+            floors,
+            loose,
+            p,
+            n,
+            m,
+            k,
+            lowest,
+        );
+        let floor = floors[k as usize];
+        lowest = lesser(lowest, floor);
     }
     lowest
 }

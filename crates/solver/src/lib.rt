@@ -1,12 +1,13 @@
-// The solver call: first bounds, then marks; the steps are written into the lent output buffer as a derivation.
+// The solver call: the table of rows, the two phases, and the whole.
 
 pub mod answer;
 mod bounds;
 pub mod call;
 mod floor;
+mod keys;
+mod live;
 mod marks;
-mod memo;
-mod output;
+mod memory;
 mod references;
 mod rows;
 mod search;

@@ -1,132 +1,212 @@
-// A table with a row for each constraint: its reduced form if it is linear, else what it names, and a list of the signals that stand in it.
+// The table of rows, made once per call: for each constraint the signals that it names with their coefficients in the reduced form, and for
+// each signal the entries that hold it.
 
 use circuit::bytes::byte_at;
 use circuit::bytes::u16_at;
+use circuit::offsets::part_of;
+use circuit::reader::Sizes;
 use circuit::reader::after_form;
-use derivation::offsets::part_of;
-use rules::constraint::is_linear;
 use rules::form::reduced_form;
 ghost use mathlib.Core.Path.{_≡_};
-ghost use mathlib.Core.Bool.{false};
 ghost use Prim.Native.Nat.{ℕ, _+_, _*_, _≤_, _<_};
 ghost use lib.ListN.{length};
-ghost use Rattle.circuit.specs.Reader.{formIn, constraintIn};
-ghost use Rattle.rules.specs.View.{coefIn};
-ghost use Rattle.derivation.specs.Inner.{circuitOf};
-ghost use Rattle.solver.specs.Search.{Prepared, involves};
-ghost use Rattle.solver.specs.Rows.{row, count, signals, IsRow, Rows, NamesAdded, Copied, Written};
+ghost use Rattle.circuit.specs.Reader.{signalsMost, formIn, constraintIn};
+ghost use Rattle.rules.specs.View.{coefIn, markIn};
+ghost use Rattle.solver.specs.Rows.{at, involves, entries, Inside, Rows, Links};
+ghost use Rattle.circuit.specs.Call.{circuitOf};
+ghost use Rattle.solver.specs.Filling.{countTo, NamesAdded, Put, Spread, Linkable, Linked, Prepared, Roomy, Unlinked, Filled};
 
-// The entries of row k.
-pub(crate) fn row_of(rows: &[u32], n: u32, k: u32) -> &[u32]
-    requires { ⌜ (k + 1) * (2 * (n + 1)) ≤ length (now rows) ⌝ }
-    ensures { λ r. ⌜ now r ≡ row (now (rows .entry)) n k ⌝ }
-{
-    let start = k as usize * (2 * (n as usize + 1));
-    &rows[start..start + (n as usize + 1)]
-}
-
-// The signals of row k.
-pub(crate) fn signals_of(rows: &[u32], n: u32, k: u32) -> &[u32]
-    requires { ⌜ ((k + 1) * (2 * (n + 1)) ≤ length (now rows)) × (count (now rows) n k ≤ n) ⌝ }
-    ensures { λ r. ⌜ now r ≡ signals (now (rows .entry)) n k ⌝ }
-{
-    let at = k as usize * (2 * (n as usize + 1)) + (n as usize + 1);
-    let count = rows[at] as usize;
-    &rows[at + 1..at + 1 + count]
-}
-
-// Puts 1 at each signal that the form at the start of the part names.
-fn add_names(form: &mut [u32], part: &[u8])
-    requires { ⌜ length (now form) ≡ 257 ⌝ }
-    ensures { λ r. ⌜ NamesAdded (formIn (now (part .entry))) (now (form .entry)) (now (form .exit)) ⌝ }
+// Sets each signal that the form at the start of the part names.
+fn add_names(named: &mut [bool], part: &[u8])
+    requires { ⌜ length (now named) ≤ 1 + signalsMost ⌝ }
+    ensures { λ r. ⌜ NamesAdded (formIn (now (part .entry))) (now (named .entry)) (now (named .exit)) ⌝ }
 {
     let mut left = byte_at(part, 0);
     let mut at: usize = 1;
     while 0 < left {
         let signal = u16_at(part, at) as usize;
-        if signal < 257 {
-            form[signal] = 1;
+        if signal < named.len() {
+            named[signal] = true;
         }
         at = at + 6;
         left = left - 1;
     }
 }
 
-// 1 at each signal that the constraint at the start of the part names.
-fn named_form(part: &[u8]) -> [u32; 257]
-    ensures { λ r. ⌜ ((s : ℕ) → s ≤ 256 → coefIn r s ≡ 0 → involves (constraintIn (now (part .entry))) s ≡ false) ⌝ }
+// Whether the constraint at the start of the part names each signal.
+fn names_of(part: &[u8]) -> [bool; 257]
+    ensures { λ r. ⌜ ((s : ℕ) → s ≤ signalsMost → markIn r s ≡ involves (constraintIn (now (part .entry))) s) ⌝ }
 {
-    let mut form = [0u32; 257];
-    add_names(&mut form, part);
+    let mut named = [false; 257];
+    add_names(&mut named, part);
     let b = after_form(part);
-    add_names(&mut form, b);
+    add_names(&mut named, b);
     let c = after_form(b);
-    add_names(&mut form, c);
-    form
+    add_names(&mut named, c);
+    named
 }
 
-// The entries of the row of the constraint at the start of the part, up to 256.
-fn form_of(part: &[u8], p: u32) -> [u32; 257]
-    requires { ⌜ 1 < p ⌝ }
-    ensures { λ r. ⌜ IsRow p 256 (constraintIn (now (part .entry))) (coefIn r) ⌝ }
+// Puts the signals of 1 to n that are named, and their coefficients, from `start` on. The end is answered.
+fn put_row(
+    signals: &mut [u16],
+    coefs: &mut [u32],
+    start: usize,
+    named: &[bool; 257],
+    form: &[u32; 257],
+    n: u32,
+) -> usize
+    requires { ⌜ (n ≤ signalsMost) × (start + countTo (markIn (now named)) n ≤ length (now signals))
+        × (start + countTo (markIn (now named)) n ≤ length (now coefs)) ⌝ }
+    ensures { λ r. ⌜ Put (now (named .entry)) (now (form .entry)) n start r (now (signals .entry)) (now (coefs .entry))
+        (now (signals .exit)) (now (coefs .exit)) ⌝ }
 {
-    if is_linear(part) {
-        return reduced_form(part, p);
-    }
-    named_form(part)
-}
-
-// Copies the entries 0 to n to the row that starts at `start`.
-fn put_row(rows: &mut [u32], start: usize, form: &[u32; 257], n: u32)
-    requires { ⌜ (start + (n + 1) ≤ length (now rows)) × (n ≤ 256) ⌝ }
-    ensures { λ r. ⌜ Copied (now (form .entry)) (now (rows .entry)) start (n + 1) (now (rows .exit)) ⌝ }
-{
-    let width = n as usize + 1;
-    let mut s: usize = 0;
-    while s < width {
-        rows[start + s] = form[s];
-        s = s + 1;
-    }
-}
-
-// Writes at a place how many signals the form has among 1 to n, and after it the signals.
-fn put_signals(rows: &mut [u32], at: usize, form: &[u32; 257], n: u32)
-    requires { ⌜ (at + (n + 1) ≤ length (now rows)) × (n ≤ 256) ⌝ }
-    ensures { λ r. ⌜ Written (now (form .entry)) (now (rows .entry)) at n (now (rows .exit)) ⌝ }
-{
-    let mut count: usize = 0;
+    let mut end = start;
     let mut s: u32 = 0;
     while s < n {
         s = s + 1;
-        if form[s as usize] != 0 {
-            count = count + 1;
-            rows[at + count] = s;
+        if named[s as usize] {
+            signals[end] = s as u16;
+            coefs[end] = form[s as usize];
+            end = end + 1;
         }
     }
-    rows[at] = count as u32;
+    end
 }
 
-// Fills the table with the row of each constraint.
-pub(crate) fn fill_rows(
+// Writes x from start to end.
+fn spread(list: &mut [u16], start: usize, end: usize, x: u16)
+    requires { ⌜ end ≤ length (now list) ⌝ }
+    ensures { λ r. ⌜ Spread x start end (now (list .entry)) (now (list .exit)) ⌝ }
+{
+    let mut i = start;
+    while i < end {
+        list[i] = x;
+        i = i + 1;
+    }
+}
+
+// Fills the rows of all constraints.
+fn fill(
     circuit: &[u8],
     table: &[u32; 513],
-    rows: &mut [u32],
-    p: u32,
-    n: u32,
-    m: u32,
+    starts: &mut [u32],
+    signals: &mut [u16],
+    coefs: &mut [u32],
+    constants: &mut [u32],
+    owners: &mut [u16],
+    sizes: Sizes,
 )
-    requires { ⌜ Prepared (now circuit) (now table) × (p ≡ circuitOf (now circuit) .p) × (n ≡ circuitOf (now circuit) .n)
-        × (m ≡ circuitOf (now circuit) .m) × ((m + 1) * (2 * (n + 1)) ≤ length (now rows)) ⌝ }
-    ensures { λ r. ⌜ Rows (circuitOf (now (circuit .entry))) (now (rows .exit)) ⌝ }
+    requires { ⌜ Prepared (now circuit) (now table) sizes
+        × Roomy (length (now circuit)) (sizes .m) (now starts) (now signals) (now coefs) (now constants) (now owners)
+        × (at (now starts) 1 ≡ 0) ⌝ }
+    ensures filled { λ r. ⌜ Filled (circuitOf (now (circuit .entry))) (sizes .m) (now (starts .exit)) (now (signals .exit)) (now (coefs .exit))
+        (now (constants .exit)) (now (owners .exit)) ⌝ }
+    ensures few { λ r. ⌜ 17 + 6 * at (now (starts .exit)) (sizes .m + 1) ≤ length (now (circuit .entry)) ⌝ }
 {
-    let entries = n as usize + 1;
-    let mut start: usize = 0;
+    let n = sizes.n;
+    let m = sizes.m;
+    let mut end: usize = 0;
     let mut k: u32 = 0;
     while k < m {
         k = k + 1;
-        start = start + 2 * entries;
-        let form = form_of(part_of(circuit, table, k), p);
-        put_row(rows, start, &form, n);
-        put_signals(rows, start + entries, &form, n);
+        let place = k as usize;
+        let part = part_of(circuit, table, k);
+        let form = reduced_form(part, sizes.p);
+        let named = names_of(part);
+        let start = end;
+        end = put_row(signals, coefs, start, &named, &form, n);
+        spread(owners, start, end, k as u16);
+        constants[place] = form[0];
+        starts[place + 1] = end as u32;
     }
+}
+
+// A signal's place in an array.
+fn index(x: u16) -> usize
+    ensures { λ r. ⌜ (r ≡ x) × (r < 65536) ⌝ }
+{
+    x as usize
+}
+
+// Links each of the first `end` entries to the last one before it with the same signal.
+fn link(signals: &[u16], lasts: &mut [u16], befores: &mut [u16], end: usize, n: u32)
+    requires { ⌜ Linkable n end (now signals) (now lasts) (now befores) ⌝ }
+    ensures { λ r. ⌜ Linked n end (now (signals .entry)) (now (lasts .exit)) (now (befores .exit)) ⌝ }
+{
+    let mut e: usize = 0;
+    while e < end {
+        let s = index(signals[e]);
+        befores[e] = lasts[s];
+        e = e + 1;
+        lasts[s] = e as u16;
+    }
+}
+
+// Fills the rows of all constraints and links their entries.
+pub(crate) fn fill_rows(
+    circuit: &[u8],
+    table: &[u32; 513],
+    starts: &mut [u32],
+    signals: &mut [u16],
+    coefs: &mut [u32],
+    constants: &mut [u32],
+    lasts: &mut [u16],
+    befores: &mut [u16],
+    owners: &mut [u16],
+    sizes: Sizes,
+)
+    requires { ⌜ Prepared (now circuit) (now table) sizes
+        × Roomy (length (now circuit)) (sizes .m) (now starts) (now signals) (now coefs) (now constants) (now owners)
+        × Unlinked (sizes .n) (now starts) (now signals) (now lasts) (now befores) ⌝ }
+    ensures rows { λ r. ⌜ Rows (circuitOf (now (circuit .entry))) (now (starts .exit)) (now (signals .exit)) (now (coefs .exit))
+        (now (constants .exit)) ⌝ }
+    ensures links { λ r. ⌜ Links (sizes .n) (sizes .m) (now (starts .exit)) (now (signals .exit)) (now (lasts .exit)) (now (befores .exit))
+        (now (owners .exit)) ⌝ }
+{
+    fill(
+        circuit,
+        table,
+        starts,
+        signals,
+        coefs,
+        constants,
+        owners,
+        sizes,
+    );
+    let end = start_of(starts, sizes.m + 1);
+    link(signals, lasts, befores, end, sizes.n);
+}
+
+fn wide(x: u32) -> usize
+    ensures { λ r. ⌜ r ≡ x ⌝ }
+{
+    x as usize
+}
+
+// Where the entries of constraint k start.
+pub(crate) fn start_of(starts: &[u32], k: u32) -> usize
+    requires { ⌜ k < length (now starts) ⌝ }
+    ensures { λ r. ⌜ r ≡ at (now (starts .entry)) k ⌝ }
+{
+    wide(starts[k as usize])
+}
+
+// The signals of constraint k.
+pub(crate) fn signals_of<'a>(starts: &[u32], signals: &'a [u16], k: u32) -> &'a [u16]
+    requires { ⌜ Inside (now starts) (length (now signals)) k ⌝ }
+    ensures { λ r. ⌜ now r ≡ entries (now (starts .entry)) (now (signals .entry)) k ⌝ }
+{
+    let start = start_of(starts, k);
+    let end = start_of(starts, k + 1);
+    &signals[start..end]
+}
+
+// The coefficients of constraint k.
+pub(crate) fn coefs_of<'a>(starts: &[u32], coefs: &'a [u32], k: u32) -> &'a [u32]
+    requires { ⌜ Inside (now starts) (length (now coefs)) k ⌝ }
+    ensures { λ r. ⌜ now r ≡ entries (now (starts .entry)) (now (coefs .entry)) k ⌝ }
+{
+    let start = start_of(starts, k);
+    let end = start_of(starts, k + 1);
+    &coefs[start..end]
 }

@@ -1,166 +1,125 @@
 -- `solver::bounds::lower_bounds`: at each turn the steps so far, what is known of keys, and the bytes written.
-use Prim.Native.Nat.{_-_, _≤_}
-use mathlib.Core.Path.{_≡_, refl, sym, _∙_}
+use Prim.Native.Nat.{_-_}
+use mathlib.Core.Path.{_≡_, ap, _∙_}
+use native.Mathlib.Nat.{pos-of-ne-zero}
 use native.Mathlib.Omega.{arith}
-use borrow.Author.Needs.{needs}
-use lib.ListN.{length, length-set}
-use Rattle.solver.proofs.CandidateLaws.{sizes, few-constraints}
-use Rattle.solver.proofs.BoundsPhase.{no-keys}
-use Rattle.solver.proofs.RowLaws.{row-inside}
+use lib.ListN.{length}
+use Rattle.circuit.specs.Call.{circuitOf}
+use Rattle.circuit.specs.Reader.{constraintIn}
+use Rattle.circuit.proofs.OffsetLaws.{sized-part}
+use Rattle.rules.specs.Promise.{view}
+use Rattle.rules.specs.View.{viewOf}
 use Rattle.solver.proofs.BoundsTurn as laws
+use Rattle.solver.proofs.KeySearch.{no-keys}
+use borrow.Author.Needs.{needs}
 use Rattle.solver.proofs.bounds.lower_bounds.Statement.{statement}
 use Rattle.solver.proofs.bounds.lower_bounds.Tie as tie
 
 abbrev Inv-loop : tie.InvT-loop
-Inv-loop circuit table rows bounds₀ output₀ p n m keys₀ count₀ bounds output keys count =
-    (count ≤ n) × (length bounds ≡ 257) × (length keys ≡ 513) × (length output ≡ length output₀)
-    × laws.Turning circuit bounds keys output₀ output count
+Inv-loop circuit table starts signals coefs constants lasts befores owners output₀ sizes standing₀ keys₀ count₀ output standing keys count =
+    (length keys ≡ 513)
+    × laws.Turning (circuitOf circuit) (view (sizes .p) standing₀) (view (sizes .p) standing) keys output₀ output count
 
 abbrev μ-loop : tie.MeasureT-loop
-μ-loop circuit table rows bounds₀ output₀ p n m keys₀ count₀ bounds output keys count = n - count
+μ-loop circuit table starts signals coefs constants lasts befores owners output₀ sizes standing₀ keys₀ count₀ output standing keys count =
+    sizes .n - count
 
 loop-holds : tie.Need-loop-holds Inv-loop μ-loop
-loop-holds c =
-    let a = c .before .before .before .before in (
-      omega arith,
-      a .pre .0 .sized,
-      search needs,
-      refl,
-      laws.turning-start _ _ (a .pre .0 .prepared) _ _ _ (a .pre .2) (no-keys _ _ 512),
-    )
+loop-holds c = (search needs, laws.turning-start _ _ _ _ (no-keys _ _ 512))
 
-refresh-requires : tie.Need-refresh-requires Inv-loop μ-loop
-refresh-requires c κs =
-    let at-loop = c .before .before .before in
-    let a = at-loop .before .before .before .before .before in
-    let l = at-loop .loop in (
-      record {
-        prepared = a .pre .0 .prepared;
-        is-p = a .pre .0 .is-p;
-        is-n = a .pre .0 .is-n;
-        sized = l .inv .1;
-        settled = laws.turning-settled _ _ (a .pre .0 .prepared) _ _ _ _ _ (l .inv .4);
-      },
-      a .pre .1,
-      omega (arith, a .pre .1, few-constraints (a .pre .0 .prepared), l .inv .2),
-      l .inv .4 .keyed,
-      a .pre .4,
-    )
-
-least-requires : tie.Need-least-requires Inv-loop μ-loop
-least-requires c κs =
-    let at-refresh = c .before .before in
-    let at-loop = at-refresh .before .before .before .before in
-    let a = at-loop .before .before .before .before .before in
-    omega (arith, a .pre .1, few-constraints (a .pre .0 .prepared), at-loop .loop .inv .2, at-refresh .refresh .kept .1 .1 .1 .1 .0)
+next-key-requires : tie.Need-next-key-requires Inv-loop μ-loop
+unfolding viewOf
+next-key-requires c κs =
+    let at-loop = c .before .before .before .before .before .before in
+    let prepared = at-loop .before .before .before .before .before .before .before .before .before .before .before .pre .0 in
+    let formed = prepared .sized .formed in
+    let inv = at-loop .loop .inv in
+    (prepared, inv .1 .keyed, record { keys-room = omega (arith, formed .m-most, inv .0); reach = omega (arith, formed .n-most) })
 
 same-length : tie.Need-same-length Inv-loop μ-loop
 same-length c =
-    let at-loop = c .before .before .before .before .before .before .before .before in
-    let entry = at-loop .before .before .before .before .before in
-    at-loop .loop .inv .1 ∙ sym (entry .pre .0 .sized)
-
-same-length-2 : tie.Need-same-length-2 Inv-loop μ-loop
-same-length-2 c = c .before .before .before .before .before .before .before .before .loop .inv .3
+    let at-loop = c .before .before .before .before .before .before .before .before .before in
+    let sized = at-loop .before .before .before .before .before .before .before .before .before .before .before .pre .0 .sized in
+    laws.turning-room (sized .formed) (at-loop .loop .inv .1)
 
 returns : tie.Need-returns Inv-loop μ-loop
+unfolding viewOf
 returns c =
-    let at-refresh = c .before .before .before .before in
-    let at-loop = at-refresh .before .before .before .before in
-    let entry = at-loop .before .before .before .before .before in
-    laws.turning-none _ _ (entry .pre .0 .prepared) _ _ _ _ _ (at-loop .loop .inv .4) _ (at-refresh .refresh .ensures) _ _ (entry .pre .1)
-    (c .before .least .ensures) (c .if1 .taken)
+    let at-loop = c .before .before .before .before .before .before .before .before .before in
+    let sized = at-loop .before .before .before .before .before .before .before .before .before .before .before .pre .0 .sized in
+    let found = c .before .before .next-key .ensures in
+    laws.turning-none (sized .formed) (at-loop .loop .inv .1) (found .0) (found .1) (c .if2 .taken)
 
 array-read-key : tie.Need-array-read-key Inv-loop μ-loop
 array-read-key c =
-    let a = c .before .before .before .before .before .before .before .before .before .before .before .before .before in
-    omega (arith, a .pre .1, few-constraints (a .pre .0 .prepared), c .before .least .ensures .within)
+    let at-loop = c .before .before .before .before .before .before .before .before .before in
+    let sized = at-loop .before .before .before .before .before .before .before .before .before .before .before .pre .0 .sized in
+    omega (arith, sized .formed .m-most, c .before .before .next-key .ensures .1 .within)
 
-put-step-requires : tie.Need-put-step-requires Inv-loop μ-loop
-put-step-requires c κs =
-    let at-least = c .before .before in
-    let at-refresh = at-least .before .before .before in
-    let at-loop-test = at-refresh .before .before .before in
-    let at-loop = at-loop-test .before in
-    let entry = at-loop .before .before .before .before .before in
-    let a = entry in
-    let l = at-loop .loop in
-    let s = sizes (a .pre .0) in
-    let h = laws.target-small _ _ (entry .pre .0 .prepared) _ _ _ _ _ (at-loop .loop .inv .4) _ (at-refresh .refresh .ensures) _ _ (entry .pre .1)
-    (at-least .least .ensures) (c .before .if1 .left) in (
-      omega (arith, a .pre .3, l .inv .3, at-loop-test .loop-test .taken),
-      omega arith,
-      omega (arith, h .1),
-      omega (arith, at-least .least .ensures .within, a .pre .1, few-constraints (a .pre .0 .prepared)),
-      omega arith,
-    )
-
-cast-bounds : tie.Need-cast-bounds Inv-loop μ-loop
-cast-bounds c =
-    let at-if1 = c .before .before .before .before in
-    let at-least = at-if1 .before in
-    let at-refresh = at-least .before .before .before in
-    let at-loop = at-refresh .before .before .before .before in
-    let entry = at-loop .before .before .before .before .before in
-    let a = entry in
-    let s = sizes (a .pre .0) in
-    let h = laws.bound-small _ _ (entry .pre .0 .prepared) _ _ _ _ _ (at-loop .loop .inv .4) _ (at-refresh .refresh .ensures) _ _ (entry .pre .1)
-    (at-least .least .ensures) (at-if1 .if1 .left) in
-    record { fits = omega (arith, h, s .p-most, a .pre .0 .is-p) }
-
-slice-write-bounds : tie.Need-slice-write-bounds Inv-loop μ-loop
-slice-write-bounds c =
-    let at-if1 = c .before .before .before .before in
-    let at-least = at-if1 .before in
-    let at-refresh = at-least .before .before .before in
-    let at-loop = at-refresh .before .before .before .before in
-    let entry = at-loop .before .before .before .before .before in
-    let h = laws.target-small _ _ (entry .pre .0 .prepared) _ _ _ _ _ (at-loop .loop .inv .4) _ (at-refresh .refresh .ensures) _ _ (entry .pre .1)
-    (at-least .least .ensures) (at-if1 .if1 .left) in
-    omega (arith, h .1, at-loop .loop .inv .1)
+cast-put-step : tie.Need-cast-put-step Inv-loop μ-loop
+cast-put-step c =
+    let at-loop = c .before .before .before .before .before .before .before .before .before .before .before .before in
+    let sized = at-loop .before .before .before .before .before .before .before .before .before .before .before .pre .0 .sized in
+    record { fits = omega (arith, sized .formed .m-most, c .before .before .before .before .before .next-key .ensures .1 .within) }
 
 forget-requires : tie.Need-forget-requires Inv-loop μ-loop
+unfolding viewOf
 forget-requires c κs =
-    let at-if1 = c .before .before .before .before .before in
-    let at-least = at-if1 .before in
-    let at-refresh = at-least .before .before .before in
-    let at-loop = at-refresh .before .before .before .before in
-    let entry = at-loop .before .before .before .before .before in
-    let h = laws.target-small _ _ (entry .pre .0 .prepared) _ _ _ _ _ (at-loop .loop .inv .4) _ (at-refresh .refresh .ensures) _ _ (entry .pre .1)
-    (at-least .least .ensures) (at-if1 .if1 .left) in (
-      row-inside _ _ (entry .pre .4) _ _ (entry .pre .0 .is-n) (omega (arith, entry .pre .1)),
-      omega (arith, entry .pre .1, few-constraints (entry .pre .0 .prepared), at-loop .loop .inv .2, at-refresh .refresh .kept .1 .1 .1 .1 .0),
-      omega (arith, h .2, entry .pre .0 .is-n),
-    )
+    let chosen = c .before .before .before .before .before .before .before .before .before .before in
+    let at-loop = chosen .before .before .before .before .before .before .before .before .before in
+    let pre = at-loop .before .before .before .before .before .before .before .before .before .before .before .pre in
+    let sized = pre .0 .sized in
+    let found = chosen .before .before .next-key .ensures in
+    let target = c .before .before .before .before .before .before .before .before .before .target-in .ensures in
+    let t = laws.target-within (sized .formed) (at-loop .loop .inv .1) (found .0) (found .1) (chosen .if2 .left) target in
+    laws.walkable (pre .1) _ _ (t .0) (omega (arith, t .1, sized .is-n)) (omega (arith, sized .is-m, sized .formed .m-most))
+
+add-count : tie.Need-add-count Inv-loop μ-loop
+add-count c =
+    let chosen = c .before .before .before .before .before .before .before .before .before .before .before .before in
+    let at-loop = chosen .before .before .before .before .before .before .before .before .before in
+    let sized = at-loop .before .before .before .before .before .before .before .before .before .before .before .pre .0 .sized in
+    record { fits = omega (arith, chosen .before .before .before .before .before .before .before .if1 .taken, sized .is-n, sized .formed .n-most) }
+
+loop-less : tie.Need-loop-less Inv-loop μ-loop
+loop-less c =
+    let chosen = c .before .before .before .before .before .before .before .before .before .before .before .before in
+    omega (arith, chosen .before .before .before .before .before .before .before .if1 .taken)
 
 loop-again : tie.Need-loop-again Inv-loop μ-loop
+unfolding viewOf
 loop-again c =
-    let at-put-step = c .before .before .before .before .before in
-    let at-if1 = at-put-step .before .before in
-    let at-least = at-if1 .before in
-    let at-refresh = at-least .before .before .before in
-    let at-loop-test = at-refresh .before .before .before in
-    let at-loop = at-loop-test .before in
-    let entry = at-loop .before .before .before .before .before in (
-      omega (arith, at-loop-test .loop-test .taken),
-      simp length-set (at-loop .loop .inv .1),
-      c .before .forget .kept .1 .0 ∙ at-refresh .refresh .kept .1 .1 .1 .1 .0 ∙ at-loop .loop .inv .2,
-      at-put-step .put-step .kept .0 ∙ at-loop .loop .inv .3,
-      laws.turning-next _ _ (entry .pre .0 .prepared) _ _ _ _ _ (at-loop .loop .inv .4) _ (at-refresh .refresh .ensures) _ _ (entry .pre .1)
-          (at-least .least .ensures) (at-if1 .if1 .left) (at-loop .loop .inv .1) (omega (arith, entry .pre .0 .is-n, at-loop-test .loop-test .taken))
-          _ _ (at-put-step .put-step .ensures) (c .before .forget .ensures _ (entry .pre .4) (entry .pre .0 .is-n) (entry .pre .1)),
+    let chosen = c .before .before .before .before .before .before .before .before .before .before .before .before in
+    let at-loop = chosen .before .before .before .before .before .before .before .before .before in
+    let pre = at-loop .before .before .before .before .before .before .before .before .before .before .before .pre in
+    let sized = pre .0 .sized in
+    let T = at-loop .loop .inv .1 in
+    let found = chosen .before .before .next-key .ensures in
+    let target = c .before .before .before .before .before .before .before .before .before .before .before .target-in .ensures in
+    let kind = c .before .before .before .before .before .before .before .before .before .before .kind-in .ensures in
+    let t = laws.target-within (sized .formed) T (found .0) (found .1) (chosen .if2 .left) target in
+    let part = sized-part sized (pre .0 .offsets) _ (pos-of-ne-zero (chosen .if2 .left)) (omega (arith, found .1 .within, sized .is-m)) in
+    let links = rw (sized .is-n, sized .is-m) at (pre .1) in (
+      search needs,
+      laws.turning-next (sized .formed) T (found .0) (found .1) (chosen .if2 .left) kind target _ (sized .is-p) (sized .is-n)
+          (ap constraintIn (c .before .before .before .before .before .part-of .ensures) ∙ part)
+          (c .before .before .before .before .step .ensures (omega (arith, sized .is-p, sized .formed .p-least)) .next)
+          (omega (arith, sized .is-n, chosen .before .before .before .before .before .before .before .if1 .taken))
+          (c .before .before .before .before .before .before .before .before .put-step .ensures)
+          (c .before .forget .ensures _ _ _ _ _ (pre .0 .rows) links (t .0) (t .1)),
     )
 
-same-length-3 : tie.Need-same-length-3 Inv-loop μ-loop
-same-length-3 c = c .before .loop .inv .1 ∙ sym (c .before .before .before .before .before .before .pre .0 .sized)
-
-same-length-4 : tie.Need-same-length-4 Inv-loop μ-loop
-same-length-4 c = c .before .loop .inv .3
+same-length-2 : tie.Need-same-length-2 Inv-loop μ-loop
+same-length-2 c =
+    let at-loop = c .before .before in
+    let sized = at-loop .before .before .before .before .before .before .before .before .before .before .before .pre .0 .sized in
+    laws.turning-room (sized .formed) (at-loop .loop .inv .1)
 
 returns-2 : tie.Need-returns-2 Inv-loop μ-loop
 returns-2 c =
-    let entry = c .before .before .before .before .before .before in
-    laws.turning-all _ _ (entry .pre .0 .prepared) _ _ _ _ _ (c .before .loop .inv .4) (omega (arith, entry .pre .0 .is-n))
+    let at-loop = c .before .before in
+    let sized = at-loop .before .before .before .before .before .before .before .before .before .before .before .pre .0 .sized in
+    laws.turning-all (sized .formed) (at-loop .loop .inv .1) (omega (arith, sized .is-n, c .if1 .left))
 
 pub lower-bounds-spec : {M : Type 1} → statement M
 lower-bounds-spec =
@@ -171,23 +130,17 @@ lower-bounds-spec =
     (λ c. search needs)
     loop-holds
     (λ c. search needs)
-    refresh-requires
-    (λ c. search needs)
-    least-requires
+    next-key-requires
     same-length
-    same-length-2
     returns
     (λ c. search needs) (λ c. search needs)
     array-read-key
-    (λ c. search needs) (λ c. search needs)
-    put-step-requires
-    cast-bounds
-    (λ c. search needs) (λ c. search needs)
-    slice-write-bounds
-    (λ c. search needs)
+    (λ c κs. search needs) (λ c κs. search needs)
+    cast-put-step
+    (λ c κs. search needs) (λ c κs. search needs) (λ c. search needs) (λ c κs. search needs) (λ c. search needs) (λ c. search needs)
     forget-requires
-    (λ c. search needs) (λ c. search needs)
+    add-count
+    loop-less
     loop-again
-    same-length-3
-    same-length-4
+    same-length-2
     returns-2)
