@@ -1,7 +1,12 @@
 /* The four calls of the proved library. Link target/staticlib/libexports.a, which `rt staticlib exports` makes.
  *
- * Each call answers the number of a refusal, 0 where there is none, and writes five numbers to answer. On a refusal they are its place and four
- * zeros. A refusal writes into no lent buffer. Lengths are in bytes; a pointer of length 0 is not read. Buffers must not overlap. */
+ * Every call ends on all bytes and lengths. It returns a refusal's number in the high half of the value, 0 where nothing is refused, and in the low half
+ * the refusal's place; yolqushek_number and yolqushek_place take the value apart. On a result the low half is 0, but for an accepted pair, where it is
+ * the signal q (yolqushek_signal). Memory that is lent, answer included, is written only on a result, and no further than stated.
+ * Lengths are in bytes; a pointer of length 0 is not read. What is lent to one call must not overlap.
+ *
+ * There is no heap. What each call needs of the stack is said below, as measured on x86-64 in steps of 4 kB with what a thread itself takes; it hardly
+ * depends on the circuit. A thread with 256 kB of stack is enough for every call. */
 #ifndef YOLQUSHEK_H
 #define YOLQUSHEK_H
 
@@ -12,19 +17,29 @@
 extern "C" {
 #endif
 
-/* Reads a circuit. answer: p, n, i, o, m. */
-uint32_t yolqushek_read(const uint8_t *circuit, size_t circuit_length, uint64_t answer[5]);
+/* The refusal's number, 1 to 25; 0 on a result. */
+static inline uint32_t yolqushek_number(uint64_t returned) { return (uint32_t)(returned >> 32); }
 
-/* Judges a derivation and writes n bytes to marks, 1 for marked and 0 for not. answer: how many are marked, 1 for fixed and 0 for open, 0, 0, 0. */
-uint32_t yolqushek_mark(const uint8_t *circuit, size_t circuit_length, const uint8_t *derivation, size_t derivation_length, uint8_t *marks,
-                        size_t marks_length, uint64_t answer[5]);
+/* The refusal's place. */
+static inline uint32_t yolqushek_place(uint64_t returned) { return (uint32_t)returned; }
 
-/* Judges a pair of runs. answer: the signal q, 0, 0, 0, 0. */
-uint32_t yolqushek_pair(const uint8_t *circuit, size_t circuit_length, const uint8_t *pair, size_t pair_length, uint64_t answer[5]);
+/* The signal q of an accepted pair. */
+static inline uint32_t yolqushek_signal(uint64_t returned) { return (uint32_t)returned; }
 
-/* Solves a circuit and writes its derivation to output. answer: how many are marked, 1 for fixed and 0 for open, the derivation's length, 0, 0.
- * The call needs 1.2 MB of stack. */
-uint32_t yolqushek_solve(const uint8_t *circuit, size_t circuit_length, uint8_t *output, size_t output_length, uint64_t answer[5]);
+/* Reads a circuit: refusals 1 to 10. answer: p, n, i, o, m. Stack: 36 kB. */
+uint64_t yolqushek_read(const uint8_t *circuit, size_t circuit_length, uint64_t answer[5]);
+
+/* Judges a derivation: refusals 1 to 17. Writes n bytes to marks, 1 for marked and 0 for not. answer: how many signals are marked, and 1 for fixed and
+ * 0 for open. Stack: 44 kB. */
+uint64_t yolqushek_mark(const uint8_t *circuit, size_t circuit_length, const uint8_t *derivation, size_t derivation_length, uint8_t *marks,
+                        size_t marks_length, uint64_t answer[2]);
+
+/* Judges a pair of runs: refusals 1 to 10 and 18 to 24. Writes nothing. Stack: 40 kB. */
+uint64_t yolqushek_pair(const uint8_t *circuit, size_t circuit_length, const uint8_t *pair, size_t pair_length);
+
+/* Solves a circuit: refusals 1 to 10 and 25. Writes its derivation to output, which has 7 + 14 * n bytes at least. answer: how many signals are marked,
+ * 1 for fixed and 0 for open, and the derivation's length. Stack: 140 kB, for refused circuits too. */
+uint64_t yolqushek_solve(const uint8_t *circuit, size_t circuit_length, uint8_t *output, size_t output_length, uint64_t answer[3]);
 
 #ifdef __cplusplus
 }

@@ -1,11 +1,9 @@
 //! Safe calls of the proved solver and marker. The library behind them has no precondition: every call ends on all bytes and lengths, and a refusal
-//! writes into no buffer. Nothing checks the declarations here against the proved source, so they are few and on bytes and numbers alone.
-
-/// A call's answer as numbers.
-type Answer = [u64; 5];
+//! writes into no buffer. Nothing checks the declarations here against the proved source, so they are few and on bytes and numbers alone. There is no heap;
+//! the stack that a call needs was measured (tests/stack.rs), and 256 kB are enough for every call.
 
 extern "C" {
-    fn yolqushek_read(circuit: *const u8, circuit_length: usize, answer: *mut Answer) -> u32;
+    fn yolqushek_read(circuit: *const u8, circuit_length: usize, answer: *mut [u64; 5]) -> u64;
     fn yolqushek_mark(
         circuit: *const u8,
         circuit_length: usize,
@@ -13,17 +11,17 @@ extern "C" {
         derivation_length: usize,
         marks: *mut u8,
         marks_length: usize,
-        answer: *mut Answer,
-    ) -> u32;
-    fn yolqushek_pair(circuit: *const u8, circuit_length: usize, pair: *const u8, pair_length: usize, answer: *mut Answer) -> u32;
-    fn yolqushek_solve(circuit: *const u8, circuit_length: usize, output: *mut u8, output_length: usize, answer: *mut Answer) -> u32;
+        answer: *mut [u64; 2],
+    ) -> u64;
+    fn yolqushek_pair(circuit: *const u8, circuit_length: usize, pair: *const u8, pair_length: usize) -> u64;
+    fn yolqushek_solve(circuit: *const u8, circuit_length: usize, output: *mut u8, output_length: usize, answer: *mut [u64; 3]) -> u64;
 }
 
-/// Why a call was refused: the number and place of document 01.
+/// Why a call was refused: its number, 1 to 25, and its place.
 #[derive(Clone, Copy, Debug, PartialEq, Eq)]
 pub struct Refusal {
     pub number: u32,
-    pub place: u64,
+    pub place: u32,
 }
 
 /// A circuit's header.
@@ -43,44 +41,42 @@ pub struct Marked {
     pub fixed: bool,
 }
 
-fn result(number: u32, answer: Answer) -> Result<Answer, Refusal> {
-    if number == 0 {
-        Ok(answer)
-    } else {
-        Err(Refusal { number, place: answer[0] })
+/// Takes a returned value apart: a refusal's number in the high half and its place in the low half, or 0 and the low half.
+fn taken(returned: u64) -> Result<u32, Refusal> {
+    match ((returned >> 32) as u32, returned as u32) {
+        (0, low) => Ok(low),
+        (number, place) => Err(Refusal { number, place }),
     }
 }
 
-/// Reads a circuit: refusals 1 to 10.
+/// Reads a circuit: refusals 1 to 10. Needs 36 kB of stack.
 pub fn read_circuit(circuit: &[u8]) -> Result<Sizes, Refusal> {
     let mut answer = [0; 5];
-    let number = unsafe { yolqushek_read(circuit.as_ptr(), circuit.len(), &mut answer) };
-    let [prime, signals, inputs, outputs, constraints] = result(number, answer)?.map(|value| value as u32);
+    taken(unsafe { yolqushek_read(circuit.as_ptr(), circuit.len(), &mut answer) })?;
+    let [prime, signals, inputs, outputs, constraints] = answer.map(|value| value as u32);
     Ok(Sizes { prime, signals, inputs, outputs, constraints })
 }
 
-/// Judges a derivation and writes a byte for each signal to `marks`: refusals 1 to 17.
+/// Judges a derivation and writes a byte for each signal to `marks`: refusals 1 to 17. Needs 44 kB of stack.
 pub fn check_derivation(circuit: &[u8], derivation: &[u8], marks: &mut [u8]) -> Result<Marked, Refusal> {
-    let mut answer = [0; 5];
-    let number = unsafe {
+    let mut answer = [0; 2];
+    taken(unsafe {
         yolqushek_mark(circuit.as_ptr(), circuit.len(), derivation.as_ptr(), derivation.len(), marks.as_mut_ptr(), marks.len(), &mut answer)
-    };
-    let [count, fixed, ..] = result(number, answer)?;
+    })?;
+    let [count, fixed] = answer;
     Ok(Marked { count: count as u32, fixed: fixed == 1 })
 }
 
-/// Judges a pair of runs and answers its signal: refusals 1 to 10 and 18 to 24.
+/// Judges a pair of runs and answers its signal: refusals 1 to 10 and 18 to 24. Needs 40 kB of stack.
 pub fn check_pair(circuit: &[u8], pair: &[u8]) -> Result<u32, Refusal> {
-    let mut answer = [0; 5];
-    let number = unsafe { yolqushek_pair(circuit.as_ptr(), circuit.len(), pair.as_ptr(), pair.len(), &mut answer) };
-    Ok(result(number, answer)?[0] as u32)
+    taken(unsafe { yolqushek_pair(circuit.as_ptr(), circuit.len(), pair.as_ptr(), pair.len()) })
 }
 
-/// Solves a circuit, writes its derivation to `output`, and answers the derivation's length too: refusals 1 to 10 and 25. Needs 1.2 MB of stack;
-/// a thread has 2 MB unless told otherwise.
+/// Solves a circuit, writes its derivation to `output`, and answers the derivation's length too: refusals 1 to 10 and 25. Needs 140 kB of stack, for
+/// refused circuits too.
 pub fn solve(circuit: &[u8], output: &mut [u8]) -> Result<(Marked, usize), Refusal> {
-    let mut answer = [0; 5];
-    let number = unsafe { yolqushek_solve(circuit.as_ptr(), circuit.len(), output.as_mut_ptr(), output.len(), &mut answer) };
-    let [count, fixed, length, ..] = result(number, answer)?;
+    let mut answer = [0; 3];
+    taken(unsafe { yolqushek_solve(circuit.as_ptr(), circuit.len(), output.as_mut_ptr(), output.len(), &mut answer) })?;
+    let [count, fixed, length] = answer;
     Ok((Marked { count: count as u32, fixed: fixed == 1 }, length as usize))
 }

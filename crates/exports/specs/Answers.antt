@@ -1,46 +1,53 @@
--- Each call's answer as numbers: the refusal's number, 0 where there is none, and five values, 0 where the answer has fewer.
-use Prim.Native.Nat.{ℕ}
+-- What the exported calls return and write, in numbers (rules 6.1 and 6.4). Lent memory is written on a result that has something to hand over,
+-- else not at all.
+use Prim.Native.Nat.{ℕ, _+_, _*_, _%_}
 use mathlib.Core.List.{List, [], _∷_}
-use Rattle.circuit.specs.Answer as circuit
-use Rattle.derivation.specs.Call as derivation
-use Rattle.pair.specs.Call as pair
-use Rattle.solver.specs.Call as solver
+use Rattle.circuit.specs.Answer.{Answer, refused, given}
+use Rattle.circuit.specs.declared.reader.Sizes.{Sizes}
+use Rattle.derivation.specs.Call.{Verdict, Fixed, Open, Judgement}
+use Rattle.solver.specs.Call.{Solved}
 
-abbrev pub five : ℕ → ℕ → ℕ → ℕ → ℕ → List ℕ
-five a b c d e = a ∷ b ∷ c ∷ d ∷ e ∷ []
+-- The returned value of every call. High half: the refusal's number, 0 on a result. Low half: the refusal's place; on a result the signal q of
+-- an accepted pair, 0 for the other calls. Places and signals are far below 2^32, so the low half holds them whole.
+abbrev pub returned : ℕ → ℕ → ℕ
+returned number low = number * 4294967296 + low % 4294967296
 
--- a number and five values
-pub record Numbers : Type 0 where
-  pub number : ℕ
-  pub values : List ℕ
+-- the value returned for an answer, where a result has x in the low half
+abbrev pub returnedBy : {A : Type 0} → Answer A → (A → ℕ) → ℕ
+returnedBy (refused number place) low = returned number place
+returnedBy (given x) low = returned 0 (low x)
 
-abbrev pub turned : ℕ → ℕ → Numbers
-turned number place = record { number = number; values = five place 0 0 0 0 }
-
-abbrev pub given : ℕ → ℕ → ℕ → ℕ → ℕ → Numbers
-given a b c d e = record { number = 0; values = five a b c d e }
-
--- reading a circuit: p, n, i, o and m
-abbrev pub readNumbers : circuit.CircuitResult → Numbers
-readNumbers (circuit.refused number place) = turned number place
-readNumbers (circuit.sizes p n i o m) = given p n i o m
-
--- judging a pair: q
-abbrev pub pairNumbers : pair.PairResult → Numbers
-pairNumbers (pair.refused number place) = turned number place
-pairNumbers (pair.accepted q) = given q 0 0 0 0
+-- what an answer leaves in a lent array that held `before`
+abbrev pub leftBy : {A : Type 0} → Answer A → (A → List ℕ) → List ℕ → List ℕ
+leftBy (refused number place) numbers before = before
+leftBy (given x) numbers before = numbers x
 
 -- 1 for fixed and 0 for open
-abbrev pub verdictNumber : derivation.Verdict → ℕ
-verdictNumber derivation.Fixed = 1
-verdictNumber derivation.Open = 0
+abbrev pub verdictNumber : Verdict → ℕ
+verdictNumber Fixed = 1
+verdictNumber Open = 0
+
+-- reading a circuit: p, n, i, o and m
+abbrev pub readReturned : Answer Sizes → ℕ
+readReturned r = returnedBy r (λ z. 0)
+
+abbrev pub readAnswer : Answer Sizes → List ℕ → List ℕ
+readAnswer r before = leftBy r (λ z. z .p ∷ z .n ∷ z .i ∷ z .o ∷ z .m ∷ []) before
+
+-- judging a pair: q is returned, and nothing is written
+abbrev pub pairReturned : Answer ℕ → ℕ
+pairReturned r = returnedBy r (λ q. q)
 
 -- judging a derivation: how many signals are marked, and the verdict
-abbrev pub derivationNumbers : derivation.DerivationResult → Numbers
-derivationNumbers (derivation.refused number place) = turned number place
-derivationNumbers (derivation.accepted count verdict) = given count (verdictNumber verdict) 0 0 0
+abbrev pub markReturned : Answer Judgement → ℕ
+markReturned r = returnedBy r (λ x. 0)
 
--- solving a circuit: how many signals are marked, the verdict and the derivation's length
-abbrev pub solverNumbers : solver.SolverResult → Numbers
-solverNumbers (solver.refused number place) = turned number place
-solverNumbers (solver.solved count verdict length) = given count (verdictNumber verdict) length 0 0
+abbrev pub markAnswer : Answer Judgement → List ℕ → List ℕ
+markAnswer r before = leftBy r (λ x. x .count ∷ verdictNumber (x .verdict) ∷ []) before
+
+-- solving a circuit: the same, and the bytes of the derivation
+abbrev pub solveReturned : Answer Solved → ℕ
+solveReturned r = returnedBy r (λ x. 0)
+
+abbrev pub solveAnswer : Answer Solved → List ℕ → List ℕ
+solveAnswer r before = leftBy r (λ x. x .judgement .count ∷ verdictNumber (x .judgement .verdict) ∷ x .bytes ∷ []) before

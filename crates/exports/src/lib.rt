@@ -1,5 +1,5 @@
-// The four public calls for callers in other languages. A slice passes as a pointer and a length, `answer` as a pointer to five numbers.
-// Each function answers the refusal's number, 0 where there is none.
+// The four public calls for callers in other languages. A slice passes as a pointer and a length, a lent array as a pointer. The returned value holds a
+// refusal's number and place, or q; lent memory is written only on a result that has something to hand over.
 
 use circuit::reader::CircuitAnswer;
 use circuit::reader::check_circuit;
@@ -11,54 +11,47 @@ use pair::check_pair;
 use solver::answer::SolverAnswer;
 use solver::call::solve;
 ghost use mathlib.Core.Path.{_≡_};
-ghost use Rattle.circuit.specs.Answer.{circuitCall};
-ghost use Prim.Native.Nat.{ℕ};
+ghost use Rattle.circuit.specs.Call.{circuitCall};
 ghost use lib.ListN.{length};
 ghost use Rattle.derivation.specs.Answer.{verdictIn};
 ghost use Rattle.derivation.specs.Call.{derivationCall, derivationMarks};
 ghost use Rattle.pair.specs.Call.{pairCall};
 ghost use Rattle.solver.specs.Call.{solverCall, solverOutput};
-ghost use Rattle.exports.specs.Answers.{five, readNumbers, pairNumbers, verdictNumber, derivationNumbers, solverNumbers};
+ghost use Rattle.exports.specs.Answers.{readReturned, readAnswer, pairReturned, verdictNumber, markReturned, markAnswer, solveReturned, solveAnswer};
+ghost use Rattle.exports.specs.Answers.{returned as Answers·returned};
 
-fn fill(answer: &mut [u64; 5], a: u64, b: u64, c: u64, d: u64, e: u64)
-    ensures { λ r. ⌜ now (answer .exit) ≡ five a b c d e ⌝ }
+// The returned value: the number in the high half, the place or q in the low half.
+fn returned(number: u32, low: usize) -> u64
+    ensures { λ r. ⌜ r ≡ Answers·returned number low ⌝ }
 {
-    *answer = [a, b, c, d, e];
+    number as u64 * 4294967296 + low as u64 % 4294967296
 }
 
-// Reads a circuit: p, n, i, o and m.
+// Reads a circuit. `answer`: p, n, i, o and m.
 #[no_mangle]
-pub extern "C" fn yolqushek_read(circuit: &[u8], answer: &mut [u64; 5]) -> u32
-    ensures { λ r. ⌜ record { number = r; values = now (answer .exit) } ≡ readNumbers (circuitCall (now (circuit .entry))) ⌝ }
+pub extern "C" fn yolqushek_read(circuit: &[u8], answer: &mut [u64; 5]) -> u64
+    ensures returned { λ r. ⌜ r ≡ readReturned (circuitCall (now (circuit .entry))) ⌝ }
+    ensures answered { λ r. ⌜ now (answer .exit) ≡ readAnswer (circuitCall (now (circuit .entry))) (now (answer .entry)) ⌝ }
 {
     let result = check_circuit(circuit);
     match result {
-        CircuitAnswer::Refused { number, place } => {
-            fill(answer, place as u64, 0, 0, 0, 0);
-            number
-        }
+        CircuitAnswer::Refused { number, place } => returned(number, place),
         CircuitAnswer::Sizes { p, n, i, o, m } => {
-            fill(answer, p as u64, n as u64, i as u64, o as u64, m as u64);
-            0
+            *answer = [p as u64, n as u64, i as u64, o as u64, m as u64];
+            returned(0, 0)
         }
     }
 }
 
-// Judges a pair of runs: the signal q.
+// Judges a pair of runs, and returns the signal q.
 #[no_mangle]
-pub extern "C" fn yolqushek_pair(circuit: &[u8], pair: &[u8], answer: &mut [u64; 5]) -> u32
-    ensures { λ r. ⌜ record { number = r; values = now (answer .exit) } ≡ pairNumbers (pairCall (now (circuit .entry)) (now (pair .entry))) ⌝ }
+pub extern "C" fn yolqushek_pair(circuit: &[u8], pair: &[u8]) -> u64
+    ensures { λ r. ⌜ r ≡ pairReturned (pairCall (now (circuit .entry)) (now (pair .entry))) ⌝ }
 {
     let result = check_pair(circuit, pair);
     match result {
-        PairAnswer::Refused { number, place } => {
-            fill(answer, place as u64, 0, 0, 0, 0);
-            number
-        }
-        PairAnswer::Accepted { q } => {
-            fill(answer, q as u64, 0, 0, 0, 0);
-            0
-        }
+        PairAnswer::Refused { number, place } => returned(number, place),
+        PairAnswer::Accepted { q } => returned(0, q as usize),
     }
 }
 
@@ -71,58 +64,47 @@ fn number_of(verdict: Verdict) -> u64
     }
 }
 
-// Judges a derivation: how many signals are marked, and 1 for fixed and 0 for open. The marks go to `marks`.
+// Judges a derivation. `answer`: how many signals are marked, and 1 for fixed and 0 for open. The marks go to `marks`.
 #[no_mangle]
 pub extern "C" fn yolqushek_mark(
     circuit: &[u8],
     derivation: &[u8],
     marks: &mut [u8],
-    answer: &mut [u64; 5],
-) -> u32
-    ensures numbers { λ r. ⌜ record { number = r; values = now (answer .exit) }
-        ≡ derivationNumbers (derivationCall (now (circuit .entry)) (now (derivation .entry)) (length (now (marks .entry)))) ⌝ }
+    answer: &mut [u64; 2],
+) -> u64
+    ensures returned { λ r. ⌜ r ≡ markReturned (derivationCall (now (circuit .entry)) (now (derivation .entry)) (length (now (marks .entry)))) ⌝ }
+    ensures answered { λ r. ⌜ now (answer .exit)
+        ≡ markAnswer (derivationCall (now (circuit .entry)) (now (derivation .entry)) (length (now (marks .entry)))) (now (answer .entry)) ⌝ }
     ensures written { λ r. ⌜ now (marks .exit) ≡ derivationMarks (now (circuit .entry)) (now (derivation .entry)) (now (marks .entry)) ⌝ }
 {
     let result = check_derivation(circuit, derivation, marks);
     match result {
-        DerivationAnswer::Refused { number, place } => {
-            fill(answer, place as u64, 0, 0, 0, 0);
-            number
-        }
+        DerivationAnswer::Refused { number, place } => returned(number, place),
         DerivationAnswer::Accepted { count, verdict } => {
-            fill(answer, count as u64, number_of(verdict), 0, 0, 0);
-            0
+            *answer = [count as u64, number_of(verdict)];
+            returned(0, 0)
         }
     }
 }
 
-// Solves a circuit: how many signals are marked, 1 for fixed and 0 for open, and the derivation's length. The derivation goes to `output`.
+// Solves a circuit. `answer`: how many signals are marked, 1 for fixed and 0 for open, and the derivation's length. The derivation goes to `output`.
 #[no_mangle]
-pub extern "C" fn yolqushek_solve(circuit: &[u8], output: &mut [u8], answer: &mut [u64; 5]) -> u32
-    ensures numbers { λ r. ⌜ record { number = r; values = now (answer .exit) }
-        ≡ solverNumbers (solverCall (now (circuit .entry)) (length (now (output .entry)))) ⌝ }
+pub extern "C" fn yolqushek_solve(circuit: &[u8], output: &mut [u8], answer: &mut [u64; 3]) -> u64
+    ensures returned { λ r. ⌜ r ≡ solveReturned (solverCall (now (circuit .entry)) (length (now (output .entry)))) ⌝ }
+    ensures answered { λ r. ⌜ now (answer .exit)
+        ≡ solveAnswer (solverCall (now (circuit .entry)) (length (now (output .entry)))) (now (answer .entry)) ⌝ }
     ensures written { λ r. ⌜ now (output .exit) ≡ solverOutput (now (circuit .entry)) (now (output .entry)) ⌝ }
 {
     let result = solve(circuit, output);
     match result {
-        SolverAnswer::Refused { number, place } => {
-            fill(answer, place as u64, 0, 0, 0, 0);
-            number
-        }
+        SolverAnswer::Refused { number, place } => returned(number, place),
         SolverAnswer::Solved {
             count,
             verdict,
-            length,
+            bytes,
         } => {
-            fill(
-                answer,
-                count as u64,
-                number_of(verdict),
-                length as u64,
-                0,
-                0,
-            );
-            0
+            *answer = [count as u64, number_of(verdict), bytes as u64];
+            returned(0, 0)
         }
     }
 }

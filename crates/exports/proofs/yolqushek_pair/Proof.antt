@@ -1,23 +1,20 @@
 -- `exports::yolqushek_pair`: each case of the answer in numbers.
 use mathlib.Core.Path.{sym, ap, _∙_}
-use Rattle.exports.proofs.Filled.{filled}
 use borrow.Author.Needs.{needs}
 use Rattle.pair.specs.Answer.{paperOf}
-use Rattle.exports.specs.Answers.{pairNumbers}
+use Rattle.exports.specs.Answers.{pairReturned}
 use Rattle.exports.proofs.yolqushek_pair.Statement.{statement}
 use Rattle.exports.proofs.yolqushek_pair.Tie as tie
 
 returns : tie.Need-returns
 returns c =
-    filled _ _ _ _ (c .fill .ensures)
-    (ap pairNumbers (sym (ap paperOf (c .before .before .before .result .given .1))
-    ∙ c .before .before .before .before .before .check-pair .ensures .0))
+    let h = c .before .before in
+    c .returned .ensures ∙ ap pairReturned (sym (ap paperOf (h .result .given .1)) ∙ h .before .before .check-pair .ensures .0)
 
 returns-2 : tie.Need-returns-2
 returns-2 c =
-    filled _ _ _ _ (c .fill2 .ensures)
-    (ap pairNumbers (sym (ap paperOf (c .before .before .before .result2 .given .1))
-    ∙ c .before .before .before .before .before .check-pair .ensures .0))
+    let h = c .before .before in
+    c .returned2 .ensures ∙ ap pairReturned (sym (ap paperOf (h .result2 .given .1)) ∙ h .before .before .check-pair .ensures .0)
 
 pub yolqushek-pair-spec : {M : Type 1} → statement M
 yolqushek-pair-spec =

@@ -1,23 +1,26 @@
 -- `exports::yolqushek_read`: each case of the answer in numbers.
 use mathlib.Core.Path.{sym, ap, _∙_}
-use Rattle.exports.proofs.Filled.{filled}
 use borrow.Author.Needs.{needs}
 use Rattle.circuit.specs.Answer.{paperOf}
-use Rattle.exports.specs.Answers.{readNumbers}
+use Rattle.exports.specs.Answers.{readReturned}
 use Rattle.exports.proofs.yolqushek_read.Statement.{statement}
 use Rattle.exports.proofs.yolqushek_read.Tie as tie
 
 returns : tie.Need-returns
 returns c =
-    filled _ _ _ _ (c .fill .ensures)
-    (ap readNumbers (sym (ap paperOf (c .before .before .before .result .given .1))
-    ∙ c .before .before .before .before .before .check-circuit .ensures))
+    let h = c .before .before in
+    let is = sym (ap paperOf (h .result .given .1)) ∙ h .before .before .check-circuit .ensures .0 in (
+      c .returned .ensures ∙ ap readReturned is,
+      rw (← is),
+    )
 
 returns-2 : tie.Need-returns-2
 returns-2 c =
-    filled _ _ _ _ (c .fill2 .ensures)
-    (ap readNumbers (sym (ap paperOf (c .before .before .before .result2 .given .1))
-    ∙ c .before .before .before .before .before .check-circuit .ensures))
+    let h = c .before .before .before in
+    let is = sym (ap paperOf (h .result2 .given .1)) ∙ h .before .before .check-circuit .ensures .0 in (
+      c .returned2 .ensures ∙ ap readReturned is,
+      rw (← is),
+    )
 
 pub yolqushek-read-spec : {M : Type 1} → statement M
 yolqushek-read-spec =
