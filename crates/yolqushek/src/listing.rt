@@ -1,57 +1,68 @@
 // What the program prints: each number is a library's answer, or read from the bytes that the solver wrote.
 
-ghost use Prim.Native.Nat.{_<_};
+use crate::text::Page;
 use circuit::bytes::byte_at;
 use circuit::bytes::u16_at;
 use circuit::reader::CircuitAnswer;
 use circuit::reader::check_circuit;
 use derivation::answer::Verdict;
-use libc::STDOUT_FILENO;
 use solver::answer::SolverAnswer;
-
-fn word(text: &[u8]) {
-    io::write_all(STDOUT_FILENO, text);
-}
-
-// a space and a number
-fn number(x: u64) {
-    word(b" ");
-    io::print_decimal(STDOUT_FILENO, x);
-}
+ghost use Prim.Native.Nat.{_<_};
 
 pub(crate) fn print_refusal(refusal: u32, place: usize) {
-    word(b"refused");
-    number(refusal as u64);
-    number(place as u64);
-    word(b"\n");
+    let mut text = io::buffer();
+    let page = Page::empty()
+        .word(&mut text, b"refused")
+        .number(&mut text, refusal as u64)
+        .number(&mut text, place as u64);
+    page.line(&mut text).write(&mut text);
 }
 
 pub(crate) fn print_pair(q: u32) {
-    word(b"pair");
-    number(q as u64);
-    word(b"\n");
+    let mut text = io::buffer();
+    Page::empty()
+        .word(&mut text, b"pair")
+        .number(&mut text, q as u64)
+        .line(&mut text)
+        .write(&mut text);
 }
 
-pub(crate) fn print_verdict(verdict: Verdict, count: u32) {
+// A derivation's verdict and count, and the signals whose byte is 1.
+pub(crate) fn print_judged(verdict: Verdict, count: u32, marks: &[u8]) {
+    let mut text = io::buffer();
+    let page = verdict_line(Page::empty(), &mut text, verdict, count);
+    marks_line(page, &mut text, marks).write(&mut text);
+}
+
+fn verdict_line(page: Page, text: &mut [u8], verdict: Verdict, count: u32) -> Page {
+    verdict_word(page, text, verdict)
+        .number(text, count as u64)
+        .line(text)
+}
+
+fn verdict_word(page: Page, text: &mut [u8], verdict: Verdict) -> Page {
     match verdict {
-        Verdict::Fixed => word(b"fixed"),
-        Verdict::Open => word(b"open"),
+        Verdict::Fixed => page.word(text, b"fixed"),
+        Verdict::Open => page.word(text, b"open"),
     }
-    number(count as u64);
-    word(b"\n");
 }
 
-// The signals whose byte is 1.
-pub(crate) fn print_marks(marks: &[u8]) {
-    word(b"marks");
+fn marks_line(page: Page, text: &mut [u8], marks: &[u8]) -> Page {
+    let mut page = page.word(text, b"marks");
     let mut s = 0;
     while s < marks.len() {
-        if marks[s] == 1 {
-            number(s as u64 + 1);
-        }
+        page = mark_number(page, text, marks[s], s as u64 + 1);
         s += 1;
     }
-    word(b"\n");
+    page.line(text)
+}
+
+fn mark_number(page: Page, text: &mut [u8], mark: u8, signal: u64) -> Page {
+    if mark == 1 {
+        page.number(text, signal)
+    } else {
+        page
+    }
 }
 
 // The circuit's numbers, the derivation's steps, verdict and count.
@@ -59,55 +70,66 @@ pub(crate) fn print_listing(circuit: &[u8], derivation: &[u8], answer: SolverAns
     let SolverAnswer::Solved {
         count,
         verdict,
-        length: _,
+        bytes: _,
     } = answer
     else {
         return;
     };
-    print_header(circuit);
+    let mut text = io::buffer();
+    let page = circuit_line(Page::empty(), &mut text, circuit);
+    let page = step_lines(page, &mut text, derivation);
+    verdict_line(page, &mut text, verdict, count).write(&mut text);
+}
+
+fn circuit_line(page: Page, text: &mut [u8], circuit: &[u8]) -> Page {
+    let answer = check_circuit(circuit);
+    let CircuitAnswer::Sizes { p, n, i, o, m } = answer else {
+        return page;
+    };
+    page.word(text, b"circuit")
+        .numbers(text, p, n, i)
+        .number(text, o as u64)
+        .number(text, m as u64)
+        .line(text)
+}
+
+fn step_lines(page: Page, text: &mut [u8], derivation: &[u8]) -> Page {
+    let mut page = page;
     let steps = u16_at(derivation, 5) as usize;
     let mut k = 0;
     while k < steps {
-        print_step(derivation, k);
+        page = step_line(page, text, derivation, k);
         k += 1;
     }
-    print_verdict(verdict, count);
-}
-
-fn print_header(circuit: &[u8]) {
-    let answer = check_circuit(circuit);
-    let CircuitAnswer::Sizes { p, n, i, o, m } = answer else {
-        return;
-    };
-    word(b"circuit");
-    number(p as u64);
-    number(n as u64);
-    number(i as u64);
-    number(o as u64);
-    number(m as u64);
-    word(b"\n");
+    page
 }
 
 // Step k, counted from 0, of a derivation's bytes.
-fn print_step(derivation: &[u8], k: usize)
+fn step_line(page: Page, text: &mut [u8], derivation: &[u8], k: usize) -> Page
     requires { ⌜ k < 65536 ⌝ }
 {
     let at = 7 + 7 * k;
-    word(b"step");
-    number(k as u64 + 1);
-    print_kind(byte_at(derivation, at));
-    number(u16_at(derivation, at + 1) as u64);
-    number(u16_at(derivation, at + 3) as u64);
-    number(u16_at(derivation, at + 5) as u64);
-    word(b"\n");
+    let page = page.word(text, b"step").number(text, k as u64 + 1);
+    let page = kind_word(page, text, byte_at(derivation, at));
+    fields_line(page, text, derivation, at)
 }
 
-fn print_kind(kind: u32) {
+// The target, constraint and reference of the step at an offset.
+fn fields_line(page: Page, text: &mut [u8], derivation: &[u8], at: usize) -> Page
+    requires { ⌜ at < 1000000 ⌝ }
+{
+    let target = u16_at(derivation, at + 1);
+    let constraint = u16_at(derivation, at + 3);
+    let reference = u16_at(derivation, at + 5);
+    page.numbers(text, target, constraint, reference).line(text)
+}
+
+fn kind_word(page: Page, text: &mut [u8], kind: u32) -> Page {
     match kind {
-        1 => word(b" root"),
-        2 => word(b" sum"),
-        3 => word(b" zero"),
-        4 => word(b" product"),
-        _ => word(b" digits"),
+        1 => page.word(text, b" root"),
+        2 => page.word(text, b" sum"),
+        3 => page.word(text, b" zero"),
+        4 => page.word(text, b" product"),
+        _ => page.word(text, b" digits"),
     }
 }

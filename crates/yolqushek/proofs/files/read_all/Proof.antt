@@ -1,5 +1,5 @@
 -- `yolqushek::files::read_all`: what is done stays within the buffer, and each turn leaves one fewer.
-use Prim.Native.Nat.{_≤_, _<_, _+_, _-_}
+use Prim.Native.Nat.{_≤_, _-_}
 use mathlib.Core.Path.{_≡_, sym}
 use lib.ListN.{length}
 use lib.Seq.{length-take-le}
