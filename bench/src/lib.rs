@@ -21,6 +21,6 @@ pub fn proved(record: &Record) -> Answer {
     buffer.truncate(written);
     match result {
         Ok((values, _)) => Answer { number: 0, place: 0, values, written: buffer },
-        Err(refusal) => Answer { number: refusal.number as u16, place: refusal.place as u32, ..Answer::default() },
+        Err(refusal) => Answer { number: refusal.number as u16, place: refusal.place, ..Answer::default() },
     }
 }

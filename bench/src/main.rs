@@ -5,7 +5,7 @@
 use std::hint::black_box;
 use std::time::Instant;
 
-use second::worst;
+use second::{wide_digits, worst};
 
 /// One row: what is timed, and the two calls.
 struct Row {
@@ -35,17 +35,42 @@ fn reading(name: &str, circuit: &[u8]) -> Row {
     row(format!("read {name}"), || yolqushek::read_circuit(circuit), || second::read_circuit(circuit))
 }
 
-/// Solving, and marking the derivation, also padded to 4,096 steps by repeating it.
-fn solving(name: &str, circuit: &[u8], rows: &mut Vec<Row>) {
-    let signals = second::read_circuit(circuit).expect("a valid circuit").signals as usize;
-    let (mut one, mut two) = (vec![0; 7 + 14 * signals], vec![0; 7 + 14 * signals]);
+/// Solving, and the derivation's bytes, which both find.
+fn solved(name: &str, circuit: &[u8]) -> (Row, Vec<u8>) {
+    let (mut one, mut two) = (vec![0; longest(circuit)], vec![0; longest(circuit)]);
     let (_, length) = yolqushek::solve(circuit, &mut one).expect("the buffer is long enough");
     assert_eq!(second::solve(circuit, &mut two).map(|(_, _, length)| length), Ok(length));
     assert_eq!(one, two);
-    rows.push(row(format!("solve {name}"), || yolqushek::solve(circuit, &mut one), || second::solve(circuit, &mut two)));
-    rows.push(marking(&format!("mark {name}"), circuit, &one[..length], signals));
-    if length > 7 {
-        rows.push(marking(&format!("mark {name}, 4,096 steps"), circuit, &repeated(&one[7..length]), signals));
+    let derivation = one[..length].to_vec();
+    (row(format!("solve {name}"), || yolqushek::solve(circuit, &mut one), || second::solve(circuit, &mut two)), derivation)
+}
+
+fn signals(circuit: &[u8]) -> usize {
+    second::read_circuit(circuit).expect("a valid circuit").signals.into()
+}
+
+/// The bytes that a derivation of the solver takes at most.
+fn longest(circuit: &[u8]) -> usize {
+    7 + 14 * signals(circuit)
+}
+
+/// Solving, and marking the derivation, also padded to 4,096 steps by repeating it.
+fn solving(name: &str, circuit: &[u8], rows: &mut Vec<Row>) {
+    let (row, derivation) = solved(name, circuit);
+    rows.push(row);
+    rows.push(marking(&format!("mark {name}"), circuit, &derivation));
+    if derivation.len() > 7 {
+        rows.push(marking(&format!("mark {name}, 4,096 steps"), circuit, &repeated(&derivation[7..])));
+    }
+}
+
+/// The widest digits tests: marking 4,096 steps, and solving circuits with more and more sums that nothing settles.
+fn wide_digits(rows: &mut Vec<Row>) {
+    for marked in wide_digits::all_marked() {
+        rows.push(marking(&format!("mark digits on {}, 4,096 steps", marked.name), &marked.circuit, &marked.derivation));
+    }
+    for sums in [35, 71, wide_digits::MOST_SUMS] {
+        rows.push(solved(&format!("{sums} broken sums"), &wide_digits::broken_sums(sums)).0);
     }
 }
 
@@ -56,8 +81,8 @@ fn repeated(steps: &[u8]) -> Vec<u8> {
     derivation
 }
 
-fn marking(name: &str, circuit: &[u8], derivation: &[u8], signals: usize) -> Row {
-    let (mut one, mut two) = (vec![9; signals], vec![9; signals]);
+fn marking(name: &str, circuit: &[u8], derivation: &[u8]) -> Row {
+    let (mut one, mut two) = (vec![9; signals(circuit)], vec![9; signals(circuit)]);
     assert!(yolqushek::check_derivation(circuit, derivation, &mut one).is_ok());
     assert!(second::check_derivation(circuit, derivation, &mut two).is_ok());
     assert_eq!(one, two);
@@ -131,6 +156,7 @@ fn main() {
     for (name, circuit) in worst::all() {
         solving(&name.replace('_', " "), &circuit, &mut rows);
     }
+    wide_digits(&mut rows);
     println!("| call | proved µs | second µs | ratio |\n|---|---:|---:|---:|");
     for row in rows {
         println!("| {} | {:.2} | {:.2} | {:.2} |", row.name, row.proved, row.second, row.proved / row.second);

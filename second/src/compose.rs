@@ -4,7 +4,8 @@ use crate::damage::damaged;
 use crate::edge::{any_edge, listed_edges, tied, Edge};
 use crate::generate::{any, small, tiny, PRIMES};
 use crate::grow::grown;
-use crate::hand_in::{damaged_derivation, damaged_pair, padded, random_derivation, random_step, small_pairs, with_changed_field};
+use crate::hand_in::{damaged_derivation, damaged_pair, faulty_derivation, faulty_pair};
+use crate::hand_in::{padded, random_derivation, random_step, small_pairs, with_changed_fields};
 use crate::marker::write_steps;
 use crate::pair::write_pair;
 use crate::planted::{planted, Planted};
@@ -12,11 +13,12 @@ use crate::random::Random;
 use crate::reader::{read_circuit, Circuit};
 use crate::rules::Rules;
 use crate::solver::derive;
+use crate::two_faults::KINDS;
 use crate::vectors::{Record, DERIVATION, PAIR, READ, SOLVE};
 use crate::{brute, worst};
 
 /// The usual length of all files together.
-pub const USUAL_SIZE: usize = 980_000;
+pub const USUAL_SIZE: usize = 1_036_000;
 
 /// How many random circuits at the edge of a rule there always are.
 const EDGES: usize = 60;
@@ -24,21 +26,20 @@ const EDGES: usize = 60;
 /// How many circuits with ties.
 const TIES: usize = 40;
 
-/// The records of files of about this length together. From 600,000 bytes on there is a file of exactly 60,000 bytes among them, from 1,500,000 on all
-/// worst circuits.
+/// The records of files of about this length together, with all fixed calls. From 1,500,000 bytes on all worst circuits are among them.
 pub fn compose(seed: u64, size: usize) -> Vec<Record> {
-    let mut maker = Maker { rng: Random::new(seed), records: Vec::new(), size: 9 };
-    maker.fixed_calls(size >= 600_000);
+    let mut maker = Maker::new(seed);
+    maker.fixed_calls();
     if size >= 1_500_000 {
         worst::all().iter().for_each(|(_, circuit)| maker.solve_and_mark(circuit));
     }
     listed_edges(&mut maker.rng).iter().for_each(|edge| maker.edge(edge, true));
-    (0..EDGES).for_each(|_| maker.random_edge());
-    (0..TIES).for_each(|_| maker.ties());
-    while maker.size < size {
-        maker.random_circuit();
-    }
-    maker.records
+    maker.random_calls(size)
+}
+
+/// The records of files of about this length without the fixed calls.
+pub fn compose_random(seed: u64, size: usize) -> Vec<Record> {
+    Maker::new(seed).random_calls(size)
 }
 
 /// The records so far, and how many bytes they take.
@@ -49,6 +50,20 @@ pub struct Maker {
 }
 
 impl Maker {
+    fn new(seed: u64) -> Maker {
+        Maker { rng: Random::new(seed), records: Vec::new(), size: 9 }
+    }
+
+    /// The records so far, and random ones until all take so many bytes.
+    fn random_calls(mut self, size: usize) -> Vec<Record> {
+        (0..EDGES).for_each(|_| self.random_edge());
+        (0..TIES).for_each(|_| self.ties());
+        while self.size < size {
+            self.random_circuit();
+        }
+        self.records
+    }
+
     /// Adds a call with its answer.
     pub fn call(&mut self, kind: u8, circuit: &[u8], hand_in: &[u8], lent: usize) {
         let record = Record::answered(kind, circuit, hand_in, lent);
@@ -103,16 +118,39 @@ impl Maker {
             self.pairs(&circuit, &read);
         }
         for _ in 0..self.rng.pick(&[0, 0, 1, 2]) {
-            let bytes = damaged(&mut self.rng, &circuit);
-            self.call_any_kind(&bytes);
+            self.faulty_call(&circuit, &read);
         }
+    }
+
+    /// Any call with a damaged circuit, mostly, and with a hand-in and a buffer that have faults as well, or not.
+    fn faulty_call(&mut self, good: &[u8], read: &Circuit) {
+        let rng = &mut self.rng;
+        let circuit = if rng.once_in(4) { good.to_vec() } else { damaged(rng, good) };
+        let kind = rng.pick(&KINDS);
+        let n = usize::from(read.signals);
+        let hand_in = match kind {
+            DERIVATION => faulty_derivation(rng, read),
+            PAIR => faulty_pair(rng, read),
+            _ => Vec::new(),
+        };
+        let lent = match kind {
+            DERIVATION => self.lent(n),
+            SOLVE => self.lent(7 + 14 * n),
+            _ => 0,
+        };
+        self.call(kind, &circuit, &hand_in, lent);
+    }
+
+    /// The solver alone.
+    pub fn solve(&mut self, circuit: &[u8]) {
+        let n = usize::from(read_circuit(circuit).expect("a valid circuit").signals);
+        self.call(SOLVE, circuit, &[], 7 + 14 * n);
     }
 
     /// The solver where many steps are on offer.
     fn ties(&mut self) {
         let circuit = tied(&mut self.rng);
-        let n = usize::from(read_circuit(&circuit).expect("tied circuits are valid").signals);
-        self.call(SOLVE, &circuit, &[], 7 + 14 * n);
+        self.solve(&circuit);
     }
 
     fn random_edge(&mut self) {
@@ -128,7 +166,7 @@ impl Maker {
             self.call(DERIVATION, &edge.circuit, &write_steps(steps), n);
         }
         if solve {
-            self.call(SOLVE, &edge.circuit, &[], 7 + 14 * n);
+            self.solve(&edge.circuit);
         }
     }
 
@@ -172,7 +210,7 @@ impl Maker {
                     rng.shuffle(&mut steps);
                     steps
                 }
-                2 => with_changed_field(rng, read, &found),
+                2 => with_changed_fields(rng, read, &found),
                 3 => {
                     let mut steps = found;
                     steps.extend(random_step(rng, read));

@@ -1,11 +1,12 @@
 //! Derivations and pairs to hand in, good and bad.
 
 use crate::brute;
-use crate::marker::MOST_STEPS;
+use crate::marker::{write_steps, MOST_STEPS};
 use crate::pair::write_pair;
 use crate::random::Random;
 use crate::reader::{number16, number32, Circuit};
 use crate::rules::{Rules, Standing, Step, ROOT, ZERO};
+use crate::solver::derive;
 
 /// A random step with its fields in range, if the circuit has any for the kind drawn.
 pub fn random_step(rng: &mut Random, circuit: &Circuit) -> Option<Step> {
@@ -49,32 +50,38 @@ pub fn padded(rng: &mut Random, steps: &[Step], length: usize) -> Vec<Step> {
     padded
 }
 
-/// The steps with one field of one of them changed.
-pub fn with_changed_field(rng: &mut Random, circuit: &Circuit, steps: &[Step]) -> Vec<Step> {
+/// The steps with one field of one of them changed, or with two of any of them.
+pub fn with_changed_fields(rng: &mut Random, circuit: &Circuit, steps: &[Step]) -> Vec<Step> {
     let mut changed = steps.to_vec();
     if changed.is_empty() {
         changed.push(Step::new(ROOT, 1, 1, 0));
     }
+    for _ in 0..rng.range(1, 2) {
+        change_field(rng, circuit, &mut changed);
+    }
+    changed
+}
+
+fn change_field(rng: &mut Random, circuit: &Circuit, changed: &mut [Step]) {
     let (n, m) = (circuit.signals, circuit.constraints.len() as u16);
     let at = rng.below(changed.len());
     let step = &mut changed[at];
     match rng.below(8) {
         0 => step.kind = rng.pick(&[0, 6, 7, 128, 255]),
         1 => step.kind = rng.range(1, 5) as u8,
-        2 => step.target = rng.pick(&[0, n + 1, 65_535, step.target + 256]),
+        2 => step.target = rng.pick(&[0, n + 1, 65_535, step.target.wrapping_add(256)]),
         3 => step.target = rng.range(1, usize::from(n)) as u16,
-        4 => step.constraint = rng.pick(&[0, 1, m + 1, 65_535, step.constraint + 256]),
+        4 => step.constraint = rng.pick(&[0, 1, m + 1, 65_535, step.constraint.wrapping_add(256)]),
         5 => step.constraint = rng.range(1, usize::from(m.max(1))) as u16,
         6 => step.reference = rng.pick(&[0, 1, n, n + 1, 65_535]),
         _ => step.reference = rng.range(1, usize::from(n)) as u16,
     }
-    changed
 }
 
-/// A derivation file with a fault in its first bytes or its length, now and then with two.
+/// A derivation file with a fault in its first bytes or its length, or with two.
 pub fn damaged_derivation(rng: &mut Random, derivation: &[u8]) -> Vec<u8> {
     let bytes = fault_in_derivation(rng, derivation);
-    match bytes.len() >= 7 && rng.once_in(4) {
+    match bytes.len() >= 7 && rng.once_in(2) {
         true => fault_in_derivation(rng, &bytes),
         false => bytes,
     }
@@ -96,10 +103,10 @@ fn fault_in_derivation(rng: &mut Random, derivation: &[u8]) -> Vec<u8> {
     bytes
 }
 
-/// A pair file with a fault in its first bytes, its length, its output or a value, now and then with two.
+/// A pair file with a fault in its first bytes, its length, its output or a value, or with two.
 pub fn damaged_pair(rng: &mut Random, circuit: &Circuit, pair: &[u8]) -> Vec<u8> {
     let bytes = fault_in_pair(rng, circuit, pair);
-    match bytes.len() >= pair.len() && rng.once_in(4) {
+    match bytes.len() >= pair.len() && rng.once_in(2) {
         true => fault_in_pair(rng, circuit, &bytes),
         false => bytes,
     }
@@ -120,6 +127,32 @@ fn fault_in_pair(rng: &mut Random, circuit: &Circuit, pair: &[u8]) -> Vec<u8> {
         _ => bytes[value..value + 4].copy_from_slice(&(old.wrapping_add(1) % p).to_le_bytes()),
     }
     bytes
+}
+
+/// The solver's derivation, mostly with a fault or several in its steps, its first bytes or its length.
+pub fn faulty_derivation(rng: &mut Random, circuit: &Circuit) -> Vec<u8> {
+    let mut steps = derive(circuit).0;
+    if rng.once_in(2) {
+        steps = with_changed_fields(rng, circuit, &steps);
+    }
+    let bytes = write_steps(&steps);
+    match rng.once_in(3) {
+        true => damaged_derivation(rng, &bytes),
+        false => bytes,
+    }
+}
+
+/// A pair of random runs, often with a fault or two.
+pub fn faulty_pair(rng: &mut Random, circuit: &Circuit) -> Vec<u8> {
+    let p = circuit.field.prime() as usize;
+    let mut run = || circuit.all_signals().map(|_| if rng.once_in(2) { 0 } else { rng.below(p) as u32 }).collect::<Vec<u32>>();
+    let (first, second) = (run(), run());
+    let q = rng.range(usize::from(circuit.inputs) + 1, usize::from(circuit.inputs + circuit.outputs)) as u16;
+    let pair = write_pair(q, &first, &second);
+    match rng.once_in(2) {
+        true => damaged_pair(rng, circuit, &pair),
+        false => pair,
+    }
 }
 
 /// Pairs for a small circuit: accepted ones, and satisfying runs that agree at the output or differ in an input.

@@ -11,7 +11,8 @@
 //! - [`solve`] writes the derivation that document 01 prescribes (1 to 10, 25).
 //!
 //! [`vectors`] is the file format of the test vectors, [`compose`] fills such a file, [`generate`], [`grow`] and [`planted`] make the
-//! circuits for it, and [`worst`] those on which a solver works longest.
+//! circuits for it, [`two_faults`] and [`ties`] what comes first, [`worst`] the circuits on which a solver works longest, and [`wide_digits`] those
+//! on which the digits rule does.
 
 pub mod brute;
 pub mod cases;
@@ -30,7 +31,10 @@ pub mod random;
 pub mod reader;
 pub mod rules;
 pub mod solver;
+pub mod ties;
+pub mod two_faults;
 pub mod vectors;
+pub mod wide_digits;
 pub mod worst;
 pub mod writer;
 

@@ -1,4 +1,4 @@
-//! The fixed calls of a file of test vectors: the cases of document 01, and everything at and beyond its limits.
+//! The fixed calls of a file of test vectors: the cases of document 01, everything at and beyond its limits, and what comes first.
 
 use crate::cases::{case_a, case_b, case_c, case_e, case_f, case_g};
 use crate::compose::Maker;
@@ -11,9 +11,10 @@ use crate::planted::Planted;
 use crate::reader::read_circuit;
 use crate::rules::Step;
 use crate::solver::derive;
+use crate::two_faults::{self, Pair};
 use crate::vectors::{DERIVATION, PAIR, READ, SOLVE};
-use crate::worst;
 use crate::writer::Draft;
+use crate::{ties, worst};
 
 /// Numbers n, i, o, m at and beyond their limits.
 #[rustfmt::skip]
@@ -24,16 +25,31 @@ const SIZES: [[u16; 4]; 21] = [
 ];
 
 impl Maker {
-    /// All fixed calls, perhaps with a circuit file of exactly 60,000 bytes.
-    pub fn fixed_calls(&mut self, exactly: bool) {
+    /// All fixed calls; the long ones first, so that files can be filled up.
+    pub fn fixed_calls(&mut self) {
+        self.largest();
+        self.too_long();
+        self.many_steps();
         self.document_cases();
         self.header_limits();
+        self.size_limits();
         self.form_limits();
+        self.buffer_limits();
         self.every_step();
         self.every_field();
+        self.fields_of_met_steps();
         self.every_value();
-        self.many_steps();
-        self.largest(exactly);
+        self.every_two_faults();
+        ties::circuits().iter().for_each(|circuit| self.solve(circuit));
+    }
+
+    /// Every kind of call, with a derivation without steps, a pair of runs of zeros, and buffers that are long enough for n signals.
+    fn every_kind(&mut self, circuit: &[u8], n: usize) {
+        let zeros = vec![0; n];
+        self.call(READ, circuit, &[], 0);
+        self.call(DERIVATION, circuit, &write_steps(&[]), n);
+        self.call(PAIR, circuit, &write_pair(1, &zeros, &zeros), 0);
+        self.call(SOLVE, circuit, &[], 7 + 14 * n);
     }
 
     /// Cases a to j of document 01.
@@ -74,6 +90,45 @@ impl Maker {
             let mut bytes = header(13, 1, 0, 1, 0);
             bytes[at] = byte;
             self.call_any_kind(&bytes);
+        }
+    }
+
+    /// n of 256 and 257, m of 512 and 513, t of 32 and 33, each in every call.
+    fn size_limits(&mut self) {
+        for n in [255, 256, 257] {
+            self.every_kind(&Draft::new(13, n, 0, 1).bytes(), usize::from(n));
+            self.call(READ, &Draft::new(13, n, n - 1, 1).bytes(), &[], 0);
+            self.call(READ, &Draft::new(13, n, 0, n).bytes(), &[], 0);
+            for signal in [256, 257] {
+                self.call(READ, &Draft::new(13, n, 0, 1).with(&[(signal, 1)], &[], &[]).bytes(), &[], 0);
+            }
+        }
+        for (m, length) in [(511, 1533), (512, 1535), (512, 1536), (512, 1537), (513, 1536), (513, 1539)] {
+            let mut bytes = Draft::new(13, 1, 0, 1).bytes();
+            bytes[15..17].copy_from_slice(&u16::to_le_bytes(m));
+            self.every_kind(&[&bytes[..], &vec![0; length]].concat(), 1);
+        }
+        let terms = |count: u16| -> Vec<(u16, i64)> { (0..count).map(|signal| (signal, 1)).collect() };
+        for count in [31, 32, 33] {
+            let draft = Draft::new(13, 33, 0, 1);
+            let drafts =
+                [draft.clone().with(&terms(count), &[], &[]), draft.clone().with(&[], &terms(count), &[]), draft.with(&[], &[], &terms(count))];
+            drafts.iter().for_each(|draft| self.every_kind(&draft.bytes(), 33));
+        }
+    }
+
+    /// Buffers for marks of n - 1, n and n + 1 bytes, and for the solver of 7 + 14 n - 1 bytes and more.
+    fn buffer_limits(&mut self) {
+        let chain = worst::bits_and_long_sum(9);
+        for (circuit, n) in [(case_f(), 1), (case_a(), 2), (case_c(13), 4), (chain, 10), (Draft::new(13, 256, 3, 1).bytes(), 256)] {
+            let steps = write_steps(&derive(&read_circuit(&circuit).expect("a valid circuit")).0);
+            for lent in [n - 1, n, n + 1] {
+                self.call(DERIVATION, &circuit, &steps, lent);
+                self.call(DERIVATION, &circuit, &write_steps(&[Step::new(3, 1, 0, 0)]), lent);
+            }
+            for lent in [6, 7, 7 + 7 * n, 7 + 14 * n - 1, 7 + 14 * n, 7 + 14 * n + 1] {
+                self.call(SOLVE, &circuit, &[], lent);
+            }
         }
     }
 
@@ -131,6 +186,23 @@ impl Maker {
         }
     }
 
+    /// Steps that would be met but for a field: zero steps that name a constraint or a reference, digits steps by reference 0, by a signal without
+    /// a coefficient, and of a target without one.
+    fn fields_of_met_steps(&mut self) {
+        let roots = [Step::new(1, 2, 1, 0), Step::new(1, 3, 2, 0)];
+        for p in [5, 13, 2_147_483_647] {
+            // 2 and 3 are 0; 4 equals input 1, and 3 is in that equation with a coefficient that becomes 0; 5 is in none.
+            let draft = Draft::new(p, 5, 1, 4).with(&[(2, 1)], &[(2, 1)], &[]).with(&[(3, 2)], &[(3, 1)], &[]);
+            let circuit = draft.with(&[(0, 1)], &[(1, 1), (3, 1), (4, -1)], &[(3, 1)]).bytes();
+            let zeros = [(2, 0, 0), (2, 1, 0), (2, 3, 0), (2, 0, 1), (2, 0, 2), (3, 1, 1), (3, 0, 5), (3, 2, 3)];
+            let digits = [(4, 3, 4), (4, 3, 0), (4, 3, 2), (4, 3, 3), (4, 3, 5), (3, 3, 4), (5, 3, 4), (3, 3, 3), (1, 3, 0), (5, 3, 5)];
+            let of_kind = |kind: u8, fields: &[(u16, u16, u16)]| -> Vec<Step> { fields.iter().map(|&(t, c, r)| Step::new(kind, t, c, r)).collect() };
+            for step in [of_kind(3, &zeros), of_kind(5, &digits)].concat() {
+                self.call(DERIVATION, &circuit, &write_steps(&[&roots[..], &[step]].concat()), 5);
+            }
+        }
+    }
+
     /// Pairs with a fault at each value, input, output and constraint.
     fn every_value(&mut self) {
         let (inputs, outputs) = (Draft::new(7, 6, 5, 1).bytes(), Draft::new(7, 6, 0, 6).bytes());
@@ -155,17 +227,21 @@ impl Maker {
         }
     }
 
-    /// Derivations with 4,096 steps and with one more.
+    /// Derivations with 4,095 and 4,096 steps and with one more, some with a fault in a step.
     fn many_steps(&mut self) {
         let c = case_c(13);
         let steps = derive(&read_circuit(&c).expect("a valid circuit")).0;
         let longest = padded(&mut self.rng, &steps, MOST_STEPS);
+        let unmet = [Step::new(4, 2, 4, 0)];
+        self.call(DERIVATION, &c, &write_steps(&longest[..MOST_STEPS - 1]), 4);
         self.call(DERIVATION, &c, &write_steps(&longest), 4);
+        self.call(DERIVATION, &c, &write_steps(&[&longest[..MOST_STEPS - 1], &unmet].concat()), 4);
         self.call(DERIVATION, &c, &write_steps(&[&longest[..], &steps[..1]].concat()), 4);
+        self.call(DERIVATION, &c, &write_steps(&[&unmet, &longest[..]].concat()), 3);
     }
 
-    /// A circuit of 59,999 bytes, which is the most; and longer files, perhaps one of exactly 60,000 bytes.
-    fn largest(&mut self, exactly: bool) {
+    /// A circuit of 59,999 bytes, which is the most; and files of 60,000 and 60,001 bytes.
+    fn largest(&mut self) {
         let seed = self.rng.draw();
         let Planted { circuit, q, first, second } = worst::largest(seed);
         self.solve_and_mark(&circuit);
@@ -175,9 +251,22 @@ impl Maker {
         let mut broken = second.clone();
         broken[50] = (broken[50] + 1) % 2_147_483_647;
         self.call(PAIR, &circuit, &write_pair(q, &first, &broken), 0);
-        self.call(READ, &[&circuit[..], &[7, 7]].concat(), &[], 0);
-        if exactly {
-            self.call(READ, &[&circuit[..], &[7]].concat(), &[], 0);
+        self.every_kind(&[&circuit[..], &[7]].concat(), 256);
+        self.every_kind(&[&circuit[..], &[7, 7]].concat(), 256);
+    }
+
+    /// A circuit that is too long, and has all other faults that it may have, with good and bad hand-ins.
+    fn too_long(&mut self) {
+        let long = two_faults::long_circuit();
+        for kind in two_faults::KINDS {
+            let calls = two_faults::own(kind).iter().map(|fault| two_faults::with(kind, fault)).chain([two_faults::good(kind)]);
+            calls.for_each(|call| self.call(kind, &long, &call.hand_in, call.lent));
+        }
+    }
+
+    fn every_two_faults(&mut self) {
+        for Pair { call, .. } in two_faults::pairs() {
+            self.call(call.kind, &call.circuit, &call.hand_in, call.lent);
         }
     }
 }

@@ -21,7 +21,7 @@ pub fn all() -> Vec<(&'static str, Vec<u8>)> {
     ]
 }
 
-fn bit(draft: &mut Draft, signal: u16) {
+pub(crate) fn bit(draft: &mut Draft, signal: u16) {
     draft.add(&[(signal, 1)], &[(signal, 1), (0, -1)], &[]);
 }
 

@@ -1,8 +1,12 @@
 //! The files of test vectors: what is in them, and that they are read back as they were written.
 
 use std::collections::BTreeSet;
+use std::path::Path;
 
 use second::compose::{compose, USUAL_SIZE};
+use second::marker::read_steps;
+use second::reader::number16;
+use second::rules::Step;
 use second::vectors::{records, volumes, write, Record, DERIVATION, MOST_BYTES, PAIR, READ, SOLVE};
 
 #[test]
@@ -23,9 +27,69 @@ fn files_are_read_back_and_agree() {
 fn there_are_some_thousands_of_circuits() {
     let made = compose(1, USUAL_SIZE);
     let circuits: BTreeSet<&[u8]> = made.iter().map(|record| &record.circuit[..]).collect();
-    assert!(circuits.len() > 2_500, "{}", circuits.len());
+    assert!(circuits.len() > 2_000, "{}", circuits.len());
     let sizes: BTreeSet<usize> = circuits.iter().map(|circuit| circuit.len()).collect();
     assert!(sizes.contains(&0) && sizes.contains(&59_999) && sizes.contains(&60_000));
+}
+
+#[test]
+fn the_stored_files_are_these() {
+    let folder = Path::new(env!("CARGO_MANIFEST_DIR")).join("../crates/vectors/data");
+    for (number, volume) in (1..).zip(volumes(&compose(1, USUAL_SIZE))) {
+        assert!(std::fs::read(folder.join(format!("vectors-{number}.bin"))).unwrap() == write(volume), "vectors-{number}.bin");
+    }
+}
+
+/// Each limit is told from its neighbours by several vectors.
+#[test]
+fn no_limit_hangs_on_one_vector() {
+    let made = compose(1, USUAL_SIZE);
+    let several = |what: &str, test: &dyn Fn(&Record) -> bool| {
+        let count = made.iter().filter(|record| test(record)).count();
+        assert!(count >= 3, "{what}: {count}");
+    };
+    let header = |r: &Record, at: usize| if r.circuit.len() < 17 { 0 } else { number16(&r.circuit, at) };
+    for (length, number) in [(16, 1), (17, 0), (59_999, 0), (60_000, 10), (60_001, 1)] {
+        several("length", &|r| r.circuit.len() == length && r.answer.number == number);
+    }
+    for (n, number) in [(255, 0), (256, 0), (257, 5)] {
+        several("n", &|r| header(r, 9) == n && r.answer.number == number);
+    }
+    for (m, number) in [(511, 0), (512, 0), (513, 5)] {
+        several("m", &|r| header(r, 15) == m && r.answer.number == number);
+    }
+    for (t, number) in [(32, 0), (33, 7)] {
+        several("t", &|r| header(r, 15) > 0 && r.circuit.get(17) == Some(&t) && r.answer.number == number);
+    }
+    for (more, number) in [(-1, 14), (0, 0), (1, 0)] {
+        several("marks", &|r| r.kind == DERIVATION && i64::from(r.lent) == i64::from(header(r, 9)) + more && r.answer.number == number);
+    }
+    for (more, number) in [(-1, 25), (0, 0), (1, 0)] {
+        several("output", &|r| r.kind == SOLVE && i64::from(r.lent) == 7 + 14 * i64::from(header(r, 9)) + more && r.answer.number == number);
+    }
+    for (steps, least) in [(4095, 1), (4096, 2), (4097, 2)] {
+        let refused = |r: &Record| r.answer.number == 13;
+        let count = made.iter().filter(|r| r.kind == DERIVATION && r.hand_in.len() == 7 + 7 * steps && refused(r) == (steps > 4096)).count();
+        assert!(count >= least, "{steps} steps: {count}");
+    }
+}
+
+/// The last steps of derivations, and how they are refused.
+#[test]
+fn fields_hang_on_several_vectors() {
+    let made = compose(1, USUAL_SIZE);
+    let several = |what: &str, number: u16, test: &dyn Fn(Step) -> bool| {
+        let ends = made.iter().filter(|r| r.kind == DERIVATION && r.answer.number == number).filter_map(|r| {
+            let steps = read_steps(&r.hand_in).ok()?;
+            steps.last().copied().filter(|_| r.answer.place as usize == steps.len())
+        });
+        let count = ends.filter(|&step| test(step)).count();
+        assert!(count >= 3, "{what}: {count}");
+    };
+    several("digits by reference 0", 16, &|s| s.kind == 5 && s.target > 0 && s.constraint > 0 && s.reference == 0);
+    several("digits by a reference without a coefficient", 17, &|s| s == Step::new(5, 4, 3, 3) || s == Step::new(5, 4, 3, 5));
+    several("zero with a constraint", 16, &|s| s.kind == 3 && s.constraint > 0 && s.reference == 0);
+    several("zero with a reference", 16, &|s| s.kind == 3 && s.constraint == 0 && s.reference > 0);
 }
 
 #[test]

@@ -4,17 +4,27 @@
 use std::collections::BTreeMap;
 
 use bench::proved;
-use second::compose::compose;
+use second::compose::{compose, compose_random};
+use second::vectors::{Record, DERIVATION, SOLVE};
+use second::wide_digits::{all_marked, broken_sums, MOST_SUMS};
+
+/// Solving and marking where the digits test is widest.
+fn wide_digits() -> Vec<Record> {
+    let solved = [1, 35, MOST_SUMS].map(|sums| Record::answered(SOLVE, &broken_sums(sums), &[], 7 + 14 * 256));
+    let marked = all_marked().map(|marked| Record::answered(DERIVATION, &marked.circuit, &marked.derivation, 256));
+    solved.into_iter().chain(marked).collect()
+}
 
 fn main() {
     let mut arguments = std::env::args().skip(1);
     let wanted: u64 = arguments.next().and_then(|text| text.parse().ok()).expect("use: compare CALLS [SEED]");
     let mut seed: u64 = arguments.next().map_or(1, |text| text.parse().expect("a seed is a number"));
     let (mut calls, mut kinds, mut numbers) = (0, BTreeMap::<u8, u64>::new(), BTreeMap::<u16, u64>::new());
-    // The first records have the worst circuits among them.
-    let mut size = 1_600_000;
+    // The first records are the fixed calls, with the worst circuits among them; all others are random.
+    let mut records = compose(seed, 1_600_000);
+    records.extend(wide_digits());
     while calls < wanted {
-        for record in compose(seed, size) {
+        for record in records {
             let answer = proved(&record);
             if answer != record.answer {
                 println!("seed {seed}: {record:?}\nproved: {answer:?}");
@@ -24,7 +34,8 @@ fn main() {
             *kinds.entry(record.kind).or_default() += 1;
             *numbers.entry(record.answer.number).or_default() += 1;
         }
-        (seed, size) = (seed + 1, 400_000);
+        seed += 1;
+        records = compose_random(seed, 400_000);
     }
     println!("{calls} calls agree; by kind {kinds:?}; by refusal {numbers:?}");
 }

@@ -7,8 +7,10 @@ use circuit::bytes::u32_at;
 ghost use Prim.Native.Nat.{_+_, _≤_};
 ghost use lib.ListN.{length};
 
-// What buffers are filled with before a call.
+// What buffers and lent numbers are filled with before a call.
 const FILLING: u8 = 165;
+
+const UNTOUCHED: u64 = 11936128518282651045;
 
 pub(crate) fn agrees(file: &[u8], record: Record) -> bool {
     let mut buffer = [FILLING; 4096];
@@ -33,52 +35,99 @@ fn agrees_on(file: &[u8], record: Record, buffer: &mut [u8]) -> bool {
     }
     let circuit = part(file, circuit_at, circuit_size);
     let hand_in = part(file, hand_in_at, hand_in_size);
-    let mut answer = [0u64; 5];
-    let number = call(
-        record.kind,
-        circuit,
-        hand_in,
-        &mut buffer[..lent],
-        &mut answer,
-    );
-    if number != u16_at(file, at) {
+    let kind = record.kind;
+    let told = call(kind, circuit, hand_in, &mut buffer[..lent]);
+    if told.returned != returned(file, at, kind) {
         return false;
     }
-    if !is_said(file, at, number, answer) {
+    let numbers = told.numbers;
+    if !is_said(file, at, kind, numbers) {
         return false;
     }
     is_written(file, at, buffer)
 }
 
-fn call(
-    kind: u32,
-    circuit: &[u8],
-    hand_in: &[u8],
-    buffer: &mut [u8],
-    answer: &mut [u64; 5],
-) -> u32 {
+// What a call returned, and the lent numbers after it, with the filling in place of those that aren't lent.
+pub struct Told {
+    pub returned: u64,
+    pub numbers: [u64; 5],
+}
+
+fn call(kind: u32, circuit: &[u8], hand_in: &[u8], buffer: &mut [u8]) -> Told {
     match kind {
-        1 => exports::yolqushek_read(circuit, answer),
-        2 => exports::yolqushek_mark(circuit, hand_in, buffer, answer),
-        3 => exports::yolqushek_pair(circuit, hand_in, answer),
-        _ => exports::yolqushek_solve(circuit, buffer, answer),
+        1 => read(circuit),
+        2 => mark(circuit, hand_in, buffer),
+        3 => Told {
+            returned: exports::yolqushek_pair(circuit, hand_in),
+            numbers: [UNTOUCHED; 5],
+        },
+        _ => solve(circuit, buffer),
     }
 }
 
-// The five values: those of the record, or a refusal's place and zeros.
-fn is_said(file: &[u8], at: usize, number: u32, answer: [u64; 5]) -> bool
+fn read(circuit: &[u8]) -> Told {
+    let mut numbers = [UNTOUCHED; 5];
+    let returned = exports::yolqushek_read(circuit, &mut numbers);
+    Told { returned, numbers }
+}
+
+fn mark(circuit: &[u8], hand_in: &[u8], buffer: &mut [u8]) -> Told {
+    let mut two = [UNTOUCHED; 2];
+    let returned = exports::yolqushek_mark(circuit, hand_in, buffer, &mut two);
+    Told {
+        returned,
+        numbers: [two[0], two[1], UNTOUCHED, UNTOUCHED, UNTOUCHED],
+    }
+}
+
+fn solve(circuit: &[u8], buffer: &mut [u8]) -> Told {
+    let mut three = [UNTOUCHED; 3];
+    let returned = exports::yolqushek_solve(circuit, buffer, &mut three);
+    Told {
+        returned,
+        numbers: [three[0], three[1], three[2], UNTOUCHED, UNTOUCHED],
+    }
+}
+
+// The value that the call must return: the record's number and place, or 0 and an accepted pair's signal.
+fn returned(file: &[u8], at: usize, kind: u32) -> u64
     requires { ⌜ at + 30 ≤ length (now file) ⌝ }
 {
+    let number = u16_at(file, at);
+    if number != 0 {
+        return number as u64 * 4294967296 + u32_at(file, at + 2) as u64;
+    }
+    if kind == 3 {
+        u32_at(file, at + 6) as u64
+    } else {
+        0
+    }
+}
+
+// How many numbers a call hands over on a result.
+fn handed_over(kind: u32) -> usize {
+    match kind {
+        1 => 5,
+        2 => 2,
+        3 => 0,
+        _ => 3,
+    }
+}
+
+// The lent numbers: those of the record on a result, and the filling else.
+fn is_said(file: &[u8], at: usize, kind: u32, numbers: [u64; 5]) -> bool
+    requires { ⌜ at + 30 ≤ length (now file) ⌝ }
+{
+    let number = u16_at(file, at);
+    let count = if number == 0 { handed_over(kind) } else { 0 };
     let mut j = 0;
     while j < 5 {
-        let said = if number == 0 {
-            u32_at(file, at + 6 + 4 * j)
-        } else if j == 0 {
-            u32_at(file, at + 2)
+        let said = if j < count {
+            u32_at(file, at + 6 + 4 * j) as u64
         } else {
-            0
+            UNTOUCHED
         };
-        if answer[j] != said as u64 {
+        if numbers[j] != said {
             return false;
         }
         j += 1;

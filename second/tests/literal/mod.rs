@@ -1,5 +1,10 @@
 //! The rules and the solver in the words of document 01, with no thought of speed: maps for everything, inverses by Euclid, searches over all steps.
 
+// Each test uses a part of this.
+#![allow(dead_code)]
+
+pub mod calls;
+
 use std::collections::{BTreeMap, BTreeSet};
 
 use second::reader::{Circuit, Form};
@@ -18,6 +23,19 @@ pub struct Literal<'a> {
 pub struct Standing {
     pub bounds: BTreeMap<u16, i128>,
     pub marked: BTreeSet<u16>,
+}
+
+/// What the solver's orders compare, least first.
+pub type Key = [i128; 4];
+
+/// The solver's two orders, each by what the right one compares: in bounds new bound, target, kind, constraint; in marks target, kind, constraint, reference.
+pub struct Orders {
+    pub bounds: fn(Key) -> Key,
+    pub marks: fn(Key) -> Key,
+}
+
+impl Orders {
+    pub const RIGHT: Orders = Orders { bounds: |key| key, marks: |key| key };
 }
 
 fn coefficients(form: &Form) -> Coefficients {
@@ -151,16 +169,23 @@ impl Literal<'_> {
 
     /// The solver, as worded.
     pub fn solve(&self) -> (Vec<Step>, Standing) {
-        let (all, mut standing, mut steps) = (self.all_steps(), self.start(), Vec::new());
+        self.solve_by(&Orders::RIGHT)
+    }
+
+    /// The solver with any two orders.
+    pub fn solve_by(&self, orders: &Orders) -> (Vec<Step>, Standing) {
+        let (mut all, mut standing, mut steps) = (self.all_steps(), self.start(), Vec::new());
         loop {
             let offers = all.iter().filter(|step| step.kind <= 2).filter_map(|&step| {
                 let new = self.take(&standing, step)?.bounds[&step.target];
-                (new < standing.bounds[&step.target]).then_some((new, step.target, step.kind, step.constraint))
+                let key = [new, i128::from(step.target), i128::from(step.kind), i128::from(step.constraint)];
+                (new < standing.bounds[&step.target]).then_some(((orders.bounds)(key), step))
             });
-            let Some((_, target, kind, constraint)) = offers.min() else { break };
-            steps.push(Step::new(kind, target, constraint, 0));
-            standing = self.take(&standing, steps[steps.len() - 1]).unwrap();
+            let Some((_, step)) = offers.min() else { break };
+            steps.push(step);
+            standing = self.take(&standing, step).unwrap();
         }
+        all.sort_by_key(|step| (orders.marks)([step.target, step.kind.into(), step.constraint, step.reference].map(i128::from)));
         while let Some(step) = all.iter().find(|s| s.kind >= 3 && !standing.marked.contains(&s.target) && self.take(&standing, **s).is_some()) {
             steps.push(*step);
             standing = self.take(&standing, *step).unwrap();

@@ -1,8 +1,6 @@
 -- `vectors::call::is_written`: one place of the buffer after the other.
-use Prim.Native.Nat.{_≤_, _+_, _-_}
-use mathlib.Core.Path.{sym}
+use Prim.Native.Nat.{_≤_, _-_}
 use lib.ListN.{length}
-use native.Mathlib.Omega.{arith}
 use borrow.Author.Needs.{needs}
 use Rattle.vectors.proofs.call.is_written.Statement.{statement}
 use Rattle.vectors.proofs.call.is_written.Tie as tie
