@@ -4,5 +4,5 @@
 pub mod bytes;
 pub mod offsets;
 pub mod reader;
-pub mod run;
+mod run;
 pub mod runs;

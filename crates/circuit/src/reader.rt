@@ -172,7 +172,7 @@ pub fn after_form(s: &[u8]) -> &[u8]
 }
 
 // The constraint reader: hands back the part of the caller's bytes after one constraint.
-pub fn after_constraint(s: &[u8]) -> &[u8]
+pub(crate) fn after_constraint(s: &[u8]) -> &[u8]
     ensures { λ r. ⌜ now r ≡ afterConstraint (now (s .entry)) ⌝ }
 {
     let b = after_form(s);

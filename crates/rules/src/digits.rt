@@ -244,7 +244,7 @@ fn is_positive<'a>(form: &[u32], bounds: &'a [u32], marks: &'a [bool], s: usize,
 
 // Where weights are known to differ: whether each exceeds the sum of weight times bound over the smaller ones, and the sum over all is
 // below p. The scale is the inverse of the reference's coefficient.
-pub fn in_order<'a>(
+fn in_order<'a>(
     form: &[u32],
     bounds: &'a [u32],
     marks: &'a [bool],
@@ -301,14 +301,7 @@ fn last_live(form: &[u32], marks: &[bool], n: u32) -> u32
 
 // Rule 4.7: whether the weights of the unmarked signals, scaled so that r has weight 1, differ, each exceeds the sum of weight times bound over the
 // smaller ones, and the sum over all is below p.
-pub fn separated<'a>(
-    form: &[u32],
-    bounds: &'a [u32],
-    marks: &'a [bool],
-    n: u32,
-    p: u32,
-    r: u32,
-) -> bool
+fn separated<'a>(form: &[u32], bounds: &'a [u32], marks: &'a [bool], n: u32, p: u32, r: u32) -> bool
     ensures { λ b. ⌜ b
         ≡ specs.separated p n (coefIn (now (form .entry))) (boundIn p (now (bounds .entry))) (markIn (now (marks .entry))) r ⌝ }
 {

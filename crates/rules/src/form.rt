@@ -153,7 +153,7 @@ fn take_off(form: &mut [u32], x: u32, p: u32)
 
 // Rule 4.2: the reduced form of the constraint at the start of the part, as far as the slice goes: a0·B + b0·A - a0·b0 - C modulo p,
 // nothing where p is 0 or 1.
-pub fn reduce_into(form: &mut [u32], part: &[u8], p: u32)
+fn reduce_into(form: &mut [u32], part: &[u8], p: u32)
     ensures { λ r. ⌜ ((s : ℕ) → s < length (now (form .entry))
         → coefIn (now (form .exit)) s ≡ keep (ltb 1 p) (reduced p (constraintIn (now (part .entry))) s)) ⌝ }
 {

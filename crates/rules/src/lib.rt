@@ -2,8 +2,8 @@
 
 mod arith;
 pub mod constraint;
-pub mod digits;
+mod digits;
 pub mod form;
 pub mod standing;
-pub mod sums;
+mod sums;
 pub mod view;

@@ -94,7 +94,7 @@ impl Standing {
     // A method for each kind, by its row in the table of rules; what the kind does not look at is 0 there.
 
     // Rule 4.3.
-    pub fn root(self, part: &[u8], p: u32, t: u32) -> Outcome
+    fn root(self, part: &[u8], p: u32, t: u32) -> Outcome
         ensures { λ o. ⌜ Gives p self o t (rule laws.Root (subjectIn p 0 (now (part .entry))) (view p self) t 0) ⌝ }
     {
         if !root_met(part, t) {
@@ -104,7 +104,7 @@ impl Standing {
     }
 
     // Rule 4.4.
-    pub fn sum(self, part: &[u8], n: u32, p: u32, t: u32) -> Outcome
+    fn sum(self, part: &[u8], n: u32, p: u32, t: u32) -> Outcome
         ensures { λ o. ⌜ Gives p self o t (rule laws.Sum (subjectIn p n (now (part .entry))) (view p self) t 0) ⌝ }
     {
         let bound = sum_step(part, &self.bounds, n, p, t);
@@ -115,7 +115,7 @@ impl Standing {
     }
 
     // Rule 4.5.
-    pub fn zero(self, t: u32) -> Outcome
+    fn zero(self, t: u32) -> Outcome
         ensures { λ o. ⌜ ((p : ℕ) → 1 < p → Gives p self o t (rule laws.Zero (subjectIn p 0 []) (view p self) t 0)) ⌝ }
     {
         if 256 < t {
@@ -129,7 +129,7 @@ impl Standing {
     }
 
     // Rule 4.6.
-    pub fn product(self, part: &[u8], t: u32) -> Outcome
+    fn product(self, part: &[u8], t: u32) -> Outcome
         ensures { λ o. ⌜ ((p : ℕ) → Gives p self o t (rule laws.Product (subjectIn p 0 (now (part .entry))) (view p self) t 0)) ⌝ }
     {
         if !product_met(part, &self.marks, t) {
@@ -139,7 +139,7 @@ impl Standing {
     }
 
     // Rule 4.7.
-    pub fn digits(self, part: &[u8], n: u32, p: u32, t: u32, r: u32) -> Outcome
+    fn digits(self, part: &[u8], n: u32, p: u32, t: u32, r: u32) -> Outcome
         ensures { λ o. ⌜ Gives p self o t (rule laws.Digits (subjectIn p n (now (part .entry))) (view p self) t r) ⌝ }
     {
         if !digits_met(part, &self.bounds, &self.marks, n, p, t, r) {

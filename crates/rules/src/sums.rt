@@ -36,7 +36,7 @@ fn sum_term(form: &[u32], bounds: &[u32], p: u32, t: usize, scale: u32, s: usize
 }
 
 // Rule 4.4: the constant weight plus the sum of weight times bound over signals 1 to n other than t, as far as p.
-pub fn sum_bound(form: &[u32], bounds: &[u32], n: u32, p: u32, t: u32) -> u64
+fn sum_bound(form: &[u32], bounds: &[u32], n: u32, p: u32, t: u32) -> u64
     ensures { λ r. ⌜ r ≡ min p (sumBound p n (coefIn (now (form .entry))) (boundIn p (now (bounds .entry))) t) ⌝ }
 {
     if p == 0 {

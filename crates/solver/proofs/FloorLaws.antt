@@ -28,7 +28,7 @@ use Rattle.laws.proofs.Monotone.{digits-met-from}
 use Rattle.solver.specs.Rows.{involves, at, reach, Row}
 use Rattle.solver.specs.Search.{SomeUnmarked}
 use Rattle.solver.specs.Live.{First, Crowded, Equals, Gathered, splits}
-use Rattle.solver.specs.Marks.{none, IsFloor}
+use Rattle.solver.specs.Marks.{noFloor, IsFloor}
 use Rattle.solver.proofs.RowLaws.{uninvolved, uninvolved-reduced, next, passing, walked}
 use Rattle.solver.proofs.SplitLaws.{splits-is}
 
@@ -161,11 +161,11 @@ module _ (p n : ℕ) (K : Constraint) (b : ℕ → ℕ) (m : ℕ → Bool) where
         ))
         (U .found)
 
-    pub product-unnamed : t ≡ 0 → IsFloor p n K b m none
-    product-unnamed z = nothing none (λ u l e i. absurd (omega (arith, product-target u l e i .1))) no-digits
+    pub product-unnamed : t ≡ 0 → IsFloor p n K b m noFloor
+    product-unnamed z = nothing noFloor (λ u l e i. absurd (omega (arith, product-target u l e i .1))) no-digits
 
-    pub product-unmet : productMet K m t ≡ false → IsFloor p n K b m none
-    product-unmet f = nothing none (λ u l e i. true-or-false _ i (rw (product-target u l e i .0) f)) no-digits
+    pub product-unmet : productMet K m t ≡ false → IsFloor p n K b m noFloor
+    product-unmet f = nothing noFloor (λ u l e i. true-or-false _ i (rw (product-target u l e i .0) f)) no-digits
 
     pub product-floor : IsFloor p n K b m t
     product-floor =
@@ -178,20 +178,20 @@ module _ (p n : ℕ) (K : Constraint) (b : ℕ → ℕ) (m : ℕ → Bool) where
     no-product : (u : ℕ) → 1 ≤ u → m u ≡ false → productMet K m u ≡ true → ⊥
     no-product u l e i = true-or-false _ is-linear (product-met K m u i .not-linear)
 
-    pub digits-crowded : Prime p → Crowded p n (reduced p K) b m → IsFloor p n K b m none
+    pub digits-crowded : Prime p → Crowded p n (reduced p K) b m → IsFloor p n K b m noFloor
     digits-crowded P X =
-        nothing none no-product
+        nothing noFloor no-product
         (λ u r l h a c e i.
         let D = digits-says p n K b m u r i in
         true-or-false _ (D .is-separated) (crowded-fails p n K b m r P (D .has-reference) X))
 
-    pub digits-equal : Equals n (reduced p K) m → IsFloor p n K b m none
-    digits-equal X = nothing none no-product (λ u r l h a c e i. equal-fails p n K b m X u r i)
+    pub digits-equal : Equals n (reduced p K) m → IsFloor p n K b m noFloor
+    digits-equal X = nothing noFloor no-product (λ u r l h a c e i. equal-fails p n K b m X u r i)
 
     pub digits-unreferred : ((r : ℕ) → 1 ≤ r → r ≤ n → occurs (reduced p K) r ≡ true → separated p n (reduced p K) b m r ≡ false)
-        → IsFloor p n K b m none
+        → IsFloor p n K b m noFloor
     digits-unreferred f =
-        nothing none no-product
+        nothing noFloor no-product
         (λ u r l h a c e i.
         let D = digits-says p n K b m u r i in
         true-or-false _ (D .is-separated) (f r a c (D .has-reference)))
@@ -200,8 +200,8 @@ module _ (p n : ℕ) (K : Constraint) (b : ℕ → ℕ) (m : ℕ → Bool) where
       first-low : (u r : ℕ) → 1 ≤ u → u ≤ n → m u ≡ false → digitsMet p n K b m u r ≡ true → (1 ≤ t) × (t ≤ u)
       first-low u r l h e i = F .low u l h (live-yes p K m u l (digits-says p n K b m u r i .has-target) e)
 
-      pub digits-none : t ≡ 0 → IsFloor p n K b m none
-      digits-none z = nothing none no-product (λ u r l h a c e i. absurd (omega (arith, first-low u r l h e i .0)))
+      pub digits-none : t ≡ 0 → IsFloor p n K b m noFloor
+      digits-none z = nothing noFloor no-product (λ u r l h a c e i. absurd (omega (arith, first-low u r l h e i .0)))
 
       pub digits-floor : IsFloor p n K b m t
       digits-floor =

@@ -12,8 +12,8 @@ use Rattle.circuit.specs.Call.{circuitOf}
 use Rattle.solver.specs.Rows.{at, Rows}
 
 -- a floor above all signals: the constraint marks nothing
-abbrev pub none : ℕ
-none = 0xffff_ffff_ffff_ffff
+abbrev pub noFloor : ℕ
+noFloor = 0xffff_ffff_ffff_ffff
 
 -- A floor, a lower bound on the targets that a constraint can mark: below it no step by the constraint marks an unmarked signal.
 pub record IsFloor (p n : ℕ) (K : Constraint) (b : ℕ → ℕ) (m : ℕ → Bool) (floor : ℕ) : Type 0 where

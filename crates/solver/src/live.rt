@@ -7,8 +7,8 @@ ghost use Prim.Native.Nat.{ℕ, _≤_, _<_};
 ghost use lib.Dec.{eqb};
 ghost use lib.ListN.{length};
 ghost use Rattle.circuit.specs.Circuit.{Constraint};
-ghost use Rattle.laws.specs.Rules as rules;
 ghost use Rattle.laws.specs.Rules.{reduced};
+ghost use Rattle.laws.specs.Rules as specs;
 ghost use Rattle.rules.specs.View.{boundIn, markIn};
 ghost use Rattle.solver.specs.Rows.{Row};
 ghost use Rattle.solver.specs.Live.{Readable, Bounded, First, Crowded, Equals, Among, Whole, Placed};
@@ -38,7 +38,7 @@ fn is_live(coef: u32, marks: &[bool], s: u32) -> bool
 pub(crate) fn first_live(signals: &[u16], coefs: &[u32], marks: &[bool]) -> u32
     requires { ⌜ Readable (now signals) (now coefs) (now marks) ⌝ }
     ensures { λ r. ⌜ ((p n : ℕ) (K : Constraint) → 0 < p → Row p n K (now (signals .entry)) (now (coefs .entry))
-        → First (rules.live (reduced p K) (markIn (now (marks .entry)))) n r) ⌝ }
+        → First (specs.live (reduced p K) (markIn (now (marks .entry)))) n r) ⌝ }
 {
     let mut i: usize = 0;
     while i < signals.len() {
