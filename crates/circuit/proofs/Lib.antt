@@ -1,8 +1,8 @@
 pub mod ByteLaws
+pub mod WellFormed
 pub mod ReaderLaws
 pub mod BodyLaws
 pub mod HeaderLaws
-pub mod WellFormed
 pub mod Stored
 pub mod RunLaws
 pub mod SearchLaws

@@ -6,14 +6,16 @@ use mathlib.Core.List.{List}
 use native.Mathlib.Nat.{add-zero, zero-add, add-assoc}
 use native.Mathlib.Numerals.{add-one}
 use native.Mathlib.Omega.{arith}
-use borrow.Author.Tests.{leb-true, lt-ltb, le-ltb, le-leb, lt-leb}
+use borrow.Author.Tests.{leb-true, le-leb, lt-ltb}
 use lib.Dec.{ltb, leb}
 use lib.ListN.{length, drop, take, length-drop, drop-of-length-le}
 use lib.Seq.{drop-drop, drop-length, take-all}
 use Rattle.circuit.specs.Bytes.{byteAt, u16At, u32At}
+use Rattle.circuit.specs.Circuit.{Constraint}
 use Rattle.circuit.specs.Reading.{Reading, whole, fault, require, after, mapped, next, Size, sized, faulty, sizeOf, further, extent}
 use Rattle.circuit.specs.Reader.{readTerms, readForm, formFrom, readConstraint, afterForm, afterConstraint}
 use Rattle.circuit.proofs.ByteLaws.{u16-drop, u32-drop}
+use Rattle.circuit.proofs.WellFormed.{constraint-whole}
 
 -- sizes do not depend on what was read
 pub size-after : {A : Type 0} (at : ℕ) (r : Reading A) → sizeOf (after at r) ≡ further at (sizeOf r)
@@ -27,6 +29,10 @@ size-mapped f (fault number offset) = refl
 pub further-further : (a b : ℕ) (z : Size) → further a (further b z) ≡ further (a + b) z
 further-further a b (sized size) = ap sized (sym (add-assoc a b size))
 further-further a b (faulty number offset) = ap (faulty number) (sym (add-assoc a b offset))
+
+pub further-zero : (z : Size) → further 0 z ≡ z
+further-zero (sized size) = ap sized (zero-add size)
+further-zero (faulty number offset) = ap (faulty number) (zero-add offset)
 
 -- what is left of a form where `left` terms are to be read from `at` on
 unfoldable pub termsFrom : ℕ → ℕ → List ℕ → ℕ → ℕ → ℕ → Size
@@ -42,17 +48,20 @@ pub further-require : {A : Type 0} (at : ℕ) (b : Bool) (number : ℕ) (r : Rea
 further-require at true number r = refl
 further-require at false number r = ap (faulty number) (add-zero at)
 
-pub terms-done : (n p : ℕ) (s : List ℕ) (at least : ℕ) → termsFrom n p s 0 at least ≡ sized at
+terms-done : (n p : ℕ) (s : List ℕ) (at least : ℕ) → termsFrom n p s 0 at least ≡ sized at
 unfolding termsFrom readTerms
 terms-done n p s at least = ap sized (add-zero at)
 
 -- one term: the tests of the code in its order, then the terms after it
-pub terms-turn : (n p : ℕ) (s : List ℕ) (left at least : ℕ) → termsFrom n p s (suc left) at least
-    ≡ askSize (leb 6 (length s - at)) 6 at
+abbrev pub termTests : ℕ → ℕ → List ℕ → ℕ → ℕ → ℕ → Size
+termTests n p s left at least =
+    askSize (leb 6 (length s - at)) 6 at
     (askSize (leb (u16At s at) n) 8 at
     (askSize (leb least (u16At s at)) 8 at
     (askSize (ltb 0 (u32At s (at + 2))) 9 at
     (askSize (ltb (u32At s (at + 2)) p) 9 at (termsFrom n p s left (at + 6) (suc (u16At s at)))))))
+
+terms-turn : (n p : ℕ) (s : List ℕ) (left at least : ℕ) → termsFrom n p s (suc left) at least ≡ termTests n p s left at least
 unfolding termsFrom readTerms
 terms-turn n p s left at least =
     simp (further-require, size-after, size-mapped, further-further, length-drop, u16-drop, u32-drop, drop-drop, add-zero)
@@ -70,57 +79,38 @@ form-start n p s = simp (size-require, size-after)
 pub one-more : {k : ℕ} → 0 < k → k ≡ suc (k - 1)
 one-more {k} h = omega arith
 
--- A turn of the term reader: the whole answer z is what is still to be read, and each test leads out or on.
-module _ (n p : ℕ) (s : List ℕ) (z : Size) (left at least : ℕ) (inv : z ≡ termsFrom n p s left at least) (some : 0 < left) where
-  turn : z
-      ≡ askSize (leb 6 (length s - at)) 6 at
-      (askSize (leb (u16At s at) n) 8 at
-      (askSize (leb least (u16At s at)) 8 at
-      (askSize (ltb 0 (u32At s (at + 2))) 9 at
-      (askSize (ltb (u32At s (at + 2)) p) 9 at (termsFrom n p s (left - 1) (at + 6) (suc (u16At s at)))))))
-  turn = inv ∙ ap (λ (k : ℕ). termsFrom n p s k at least) (one-more some) ∙ terms-turn n p s (left - 1) at least
+-- At a turn of the term reader the whole answer is what is still to be read.
+pub record Terms (n p : ℕ) (s : List ℕ) (left at least : ℕ) : Type 0 where
+  pub near : at ≤ length s
+  pub few : left ≤ 32
+  pub answer : sizeOf (readForm n p s) ≡ termsFrom n p s left at least
 
-  pub term-short : length s - at < 6 → faulty 6 at ≡ z
-  term-short h = sym (turn ∙ rw (lt-leb _ _ h))
+pub terms-start : (n p : ℕ) (s : List ℕ) {count : ℕ} → count ≡ byteAt s 0 → 1 ≤ length s → count ≤ 32 → Terms n p s count 1 0
+terms-start n p s known some h =
+    record { near = some; few = h; answer = form-start n p s ∙ rw (le-leb _ _ some, ← known, le-leb _ _ h) }
 
-  pub term-high : 6 ≤ length s - at → n < u16At s at → faulty 8 at ≡ z
-  term-high h k = sym (turn ∙ rw (le-leb _ _ h, lt-leb _ _ k))
+module _ {n p : ℕ} {s : List ℕ} {left at least : ℕ} (T : Terms n p s left at least) where
+  pub term-turn : 0 < left → sizeOf (readForm n p s) ≡ termTests n p s (left - 1) at least
+  term-turn some = T .answer ∙ ap (λ (k : ℕ). termsFrom n p s k at least) (one-more some) ∙ terms-turn n p s (left - 1) at least
 
-  module _ (fits : 6 ≤ length s - at) (low : u16At s at ≤ n) where
-    pub term-unsorted : u16At s at < least → faulty 8 at ≡ z
-    term-unsorted h = sym (turn ∙ rw (le-leb _ _ fits, le-leb _ _ low, lt-leb _ _ h))
+  -- what a signal that was tested leaves: the tests of its coefficient
+  module _ (some : 0 < left) (fits : 6 ≤ length s - at) {signal : ℕ} (known : signal ≡ u16At s at) (low : signal ≤ n) (rises : least ≤ signal) where
+    pub term-signal : sizeOf (readForm n p s)
+        ≡ askSize (ltb 0 (u32At s (at + 2))) 9 at
+        (askSize (ltb (u32At s (at + 2)) p) 9 at (termsFrom n p s (left - 1) (at + 6) (signal + 1)))
+    term-signal = term-turn some ∙ rw (le-leb _ _ fits, ← known, le-leb _ _ low, le-leb _ _ rises, add-one)
 
-    module _ (rises : least ≤ u16At s at) where
-      pub term-zero : u32At s (at + 2) ≡ 0 → faulty 9 at ≡ z
-      term-zero h = sym (turn ∙ rw (le-leb _ _ fits, le-leb _ _ low, le-leb _ _ rises, h))
+    pub term-again : {coefficient : ℕ} → coefficient ≡ u32At s (at + 2) → (coefficient ≡ 0 → ⊥) → coefficient < p
+        → Terms n p s (left - 1) (at + 6) (signal + 1)
+    term-again {coefficient} is positive below =
+        record {
+          near = omega arith;
+          few = omega (arith, T .few);
+          answer = term-signal ∙ rw (← is, lt-ltb 0 coefficient (omega arith), lt-ltb _ _ below);
+        }
 
-      module _ (positive : 0 < u32At s (at + 2)) where
-        pub term-large : p ≤ u32At s (at + 2) → faulty 9 at ≡ z
-        term-large h = sym (turn ∙ rw (le-leb _ _ fits, le-leb _ _ low, le-leb _ _ rises, lt-ltb _ _ positive, le-ltb _ _ h))
-
-        pub term-read : u32At s (at + 2) < p → z ≡ termsFrom n p s (left - 1) (at + 6) (u16At s at + 1)
-        term-read h =
-            turn
-            ∙ rw (le-leb _ _ fits, le-leb _ _ low, le-leb _ _ rises, lt-ltb _ _ positive, lt-ltb _ _ h, add-one)
-
-module _ (n p : ℕ) (s : List ℕ) where
-  pub form-none : length s < 1 → faulty 6 0 ≡ sizeOf (readForm n p s)
-  form-none h = sym (form-start n p s ∙ rw (lt-leb _ _ h))
-
-  module _ (count : ℕ) (known : count ≡ byteAt s 0) (some : 1 ≤ length s) where
-    pub form-long : 32 < count → faulty 7 0 ≡ sizeOf (readForm n p s)
-    form-long h = sym (form-start n p s ∙ rw (le-leb _ _ some, ← known, lt-leb _ _ h))
-
-    pub form-open : count ≤ 32 → sizeOf (readForm n p s) ≡ termsFrom n p s count 1 0
-    form-open h = form-start n p s ∙ rw (le-leb _ _ some, ← known, le-leb _ _ h)
-
-  pub terms-end : (z : Size) (left at least : ℕ) → z ≡ termsFrom n p s left at least → left ≤ 0 → sized at ≡ z
-  terms-end z zero at least e h = sym (e ∙ terms-done n p s at least)
-  terms-end z (suc left) at least e h = absurd (omega arith)
-
--- a number that was read, in the place of what it is
-pub terms-known : (n p : ℕ) (s : List ℕ) (left at u v : ℕ) → u ≡ v → termsFrom n p s left at (v + 1) ≡ termsFrom n p s left at (u + 1)
-terms-known n p s left at u v e = rw e
+  pub terms-end : left ≤ 0 → sizeOf (readForm n p s) ≡ sized at
+  terms-end h = let none : left ≡ 0 = omega arith in T .answer ∙ rw none (terms-done n p s at least)
 
 -- Nothing is read past the end.
 pub extent-further : (at : ℕ) (z : Size) → extent (further at z) ≡ at + extent z
@@ -131,7 +121,7 @@ ask-inside : (n : ℕ) (b : Bool) (number at : ℕ) (z : Size) → at ≤ n → 
 ask-inside n true number at z h k = k refl
 ask-inside n false number at z h k = h
 
-pub terms-inside : (n p : ℕ) (s : List ℕ) (left at least : ℕ) → at ≤ length s → extent (termsFrom n p s left at least) ≤ length s
+terms-inside : (n p : ℕ) (s : List ℕ) (left at least : ℕ) → at ≤ length s → extent (termsFrom n p s left at least) ≤ length s
 terms-inside n p s zero at least h = rw (terms-done n p s at least) h
 terms-inside n p s (suc left) at least h =
     rw (terms-turn n p s left at least)
@@ -142,7 +132,7 @@ terms-inside n p s (suc left) at least h =
     ask-inside (length s) (ltb (u32At s (at + 2)) p) 9 at _ h λ _.
     terms-inside n p s left (at + 6) (suc (u16At s at)) (omega (arith, leb-true 6 (length s - at) e)))
 
-pub form-inside : (n p : ℕ) (s : List ℕ) → extent (sizeOf (readForm n p s)) ≤ length s
+form-inside : (n p : ℕ) (s : List ℕ) → extent (sizeOf (readForm n p s)) ≤ length s
 form-inside n p s =
     rw (form-start n p s)
     (ask-inside (length s) (leb 1 (length s)) 6 0 _ (omega arith) λ e.
@@ -153,136 +143,81 @@ form-inside n p s =
 pub part-drop : {A : Type 0} (s : List A) (at : ℕ) → at ≤ length s → take (length s - at) (drop at s) ≡ drop at s
 part-drop s at h = take-all (length s - at) (drop at s) (simp length-drop (omega arith))
 
+form-near : (n p : ℕ) (s : List ℕ) (at : ℕ) → at ≤ length s → extent (formFrom n p s at) ≤ length s
+unfolding formFrom
+form-near n p s at h =
+    rw (extent-further at (sizeOf (readForm n p (drop at s)))) (omega (arith, form-inside n p (drop at s), length-drop at s))
+
 -- a form read from its part, with offsets in the whole
 pub form-part : (n p : ℕ) (s : List ℕ) (at : ℕ) (z : Size) → at ≤ length s → z ≡ sizeOf (readForm n p (take (length s - at) (drop at s)))
     → (further at z ≡ formFrom n p s at) × (at + extent z ≤ length s)
 unfolding formFrom
 form-part n p s at z h e =
-    let same : z ≡ sizeOf (readForm n p (drop at s)) = rw (part-drop s at h) at e in
-    let near : extent z ≤ length (drop at s) = rw same (form-inside n p (drop at s)) in
-    (ap (further at) same, omega (arith, length-drop at s))
+    let same : further at z ≡ formFrom n p s at = ap (further at) (rw (part-drop s at h) at e) in
+    (same, omega (arith, extent-further at z, ap extent same, form-near n p s at h))
+
+-- Reading on: what comes next starts where what was read ended.
+unfoldable pub onward : Size → (ℕ → Size) → Size
+onward (sized k) g = g k
+onward (faulty number offset) g = faulty number offset
+
+pub onward-on : {z : Size} {k : ℕ} (g : ℕ → Size) → z ≡ sized k → onward z g ≡ g k
+unfolding onward
+onward-on g e = rw e
+
+pub onward-out : {z : Size} {number offset : ℕ} (g : ℕ → Size) → z ≡ faulty number offset → onward z g ≡ faulty number offset
+unfolding onward
+onward-out g e = rw e
+
+pub onward-onward : (z : Size) (g h f : ℕ → Size) → ((k : ℕ) → onward (g k) h ≡ f k) → onward (onward z g) h ≡ onward z f
+unfolding onward
+onward-onward (sized k) g h f e = e k
+onward-onward (faulty number offset) g h f e = refl
+
+onward-inside : (n : ℕ) (z : Size) (g : ℕ → Size) → extent z ≤ n → ((k : ℕ) → k ≤ n → extent (g k) ≤ n) → extent (onward z g) ≤ n
+unfolding onward
+onward-inside n (sized k) g h near = near k h
+onward-inside n (faulty number offset) g h near = h
+
+pub next-onward : {A B : Type 0} (s : List ℕ) (at : ℕ) (r : Reading A) (f : A → List ℕ → Reading B) (g : ℕ → Size)
+    → ((x : A) (k : ℕ) → further k (sizeOf (f x (drop k s))) ≡ g k) → further at (sizeOf (next (drop at s) r f)) ≡ onward (further at (sizeOf r)) g
+unfolding onward
+next-onward s at (whole x size) f g h =
+    rw (size-after size (f x (drop size (drop at s))), further-further at size (sizeOf (f x (drop size (drop at s)))), drop-drop size at s)
+    (h x (at + size))
+next-onward s at (fault number offset) f g h = refl
 
 -- Constraints: three forms, each from where the one before it ended.
-unfoldable pub nextSize : List ℕ → Size → (List ℕ → Size) → Size
-nextSize s (sized size) g = further size (g (drop size s))
-nextSize s (faulty number offset) g = faulty number offset
-
-pub size-next : {A B : Type 0} (s : List ℕ) (r : Reading A) (f : A → List ℕ → Reading B) (g : List ℕ → Size)
-    → ((x : A) (t : List ℕ) → sizeOf (f x t) ≡ g t) → sizeOf (next s r f) ≡ nextSize s (sizeOf r) g
-unfolding nextSize
-size-next s (whole x size) f g h = size-after size (f x (drop size s)) ∙ ap (further size) (h x (drop size s))
-size-next s (fault number offset) f g h = refl
-
-unfoldable pub lastForm : ℕ → ℕ → List ℕ → Size
-lastForm n p s = nextSize s (sizeOf (readForm n p s)) (λ t. sizeOf (readForm n p t))
-
-pub constraint-size : (n p : ℕ) (s : List ℕ) → sizeOf (readConstraint n p s) ≡ nextSize s (sizeOf (readForm n p s)) (lastForm n p)
-unfolding readConstraint lastForm
-constraint-size n p s =
-    size-next s (readForm n p s) _ (lastForm n p) λ a s₁. size-next s₁ (readForm n p s₁) _ _ λ b s₂. size-mapped _ (readForm n p s₂)
-
-form-first : (n p : ℕ) (s : List ℕ) → formFrom n p s 0 ≡ sizeOf (readForm n p s)
-unfolding formFrom
-form-first n p s = further-zero (sizeOf (readForm n p s))
-  where
-    further-zero : (z : Size) → further 0 z ≡ z
-    further-zero (sized size) = ap sized (zero-add size)
-    further-zero (faulty number offset) = ap (faulty number) (zero-add offset)
+unfoldable pub constraintFrom : ℕ → ℕ → List ℕ → ℕ → Size
+constraintFrom n p s at = further at (sizeOf (readConstraint n p (drop at s)))
 
 module _ (n p : ℕ) (s : List ℕ) where
-  pub constraint-a : (number offset : ℕ) → formFrom n p s 0 ≡ faulty number offset → sizeOf (readConstraint n p s) ≡ faulty number offset
-  unfolding nextSize
-  constraint-a number offset e = constraint-size n p s ∙ rw (sym (form-first n p s) ∙ e)
+  constraint-forms : (at : ℕ) → constraintFrom n p s at ≡ onward (formFrom n p s at) (λ b. onward (formFrom n p s b) (formFrom n p s))
+  unfolding constraintFrom readConstraint formFrom
+  constraint-forms at =
+      next-onward s at (readForm n p (drop at s)) _ _
+      λ a b. next-onward s b (readForm n p (drop b s)) _ _ λ _ c. ap (further c) (size-mapped _ (readForm n p (drop c s)))
 
-  module _ (b : ℕ) (first : formFrom n p s 0 ≡ sized b) where
-    second : sizeOf (readConstraint n p s) ≡ further b (lastForm n p (drop b s))
-    unfolding nextSize
-    second = constraint-size n p s ∙ rw (sym (form-first n p s) ∙ first)
+  pub constraint-start : sizeOf (readConstraint n p s) ≡ onward (formFrom n p s 0) (λ b. onward (formFrom n p s b) (formFrom n p s))
+  unfolding constraintFrom
+  constraint-start = sym (further-zero (sizeOf (readConstraint n p s))) ∙ constraint-forms 0
 
-    pub constraint-b : (number offset : ℕ) → formFrom n p s b ≡ faulty number offset → sizeOf (readConstraint n p s) ≡ faulty number offset
-    unfolding lastForm formFrom nextSize
-    constraint-b number offset e = second ∙ go (sizeOf (readForm n p (drop b s))) e
-      where
-        go : (z : Size) → further b z ≡ faulty number offset → further b (nextSize (drop b s) z (λ t. sizeOf (readForm n p t))) ≡ faulty number offset
-        go (sized size) h = cc
-        go (faulty x y) h = h
+  pub constraint-inside : (at : ℕ) → at ≤ length s → extent (constraintFrom n p s at) ≤ length s
+  constraint-inside at h =
+      rw (constraint-forms at)
+      (onward-inside (length s) (formFrom n p s at) _ (form-near n p s at h)
+      λ b l. onward-inside (length s) (formFrom n p s b) _ (form-near n p s b l) (form-near n p s))
 
-    pub constraint-c : (c : ℕ) → formFrom n p s b ≡ sized c → sizeOf (readConstraint n p s) ≡ formFrom n p s c
-    unfolding lastForm formFrom nextSize
-    constraint-c c e = second ∙ go (sizeOf (readForm n p (drop b s))) e
-      where
-        go : (z : Size) → further b z ≡ sized c
-            → further b (nextSize (drop b s) z (λ t. sizeOf (readForm n p t))) ≡ further c (sizeOf (readForm n p (drop c s)))
-        go (sized size) h =
-            let same : b + size ≡ c = cc in
-            further-further b size (sizeOf (readForm n p (drop size (drop b s)))) ∙ rw (drop-drop size b s, same)
-        go (faulty x y) h = cc
-
--- What was read whole has the size that its count bytes say.
-ask-sized : (b : Bool) (number at : ℕ) (z : Size) {k : ℕ} → askSize b number at z ≡ sized k → z ≡ sized k
-ask-sized true number at z e = e
-ask-sized false number at z e = cc
-
-terms-sized : (n p : ℕ) (s : List ℕ) (left at least k : ℕ) → termsFrom n p s left at least ≡ sized k → k ≡ at + 6 * left
-terms-sized n p s zero at least k e = let same : sized at ≡ sized k = sym (terms-done n p s at least) ∙ e in let eq : at ≡ k = cc in omega arith
-terms-sized n p s (suc left) at least k e =
-    let on : termsFrom n p s left (at + 6) (suc (u16At s at)) ≡ sized k =
-    ask-sized (ltb (u32At s (at + 2)) p) 9 at _
-    (ask-sized (ltb 0 (u32At s (at + 2))) 9 at _
-    (ask-sized (leb least (u16At s at)) 8 at _
-    (ask-sized (leb (u16At s at) n) 8 at _
-    (ask-sized (leb 6 (length s - at)) 6 at _ (sym (terms-turn n p s left at least) ∙ e)))))
-    in
-    omega (arith, terms-sized n p s left (at + 6) (suc (u16At s at)) k on)
-
-pub form-sized : (n p : ℕ) (s : List ℕ) (k : ℕ) → sizeOf (readForm n p s) ≡ sized k → k ≡ 1 + 6 * byteAt s 0
-form-sized n p s k e =
-    terms-sized n p s (byteAt s 0) 1 0 k
-    (ask-sized (leb (byteAt s 0) 32) 7 0 _ (ask-sized (leb 1 (length s)) 6 0 _ (sym (form-start n p s) ∙ e)))
-
-form-rest : (n p : ℕ) (s : List ℕ) (k : ℕ) → sizeOf (readForm n p s) ≡ sized k → drop k s ≡ afterForm s
-unfolding afterForm
-form-rest n p s k e = ap (λ (j : ℕ). drop j s) (form-sized n p s k e)
-
--- what nextSize read whole, it read in two parts
-pub next-sized : (s : List ℕ) (z : Size) (g : List ℕ → Size) (k : ℕ) → nextSize s z g ≡ sized k
-    → (j : ℕ) × (i : ℕ) × (z ≡ sized j) × (g (drop j s) ≡ sized i) × (k ≡ j + i)
-unfolding nextSize
-next-sized s (sized size) g k e = go (g (drop size s)) refl e
-  where
-    go : (y : Size) → g (drop size s) ≡ y → further size y ≡ sized k
-        → (j : ℕ) × (i : ℕ) × (sized size ≡ sized j) × (g (drop j s) ≡ sized i) × (k ≡ j + i)
-    go (sized i) h e = let same : size + i ≡ k = cc in (size, i, refl, h, sym same)
-    go (faulty x y) h e = let z : _≡_ {A = ℕ} 0 1 = cc in absurd (omega arith)
-next-sized s (faulty x y) g k e = let z : _≡_ {A = ℕ} 0 1 = cc in absurd (omega arith)
-
-pub constraint-rest : (n p : ℕ) (s : List ℕ) (k : ℕ) → sizeOf (readConstraint n p s) ≡ sized k → drop k s ≡ afterConstraint s
-unfolding afterConstraint lastForm
-constraint-rest n p s k e =
-    let first = next-sized s (sizeOf (readForm n p s)) (lastForm n p) k (sym (constraint-size n p s) ∙ e) in
-    let b = first .0 in
-    let s₁ = drop b s in
-    let second = next-sized s₁ (sizeOf (readForm n p s₁)) (λ t. sizeOf (readForm n p t)) (first .1) (first .3) in
-    let rest-a : drop b s ≡ afterForm s = form-rest n p s b (first .2) in
-    let rest-b : drop (second .0) s₁ ≡ afterForm s₁ = form-rest n p s₁ (second .0) (second .2) in
-    let rest-c : drop (second .1) (drop (second .0) s₁) ≡ afterForm (drop (second .0) s₁) =
-    form-rest n p (drop (second .0) s₁) (second .1) (second .3)
-    in
-    rw (first .4, second .4, ← drop-drop (second .0 + second .1) b s, ← drop-drop (second .1) (second .0) s₁, rest-c, rest-b, rest-a)
-
-next-inside : (s : List ℕ) (z : Size) (g : List ℕ → Size)
-    → extent z ≤ length s → ((t : List ℕ) → extent (g t) ≤ length t) → extent (nextSize s z g) ≤ length s
-unfolding nextSize
-next-inside s (sized size) g h k =
-    rw (extent-further size (g (drop size s))) (omega (arith, k (drop size s), length-drop size s))
-next-inside s (faulty x y) g h k = h
-
-pub constraint-inside : (n p : ℕ) (s : List ℕ) → extent (sizeOf (readConstraint n p s)) ≤ length s
-unfolding lastForm
-constraint-inside n p s =
-    rw (constraint-size n p s)
-    (next-inside s (sizeOf (readForm n p s)) (lastForm n p) (form-inside n p s)
-    λ t. next-inside t (sizeOf (readForm n p t)) (λ u. sizeOf (readForm n p u)) (form-inside n p t) (form-inside n p))
+  -- the rest after a constraint at `at`
+  pub constraint-rest : (at : ℕ) {k : ℕ} → constraintFrom n p s at ≡ sized k → afterConstraint (drop at s) ≡ drop k s
+  unfolding constraintFrom
+  constraint-rest at {k} e = go (readConstraint n p (drop at s)) refl e
+    where
+      go : (r : Reading Constraint) → readConstraint n p (drop at s) ≡ r → further at (sizeOf r) ≡ sized k → afterConstraint (drop at s) ≡ drop k s
+      go (whole K size) h e =
+          let same : at + size ≡ k = cc in
+          constraint-whole n p (drop at s) h .rest ∙ drop-drop size at s ∙ ap (λ (j : ℕ). drop j s) same
+      go (fault x y) h e = let z : _≡_ {A = ℕ} 0 1 = cc in absurd (omega arith)
 
 -- the two ways to the rest after a form, by its count
 module _ (s : List ℕ) (count : ℕ) (known : count ≡ byteAt s 0) where

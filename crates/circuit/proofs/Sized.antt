@@ -1,16 +1,18 @@
 -- What the circuit call says of the bytes: a circuit that isn't refused is well-formed and has the sizes answered.
 use Prim.Native.Nat.{ℕ, suc, _-_, _≤_}
-use mathlib.Core.Path.{_≡_, refl, ap, _∙_}
+use mathlib.Core.Path.{_≡_, refl, sym, ap, _∙_}
 use mathlib.Core.List.{List}
 use native.Mathlib.Omega.{arith}
 use lib.ListN.{length, drop}
 use Rattle.circuit.specs.Circuit.{Circuit, constraintAt}
 use Rattle.circuit.specs.Reading.{Reading, whole, fault}
 use Rattle.circuit.specs.Reader.{readCircuit, constraintOf}
-use Rattle.circuit.specs.Answer.{Answer, refused, given}
+use Rattle.circuit.specs.Answer.{Answer, refused, given, paperOf}
 use Rattle.circuit.specs.Call.{sizesOf, onCircuit, circuitCall, circuitOf, Sized, SizedAnswer}
 use Rattle.circuit.specs.declared.reader.Sizes.{Sizes}
-use Rattle.circuit.proofs.WellFormed.{read-header, read-well-formed}
+use Rattle.circuit.specs.declared.reader.CircuitAnswer.{CircuitAnswer}
+use Rattle.circuit.specs.declared.reader.CircuitAnswer.the-variants.{Refused}
+use Rattle.circuit.proofs.WellFormed.{circuit-whole, read-well-formed}
 use Rattle.circuit.proofs.Stored.{read-part}
 use Rattle.circuit.proofs.HeaderLaws.{same-sizes}
 
@@ -21,12 +23,12 @@ circuit-of s C size e = rw e
 -- the bytes of a circuit that was read
 pub read-sized : (s : List ℕ) (C : Circuit) (size : ℕ) → readCircuit s ≡ whole C size → Sized s (sizesOf C)
 read-sized s C size e =
-    let H = read-header s C size e in
+    let R = circuit-whole s e in
     let is : circuitOf s ≡ C = circuit-of s C size e in
     record {
-      read = rw (is, ← (H .is-size)) e;
-      least = H .size-least;
-      most = H .size-most;
+      read = rw (is, ← (R .is-size)) e;
+      least = R .least;
+      most = R .most;
       formed = rw is (read-well-formed s C size e);
       is-p = rw is;
       is-n = rw is;
@@ -70,6 +72,10 @@ on-refused {A} s {number} {place} f e = go (readCircuit s) e
         let same-place : place ≡ y = cc in
         rw (same-number, same-place)
 
--- an answer that is the call's
-pub answered : (s : List ℕ) (r : Answer Sizes) → r ≡ circuitCall s → (r ≡ circuitCall s) × SizedAnswer s r
-answered s r e = (e, rw e (sized-answer s))
+-- an answer that is the call's, and a refusal at the start of the file
+pub answered : (s : List ℕ) (r : Answer Sizes) → circuitCall s ≡ r → (r ≡ circuitCall s) × SizedAnswer s r
+answered s r e = (sym e, rw e at (sized-answer s))
+
+pub refusing : (s : List ℕ) {number : ℕ} {r : CircuitAnswer} → r ≡ Refused number 0 → circuitCall s ≡ refused number 0
+    → (paperOf r ≡ circuitCall s) × SizedAnswer s (paperOf r)
+refusing s f e = rw f (answered s _ e)

@@ -30,7 +30,6 @@ use Rattle.field.proofs.Prime.{
   Free,
   both,
   clear-no-divisor,
-  divided-not,
   free-clear,
   free-next,
   free-start,
@@ -168,9 +167,6 @@ module _ {vs : List ℕ} {p q start end i : ℕ} (P : Passed vs p q start end i)
 -- the second of two places
 module _ {vs : List ℕ} {p q start end i : ℕ} (P : Passed vs p q start end i) (l : i + 1 < end)
     (e : leb (p * getD vs i 0 % 4294967296) q ≡ false) where
-  pub next-second : leb (p * getD vs (i + 1) 0 % 4294967296) q ≡ true → Next vs p q start end (i + 1)
-  next-second t = next-found (passed-next P (omega arith) e) t
-
   pub passed-second : leb (p * getD vs (i + 1) 0 % 4294967296) q ≡ false → Passed vs p q start end (i + 2)
   passed-second t = let z : i + 1 + 1 ≡ i + 2 = omega arith in rw z at (passed-next (passed-next P (omega arith) e) l t)
 
@@ -274,9 +270,6 @@ walk-start xs vs p l h o E e =
 module _ {xs vs : List ℕ} {p i : ℕ} (W : Walk xs vs p i) where
   pub walk-above : i < length xs → 3 ≤ getD xs i 0
   walk-above l = enough-ordered (W .enough) .above i l
-
-  pub walk-hit : i < length xs → getD xs i 0 * getD xs i 0 ≤ p → p % getD xs i 0 ≡ 0 → false ≡ oddPrime p
-  walk-hit l s e = sym (divided-not p (getD xs i 0) (walk-above l) s e)
 
   pub walk-ends : (i < length xs → p < getD xs i 0 * getD xs i 0) → true ≡ oddPrime p
   walk-ends s =

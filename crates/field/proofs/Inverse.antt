@@ -22,23 +22,23 @@ use Rattle.field.proofs.Residue.{
 }
 use Rattle.field.proofs.Euclid.{Shared, inverse-cases, inverse-zero}
 
-one-nonzero : {p : ℕ} → 1 < p → Congruent p 1 0 → ⊥
-one-nonzero h z = omega (arith, congruent-below h (omega arith) z)
+-- a factor of 1 is not 0
+factor-nonzero : {p : ℕ} (a b : ℕ) → 1 < p → Congruent p (a * b) 1 → a % p ≡ 0 → ⊥
+factor-nonzero {p} a b h i e =
+    let z : Congruent p 1 0 =
+    congruent-shift 1 0 (congruent-trans (congruent-sym i) (congruent-times (zero-congruent a e) (congruent-refl p b))) (omega arith) in
+    omega (arith, congruent-below h (omega arith) z)
 
 pub inverse-nonzero : {p c d : ℕ} → 1 < p → IsInverse p c d → d % p ≡ 0 → ⊥
-inverse-nonzero {p} {c} {d} h i e =
-    one-nonzero h
-    (congruent-shift 1 0 (congruent-trans (congruent-sym (i .one)) (congruent-times (congruent-refl p c) (zero-congruent d e))) (omega arith))
+inverse-nonzero {p} {c} {d} h i = factor-nonzero d c h (congruent-shift (d * c) 1 (i .one) (omega arith))
 
 pub inverse-positive : {p c d : ℕ} → 1 < p → IsInverse p c d → 0 < d
 inverse-positive {p} {d = zero} h i = absurd (inverse-nonzero h i (zero-mod p))
 inverse-positive {d = suc d} h i = omega arith
 
 -- a number with an inverse is not 0
-pub invertible-nonzero : {p c d : ℕ} → 1 < p → IsInverse p c d → c % p ≡ 0 → ⊥
-invertible-nonzero {p} {c} {d} h i e =
-    one-nonzero h
-    (congruent-shift 1 0 (congruent-trans (congruent-sym (i .one)) (congruent-times (zero-congruent c e) (congruent-refl p d))) (omega arith))
+invertible-nonzero : {p c d : ℕ} → 1 < p → IsInverse p c d → c % p ≡ 0 → ⊥
+invertible-nonzero {c = c} {d} h i = factor-nonzero c d h (i .one)
 
 -- c * a ≈ c * b with an inverse of c: a ≈ b
 cancel-inverse : {p c d a b : ℕ} → IsInverse p c d → Congruent p (c * a) (c * b) → Congruent p a b
@@ -59,15 +59,6 @@ prime-shared {p} P S =
 
 pub inverse-is : {p : ℕ} (c : ℕ) → Prime p → (c % p ≡ 0 → ⊥) → IsInverse p c (inverse p c)
 inverse-is {p} c P n = ⊎-elim (λ i. i) (λ w. absurd (prime-shared P (w .1))) (inverse-cases p c (P .above) (pos-of-ne-zero n))
-
-pub inverse-below : (p c : ℕ) → 0 < p → inverse p c < p
-unfolding inverse
-inverse-below zero c h = h
-inverse-below (suc zero) c h = h
-inverse-below (suc (suc p)) c h =
-    ⊎-elim (λ (e : c % suc (suc p) ≡ 0). rw (inverse-zero (suc (suc p)) c e) h)
-    (λ (g : 0 < c % suc (suc p)). ⊎-elim (λ i. i .below) (λ w. rw (w .0) h) (inverse-cases (suc (suc p)) c (omega arith) g))
-    (eq-zero-or-pos (c % suc (suc p)))
 
 -- where the algorithm gives 0 there is no inverse, whatever p is
 pub inverse-none : {p : ℕ} (c d : ℕ) → 1 < p → inverse p c ≡ 0 → IsInverse p c d → ⊥

@@ -112,9 +112,6 @@ prime-undivided : (p d : ℕ) → Prime p → 3 ≤ d → d * d ≤ p → p % d 
 prime-undivided p d P h l e =
     ⊎-elim (λ (q : d ≡ 1). omega arith) (λ (q : d ≡ p). omega (arith, mul-le-mul-right d h)) (P .only d (dvd-of-mod-eq-zero d e))
 
-prime-clear : (p : ℕ) → Prime p → Clear p
-prime-clear p P = record { none = λ d h o l e. prime-undivided p d P h l e }
-
 prime-odd-number : (p : ℕ) → Prime p → 3 ≤ p → p % 2 ≡ 1
 prime-odd-number p P h =
     odd-not-even p (λ e. ⊎-elim (λ (q : 2 ≡ 1). omega arith) (λ (q : 2 ≡ p). omega arith) (P .only 2 (dvd-of-mod-eq-zero 2 e)))
@@ -180,9 +177,10 @@ pub odd-prime-divisors : (p : ℕ) → 3 ≤ p → p ≤ 2147483647 → p % 2 �
 unfolding oddPrime
 odd-prime-divisors p l h o = rw (le-leb 3 p l, le-leb p 2147483647 h, eq-eqb (p % 2) 1 o)
 
-pub prime-odd : (p : ℕ) → Prime p → 3 ≤ p → p ≤ 2147483647 → oddPrime p ≡ true
+prime-odd : (p : ℕ) → Prime p → 3 ≤ p → p ≤ 2147483647 → oddPrime p ≡ true
 prime-odd p P l h =
-    odd-prime-divisors p l h (prime-odd-number p P l) ∙ clear-no-divisor p 3 p (omega arith) refl (prime-clear p P)
+    odd-prime-divisors p l h (prime-odd-number p P l)
+    ∙ clear-no-divisor p 3 p (omega arith) refl (record { none = λ d m o q e. prime-undivided p d P m q e })
 
 -- the test holds exactly of the odd primes in range
 pub odd-prime-told : {p : ℕ} {b : Bool} → b ≡ oddPrime p → (b ≡ oddPrime p) × TellsOddPrime p b

@@ -37,9 +37,6 @@ congruent-plus {p} {a} {b} {c} {d} h g =
 pub congruent-shift : {p a b : ℕ} (x y : ℕ) → Congruent p a b → x + b ≡ y + a → Congruent p x y
 congruent-shift {p} {a} {b} x y h e = congruent-multiples p (b / p) (a / p) (omega (arith, multiples-congruent h))
 
-pub congruent-cancel-plus : {p : ℕ} (c : ℕ) {a b : ℕ} → Congruent p (c + a) (c + b) → Congruent p a b
-congruent-cancel-plus c {a} {b} h = congruent-shift a b h (omega arith)
-
 pub congruent-mod : (p a : ℕ) → Congruent p (a % p) a
 congruent-mod p a = record { is = mod-mod a p }
 
@@ -75,11 +72,7 @@ opposite-plus {p} x h = congruent-multiples p 0 (x / p + 1) (omega (arith, div-a
 
 -- what adds to 0 with x is the opposite of x
 pub opposite-only : {p : ℕ} (x : ℕ) {y : ℕ} → 0 < p → Congruent p (x + y) 0 → Congruent p y (opposite p x)
-opposite-only x h e = congruent-cancel-plus x (congruent-trans e (congruent-sym (opposite-plus x h)))
-
-pub opposite-congruent : {p x y : ℕ} → Congruent p x y → opposite p x ≡ opposite p y
-unfolding opposite
-opposite-congruent {p} h = ap (λ (n : ℕ). p - n) (h .is)
+opposite-only {p} x {y} h e = congruent-shift y (opposite p x) (congruent-trans e (congruent-sym (opposite-plus x h))) (omega arith)
 
 -- -x * y is -(x * y)
 pub opposite-times : {p : ℕ} (x y : ℕ) → 0 < p → Congruent p (opposite p x * y) (opposite p (x * y))

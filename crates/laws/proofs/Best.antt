@@ -4,12 +4,11 @@ use mathlib.Core.Path.{_≡_, refl, sym, ap, _∙_}
 use mathlib.Core.Bool.{Bool, true, false, cond, _&&_}
 use mathlib.Core.Option.{Option, none, some}
 use native.Mathlib.Omega.{arith}
-use native.Mathlib.Decide.{ℕ-discrete}
 use lib.Dec.{ltb, eqb}
 use borrow.Author.Tests.{ltb-true, ltb-false, le-ltb, eq-eqb, ne-eqb, eqb-true, lt-leb, leb-false}
 use Rattle.laws.specs.Problem.{Problem, Subject, subject}
-use Rattle.laws.specs.Standing.{Standing, Change, atMost, fixed, idle, bounds, value}
-use Rattle.laws.specs.Step.{namesOf, Kind, Root, Sum, Zero, Product, Digits, Step, within, inside, constraints, references, rule, ruleOf, inRange, met, change, adds}
+use Rattle.laws.specs.Standing.{Standing, Change, bounds}
+use Rattle.laws.specs.Step.{namesOf, Kind, Step, within, inside, constraints, references, rule, ruleOf, inRange, met, change, adds}
 use Rattle.laws.specs.Solver.{
   step,
   addsBy,
@@ -33,7 +32,10 @@ use Rattle.laws.proofs.Sum.{
   or-false-right,
   true-or-false,
   false-by,
+  by-equal,
 }
+use Rattle.laws.proofs.Order.{at-least-refl, bounds-is}
+use Rattle.laws.proofs.Monotone.{Sorted, root, sum, marker, grows}
 use Rattle.laws.proofs.Turns.{within-says, target-within, adds-says, adds-holds}
 use Rattle.laws.proofs.Optimum.{fits-says, fits-holds}
 
@@ -47,11 +49,8 @@ first-by-says a b rest e =
 
 pub first-by-holds : (a b : ℕ) (rest : Bool) → b ≤ a → (a ≡ b → rest ≡ false) → firstBy a b rest ≡ false
 unfolding firstBy
-first-by-holds a b rest l h = or-neither _ _ (le-ltb a b l) (go (ℕ-discrete a b))
-  where
-    go : Dec (a ≡ b) → (eqb a b && rest) ≡ false
-    go (yes q) = rw (eq-eqb a b q) (h q)
-    go (no d) = rw (ne-eqb a b d) refl
+first-by-holds a b rest l h =
+    or-neither _ _ (le-ltb a b l) (by-equal a b (λ q. rw (eq-eqb a b q) (h q)) (λ d. rw (ne-eqb a b d)))
 
 first-by-asym : (a b : ℕ) (r r′ : Bool) → (r ≡ true → r′ ≡ false) → firstBy a b r ≡ true → firstBy b a r′ ≡ false
 unfolding firstBy
@@ -85,34 +84,16 @@ pub record Lowering (P : Problem) (S : Standing) (x : Step) : Type 0 where
 
 -- the kinds that give bounds
 pub data Bounding : Kind → Type 0 where
-  by-root : Bounding Root
-  by-sum : Bounding Sum
-
--- what each kind gives
-pub data Sorted : Kind → Change → Type 0 where
-  root : {x : ℕ} → Sorted Root (atMost x)
-  sum : {x : ℕ} → Sorted Sum (atMost x)
-  marker : {q : Kind} → Sorted q fixed
+  by-root : Bounding Kind.Root
+  by-sum : Bounding Kind.Sum
 
 pub sorted : (q : Kind) (J : Subject) (S : Standing) (t r : ℕ) → Sorted q (rule q J S t r .change)
-sorted Root J S t r = root
-sorted Sum J S t r = sum
-sorted Zero J S t r = marker
-sorted Product J S t r = marker
-sorted Digits J S t r = marker
+sorted q J S t r = grows q J (at-least-refl S) t r .sort
 
 pub bounding : {q : Kind} {c : Change} → Sorted q c → bounds c ≡ true → Bounding q
 bounding root e = by-root
 bounding sum e = by-sum
 bounding marker e = true-or-false false e refl
-
-busy-less : (c : Change) (S : Standing) (t : ℕ) → bounds c ≡ true → idle c S t ≡ false → value c < S .bound t
-busy-less (atMost x) S t e i = leb-false (S .bound t) x i
-busy-less fixed S t e i = true-or-false false e refl
-
-less-busy : (c : Change) (S : Standing) (t : ℕ) → bounds c ≡ true → value c < S .bound t → idle c S t ≡ false
-less-busy (atMost x) S t e l = lt-leb (S .bound t) x l
-less-busy fixed S t e l = true-or-false false e refl
 
 module _ (P : Problem) (S : Standing) where
   pub lowers-says : (x : Step) → lowers P S x ≡ true → Lowering P S x
@@ -121,13 +102,13 @@ module _ (P : Problem) (S : Standing) where
       let a = adds-says P S x (and-left _ (bounds (change P S x)) e) in
       let f = fits-says P S x (a .0) in
       let b = and-right (adds P S x) _ e in
-      record { in-range = f .0; is-met = f .1; is-bound = b; less = busy-less (change P S x) S (x .target) b (a .1) }
+      record { in-range = f .0; is-met = f .1; is-bound = b; less = leb-false _ _ (rw (bounds-is (change P S x) b) at (a .1)) }
 
   pub lowers-holds : (x : Step) → Lowering P S x → lowers P S x ≡ true
   unfolding addsBy newBound
   lowers-holds x l =
       and-both _ _
-      (adds-holds P S x (fits-holds P S x (l .in-range) (l .is-met)) (less-busy (change P S x) S (x .target) (l .is-bound) (l .less)))
+      (adds-holds P S x (fits-holds P S x (l .in-range) (l .is-met)) (rw (bounds-is (change P S x) (l .is-bound)) (lt-leb _ _ (l .less))))
       (l .is-bound)
 
   pub lowers-adds : (x : Step) → lowers P S x ≡ true → adds P S x ≡ true
@@ -165,91 +146,68 @@ module _ (P : Problem) (S : Standing) where
   Covers y none = ⊥
   Covers y (some x) = precedes P S y x ≡ false
 
+  cond-by : (Q : Option Step → Type 0) (b : Bool) {o o′ : Option Step} → (b ≡ true → Q o) → (b ≡ false → Q o′) → Q (cond b o o′)
+  cond-by Q true f g = f refl
+  cond-by Q false f g = g refl
+
   preferred-candidate : (x : Step) (best : Option Step) → lowers P S x ≡ true → Candidate best → Candidate (preferred P S x best)
   preferred-candidate x none l c = l
-  preferred-candidate x (some y) l c = go (precedes P S x y)
-    where
-      go : (b : Bool) → Candidate (cond b (some x) (some y))
-      go true = l
-      go false = c
+  preferred-candidate x (some y) l c = cond-by Candidate (precedes P S x y) (λ e. l) (λ e. c)
 
   preferred-keeps : (x y : Step) (best : Option Step) → Covers y best → Covers y (preferred P S x best)
   preferred-keeps x y none c = absurd c
-  preferred-keeps x y (some z) c = go (precedes P S x z) refl
-    where
-      go : (b : Bool) → precedes P S x z ≡ b → Covers y (cond b (some x) (some z))
-      go true e = precedes-trans x z y (precedes-asym x z e) c
-      go false e = c
+  preferred-keeps x y (some z) c =
+      cond-by (Covers y) (precedes P S x z) (λ e. precedes-trans x z y (precedes-asym x z e) c) (λ e. c)
 
   preferred-covers : (x : Step) (best : Option Step) → Covers x (preferred P S x best)
   preferred-covers x none = precedes-irrefl x
-  preferred-covers x (some z) = go (precedes P S x z) refl
-    where
-      go : (b : Bool) → precedes P S x z ≡ b → Covers x (cond b (some x) (some z))
-      go true e = precedes-irrefl x
-      go false e = e
+  preferred-covers x (some z) = cond-by (Covers x) (precedes P S x z) (λ e. precedes-irrefl x) (λ e. e)
 
-  consider-candidate : (x : Step) (best : Option Step) → Candidate best → Candidate (consider P S x best)
-  unfolding consider
-  consider-candidate x best c = go (lowers P S x) refl
-    where
-      go : (b : Bool) → lowers P S x ≡ b → Candidate (cond b (preferred P S x best) best)
-      go true e = preferred-candidate x best e c
-      go false e = c
+  -- what a step more to consider leaves as it was
+  abbrev Stays : (Option Step → Type 0) → Type 0
+  Stays Q = (x : Step) (best : Option Step) → Q best → Q (consider P S x best)
 
-  consider-keeps : (x y : Step) (best : Option Step) → Covers y best → Covers y (consider P S x best)
+  consider-candidate : Stays Candidate
   unfolding consider
-  consider-keeps x y best c = go (lowers P S x)
-    where
-      go : (b : Bool) → Covers y (cond b (preferred P S x best) best)
-      go true = preferred-keeps x y best c
-      go false = c
+  consider-candidate x best c = cond-by Candidate (lowers P S x) (λ e. preferred-candidate x best e c) (λ e. c)
+
+  consider-keeps : (y : Step) → Stays (Covers y)
+  unfolding consider
+  consider-keeps y x best c = cond-by (Covers y) (lowers P S x) (λ e. preferred-keeps x y best c) (λ e. c)
 
   consider-covers : (x : Step) (best : Option Step) → lowers P S x ≡ true → Covers x (consider P S x best)
   unfolding consider
   consider-covers x best e = rw e (preferred-covers x best)
 
-  targets-candidate : (k t : ℕ) (best : Option Step) → Candidate best → Candidate (bestOfTargets P S k t best)
+  targets-keep : (Q : Option Step → Type 0) → Stays Q → (k t : ℕ) (best : Option Step) → Q best → Q (bestOfTargets P S k t best)
   unfolding bestOfTargets
-  targets-candidate k zero best c = c
-  targets-candidate k (suc t) best c = consider-candidate _ _ (consider-candidate _ _ (targets-candidate k t best c))
-
-  targets-keep : (k t : ℕ) (y : Step) (best : Option Step) → Covers y best → Covers y (bestOfTargets P S k t best)
-  unfolding bestOfTargets
-  targets-keep k zero y best c = c
-  targets-keep k (suc t) y best c = consider-keeps _ y _ (consider-keeps _ y _ (targets-keep k t y best c))
+  targets-keep Q h k zero best c = c
+  targets-keep Q h k (suc t) best c = h _ _ (h _ _ (targets-keep Q h k t best c))
 
   constraints-candidate : (k : ℕ) → Candidate (bestOfConstraints P S k)
   unfolding bestOfConstraints
   constraints-candidate zero = tt
-  constraints-candidate (suc k) = targets-candidate (suc k) (P .n) _ (constraints-candidate k)
+  constraints-candidate (suc k) = targets-keep Candidate consider-candidate (suc k) (P .n) _ (constraints-candidate k)
 
-  targets-cover : (k t s : ℕ) (q : Kind) (best : Option Step) → Bounding q → 1 ≤ s → s ≤ t → lowers P S (step q s k 0) ≡ true
+  targets-cover : (k t s : ℕ) {q : Kind} (best : Option Step) → Bounding q → 1 ≤ s → s ≤ t → lowers P S (step q s k 0) ≡ true
       → Covers (step q s k 0) (bestOfTargets P S k t best)
   unfolding bestOfTargets
-  targets-cover k zero s q best b l m e = absurd (omega arith)
-  targets-cover k (suc t) s q best b l m e = go (ℕ-discrete s (suc t)) (λ h. targets-cover k t s q best b l h e)
+  targets-cover k zero s best b l m e = absurd (omega arith)
+  targets-cover k (suc t) s {q} best b l m e =
+      by-equal s (suc t) (λ h. rw h (here b (rw h at e)))
+      (λ d. consider-keeps _ _ _ (consider-keeps _ _ _ (targets-cover k t s best b l (omega arith) e)))
     where
-      here : {q : Kind} → Bounding q → lowers P S (step q (suc t) k 0) ≡ true
-          → Covers (step q (suc t) k 0) (bestOfTargets P S k (suc t) best)
+      here : {q : Kind} → Bounding q → lowers P S (step q (suc t) k 0) ≡ true → Covers (step q (suc t) k 0) (bestOfTargets P S k (suc t) best)
       here by-root f = consider-keeps _ _ _ (consider-covers _ _ f)
       here by-sum f = consider-covers _ _ f
 
-      go : Dec (s ≡ suc t) → (s ≤ t → Covers (step q s k 0) (bestOfTargets P S k t best))
-          → Covers (step q s k 0) (bestOfTargets P S k (suc t) best)
-      go (yes h) earlier = rw h (here b (rw h at e))
-      go (no d) earlier = consider-keeps _ _ _ (consider-keeps _ _ _ (earlier (omega arith)))
-
-  constraints-cover : (k j s : ℕ) (q : Kind) → Bounding q → 1 ≤ s → s ≤ P .n → 1 ≤ j → j ≤ k → lowers P S (step q s j 0) ≡ true
+  constraints-cover : (k j s : ℕ) {q : Kind} → Bounding q → 1 ≤ s → s ≤ P .n → 1 ≤ j → j ≤ k → lowers P S (step q s j 0) ≡ true
       → Covers (step q s j 0) (bestOfConstraints P S k)
   unfolding bestOfConstraints
-  constraints-cover zero j s q b l m l′ m′ e = absurd (omega arith)
-  constraints-cover (suc k) j s q b l m l′ m′ e = go (ℕ-discrete j (suc k)) (λ h. constraints-cover k j s q b l m l′ h e)
-    where
-      go : Dec (j ≡ suc k) → (j ≤ k → Covers (step q s j 0) (bestOfConstraints P S k))
-          → Covers (step q s j 0) (bestOfConstraints P S (suc k))
-      go (yes h) earlier = rw h (targets-cover (suc k) (P .n) s q _ b l m (rw h at e))
-      go (no d) earlier = targets-keep _ _ _ _ (earlier (omega arith))
+  constraints-cover zero j s b l m l′ m′ e = absurd (omega arith)
+  constraints-cover (suc k) j s b l m l′ m′ e =
+      by-equal j (suc k) (λ h. rw h (targets-cover (suc k) (P .n) s _ b l m (rw h at e)))
+      (λ d. targets-keep (Covers _) (consider-keeps _) (suc k) (P .n) _ (constraints-cover k j s b l m l′ (omega arith) e))
 
   pub lowers-kind : (x : Step) → Lowering P S x → Bounding (x .kind)
   unfolding change ruleOf
@@ -273,7 +231,7 @@ module _ (P : Problem) (S : Standing) where
       let f = bounding-fields (y .target) (y .constraint) (y .reference) b (h .in-range) in
       let z : y ≡ step (y .kind) (y .target) (y .constraint) 0
       = ap (λ (r : ℕ). step (y .kind) (y .target) (y .constraint) r) (f .1) in
-      rw z (constraints-cover (P .m) (y .constraint) (y .target) (y .kind) b (w .0) (w .1) (f .0 .0) (f .0 .1) (rw z at e))
+      rw z (constraints-cover (P .m) (y .constraint) (y .target) b (w .0) (w .1) (f .0 .0) (f .0 .1) (rw z at e))
 
   pub best-none : bestBound P S ≡ none → (y : Step) → lowers P S y ≡ false
   best-none e y = false-by _ (λ l. rw e at (best-covers y l))

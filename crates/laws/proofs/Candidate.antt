@@ -10,7 +10,7 @@ use Rattle.circuit.specs.Circuit.{Form, Constraint, names}
 use Rattle.laws.specs.Problem.{Subject}
 use Rattle.laws.specs.Standing.{Standing, value}
 use Rattle.laws.specs.Rules.{namesNone, linear, isZero, namesOnly, rootMet}
-use Rattle.laws.specs.Step.{Kind, Sum, rule}
+use Rattle.laws.specs.Step.{Kind, rule}
 use Rattle.laws.proofs.Sum.{and-left, and-right, or-cases}
 use Rattle.laws.proofs.Forms.{none-at, only-at}
 use Rattle.laws.proofs.SumRule.{sum-met}

@@ -6,12 +6,12 @@ use mathlib.Core.List.{[], _∷_}
 use native.Mathlib.Nat.{add-zero, zero-add}
 use native.Mathlib.Omega.{arith}
 use lib.Dec.{eqb}
-use borrow.Author.Tests.{eq-eqb, ne-eqb, eqb-true, eqb-false, not-true}
+use borrow.Author.Tests.{eq-eqb, ne-eqb, eqb-true, not-true}
 use Rattle.circuit.specs.Circuit.{Term, Form, Rises, noMore, more, coef, names, eval}
 use Rattle.laws.specs.Sum.{sum, keep}
 use Rattle.laws.specs.Rules.{namesNone, isZero, namesOnly, othersMarked}
-use Rattle.laws.proofs.Sum.{and-left, and-right, and-both, or-cases, or-left, or-right, true-or-false, by-test, false-by, keep-true}
-use Rattle.laws.proofs.Sum.{keep-false, keep-same, none-times, sum-cong, sum-zeros, sum-one, sum-out, sum-first}
+use Rattle.laws.proofs.Sum.{and-left, and-right, and-both, or-cases, or-left, or-right, true-or-false, by-test, false-by, by-equal}
+use Rattle.laws.proofs.Sum.{keep-true, keep-false, keep-same, none-times, sum-cong, sum-zeros, sum-one, sum-out, sum-first}
 
 -- Coefficients and names
 
@@ -56,9 +56,6 @@ unnamed-beyond noMore s h = refl
 unnamed-beyond (more {t = t} {f = f} l m c d r) s h =
     names-miss t f s (ne-eqb _ _ (λ (e : t .signal ≡ s). omega arith)) ∙ unnamed-beyond r s h
 
-pub coef-beyond : {n p least : ℕ} {f : Form} → Rises n p least f → (s : ℕ) → n < s → coef f s ≡ 0
-coef-beyond {f = f} r s h = unnamed-coef f s (unnamed-beyond r s h)
-
 pub coef-below : {n p least : ℕ} {f : Form} → 0 < p → Rises n p least f → (s : ℕ) → coef f s < p
 unfolding coef
 coef-below h noMore s = h
@@ -75,11 +72,7 @@ named-coef (more {t = t} {f = f} l m c d r) s e =
 -- The value
 
 -- the value of a form is a sum over the constant and all signals
-pub eval-sum :
-    {n p least : ℕ} {f : Form}
-    → Rises n p least f
-    → (v : ℕ → ℕ)
-    → eval f v ≡ sum (suc n) (λ s. coef f s * v s)
+pub eval-sum : {n p least : ℕ} {f : Form} → Rises n p least f → (v : ℕ → ℕ) → eval f v ≡ sum (suc n) (λ s. coef f s * v s)
 unfolding eval
 eval-sum {n} noMore v = sym (sum-zeros (suc n) (λ s. coef [] s * v s) (λ s l. none-times _ (v s) (coef-none s)))
 eval-sum {n} (more {t = t} {f = f} l m c d r) v =
@@ -93,96 +86,56 @@ eval-sum {n} (more {t = t} {f = f} l m c d r) v =
   where
     rest : (s : ℕ) → s < suc n → keep (not (eqb s (t .signal))) (coef (t ∷ f) s * v s) ≡ coef f s * v s
     rest s h =
-        by-test (eqb s (t .signal))
+        by-equal s (t .signal)
         (λ e.
-        keep-false _ _ (ap not e)
-        ∙ sym (none-times _ (v s) (unnamed-coef f s (unnamed-low r s (omega (arith, eqb-true s (t .signal) e))))))
-        (λ e.
-        keep-true _ _ (ap not e)
-        ∙ ap (λ (k : ℕ). k * v s) (coef-miss t f s (ne-eqb _ _ (λ (g : t .signal ≡ s). eqb-false s (t .signal) e (sym g)))))
-
--- one signal taken out
-pub eval-out :
-    {n p least : ℕ} {f : Form}
-    → Rises n p least f
-    → (v : ℕ → ℕ) (t : ℕ)
-    → t ≤ n
-    → eval f v ≡ coef f t * v t + sum (suc n) (λ s. keep (not (eqb s t)) (coef f s * v s))
-eval-out {n} {f = f} r v t h = eval-sum r v ∙ sum-out (suc n) (λ s. coef f s * v s) t (omega arith)
+        keep-false _ _ (ap not (eq-eqb s (t .signal) e))
+        ∙ sym (none-times _ (v s) (unnamed-coef f s (unnamed-low r s (omega arith)))))
+        (λ d.
+        keep-true _ _ (ap not (ne-eqb s (t .signal) d))
+        ∙ ap (λ (k : ℕ). k * v s) (coef-miss t f s (ne-eqb _ _ (λ g. d (sym g)))))
 
 -- Tests on a form
 
 -- a test g that asks q of each term's signal asks it of each signal named, and the converse
-every-at :
-    (g : Form → Bool) (q : ℕ → Bool)
-    → ((x : Term) (f : Form) → g (x ∷ f) ≡ (q (x .signal) && g f))
-    → (f : Form)
-    → g f ≡ true
-    → (s : ℕ)
-    → names f s ≡ true
-    → q s ≡ true
-unfolding names
-every-at g q step [] e s h = true-or-false false h refl
-every-at g q step (x ∷ f) e s h =
-    or-cases (eqb (x .signal) s) (names f s) h
-    (λ i. ap q (sym (eqb-true (x .signal) s i)) ∙ and-left (q (x .signal)) (g f) (sym (step x f) ∙ e))
-    (λ i. every-at g q step f (and-right (q (x .signal)) (g f) (sym (step x f) ∙ e)) s i)
+module _ (g : Form → Bool) (q : ℕ → Bool) (step : (x : Term) (f : Form) → g (x ∷ f) ≡ (q (x .signal) && g f)) where
+  every-at : (f : Form) → g f ≡ true → (s : ℕ) → names f s ≡ true → q s ≡ true
+  unfolding names
+  every-at [] e s h = true-or-false false h refl
+  every-at (x ∷ f) e s h =
+      or-cases (eqb (x .signal) s) (names f s) h
+      (λ i. ap q (sym (eqb-true (x .signal) s i)) ∙ and-left (q (x .signal)) (g f) (sym (step x f) ∙ e))
+      (λ i. every-at f (and-right (q (x .signal)) (g f) (sym (step x f) ∙ e)) s i)
 
-every-from :
-    (g : Form → Bool) (q : ℕ → Bool)
-    → g [] ≡ true
-    → ((x : Term) (f : Form) → g (x ∷ f) ≡ (q (x .signal) && g f))
-    → (f : Form)
-    → ((s : ℕ) → names f s ≡ true → q s ≡ true)
-    → g f ≡ true
-unfolding names
-every-from g q base step [] h = base
-every-from g q base step (x ∷ f) h =
-    step x f
-    ∙ and-both (q (x .signal)) (g f) (h (x .signal) (or-left (eqb (x .signal) (x .signal)) _ (eq-eqb (x .signal) (x .signal) refl)))
-    (every-from g q base step f (λ s i. h s (or-right (eqb (x .signal) s) (names f s) i)))
+  every-from : g [] ≡ true → (f : Form) → ((s : ℕ) → names f s ≡ true → q s ≡ true) → g f ≡ true
+  unfolding names
+  every-from base [] h = base
+  every-from base (x ∷ f) h =
+      step x f
+      ∙ and-both (q (x .signal)) (g f) (h (x .signal) (or-left _ _ (eq-eqb (x .signal) (x .signal) refl)))
+      (every-from base f (λ s i. h s (or-right (eqb (x .signal) s) (names f s) i)))
 
 pub none-at : (f : Form) → namesNone f ≡ true → (s : ℕ) → names f s ≡ true → s ≡ 0
 unfolding namesNone
 none-at f e s h = eqb-true s 0 (every-at namesNone (λ s. eqb s 0) (λ x f. refl) f e s h)
 
-pub none-from : (f : Form) → ((s : ℕ) → names f s ≡ true → s ≡ 0) → namesNone f ≡ true
-unfolding namesNone
-none-from f h = every-from namesNone (λ s. eqb s 0) refl (λ x f. refl) f (λ s i. eq-eqb s 0 (h s i))
-
 pub only-at : (t : ℕ) (f : Form) → namesOnly t f ≡ true → (s : ℕ) → names f s ≡ true → (eqb s 0 || eqb s t) ≡ true
 unfolding namesOnly
 only-at t f e = every-at (namesOnly t) (λ s. eqb s 0 || eqb s t) (λ x f. refl) f e
 
-pub only-from : (t : ℕ) (f : Form) → ((s : ℕ) → names f s ≡ true → (eqb s 0 || eqb s t) ≡ true) → namesOnly t f ≡ true
-unfolding namesOnly
-only-from t f h = every-from (namesOnly t) (λ s. eqb s 0 || eqb s t) refl (λ x f. refl) f h
-
-pub others-at :
-    (m : ℕ → Bool) (t : ℕ) (f : Form)
-    → othersMarked m t f ≡ true
-    → (s : ℕ)
-    → names f s ≡ true
-    → (eqb s 0 || eqb s t || m s) ≡ true
+pub others-at : (m : ℕ → Bool) (t : ℕ) (f : Form) → othersMarked m t f ≡ true
+    → (s : ℕ) → names f s ≡ true → (eqb s 0 || eqb s t || m s) ≡ true
 unfolding othersMarked
 others-at m t f e = every-at (othersMarked m t) (λ s. eqb s 0 || eqb s t || m s) (λ x f. refl) f e
 
-pub others-from :
-    (m : ℕ → Bool) (t : ℕ) (f : Form)
-    → ((s : ℕ) → names f s ≡ true → (eqb s 0 || eqb s t || m s) ≡ true)
+pub others-from : (m : ℕ → Bool) (t : ℕ) (f : Form) → ((s : ℕ) → names f s ≡ true → (eqb s 0 || eqb s t || m s) ≡ true)
     → othersMarked m t f ≡ true
 unfolding othersMarked
-others-from m t f h = every-from (othersMarked m t) (λ s. eqb s 0 || eqb s t || m s) refl (λ x f. refl) f h
+others-from m t f h = every-from (othersMarked m t) (λ s. eqb s 0 || eqb s t || m s) (λ x f. refl) refl f h
 
 -- What the tests say of coefficients and values
 
 pub none-coef : (f : Form) → namesNone f ≡ true → (s : ℕ) → coef f (suc s) ≡ 0
 none-coef f e s = unnamed-coef f (suc s) (false-by _ (λ h. absurd (omega (arith, none-at f e (suc s) h))))
-
-pub zero-coef : (f : Form) → isZero f ≡ true → (s : ℕ) → coef f s ≡ 0
-unfolding isZero coef
-zero-coef [] e s = refl
-zero-coef (x ∷ f) e s = true-or-false false e refl
 
 pub only-coef : (t : ℕ) (f : Form) → namesOnly t f ≡ true → (s : ℕ) → (suc s ≡ t → ⊥) → coef f (suc s) ≡ 0
 only-coef t f e s d =
@@ -196,82 +149,51 @@ only-coef t f e s d =
 pub signals : ℕ → Form → (ℕ → ℕ) → ℕ
 signals n f v = sum n (λ s. coef f (suc s) * v (suc s))
 
-pub eval-parts : {n p least : ℕ} {f : Form} → Rises n p least f → (v : ℕ → ℕ) → v 0 ≡ 1 → eval f v ≡ coef f 0 + signals n f v
-unfolding signals
-eval-parts {n} {f = f} r v one =
-    eval-sum r v ∙ sum-first n (λ s. coef f s * v s) ∙ omega (arith, ap (λ (k : ℕ). coef f 0 * k) one)
-
 -- the signals of a form that names none
 pub signals-none : (n : ℕ) (f : Form) (v : ℕ → ℕ) → namesNone f ≡ true → signals n f v ≡ 0
 unfolding signals
-signals-none n f v e =
-    sum-zeros n (λ s. coef f (suc s) * v (suc s))
-    (λ s l. none-times _ (v (suc s)) (unnamed-coef f (suc s) (false-by _ (λ h. absurd (omega (arith, none-at f e (suc s) h))))))
-
--- a form that names no signal is its constant
-pub eval-none :
-    {n p least : ℕ} {f : Form}
-    → Rises n p least f
-    → namesNone f ≡ true
-    → (v : ℕ → ℕ)
-    → v 0 ≡ 1
-    → eval f v ≡ coef f 0
-eval-none {n} {f = f} r e v one =
-    eval-sum r v
-    ∙ sum-first n (λ s. coef f s * v s)
-    ∙ omega (
-      arith,
-      ap (λ (k : ℕ). coef f 0 * k) one,
-      sum-zeros n (λ s. coef f (suc s) * v (suc s)) (λ s l. none-times _ (v (suc s)) (none-coef f e s)),
-    )
+signals-none n f v e = sum-zeros n (λ s. coef f (suc s) * v (suc s)) (λ s l. none-times _ (v (suc s)) (none-coef f e s))
 
 pub eval-zero : (f : Form) → isZero f ≡ true → (v : ℕ → ℕ) → eval f v ≡ 0
 unfolding isZero eval
 eval-zero [] e v = refl
 eval-zero (x ∷ f) e v = true-or-false false e refl
 
--- one that names no other signal than t has at most two terms
-pub eval-only :
-    {n p least : ℕ} {f : Form} {t : ℕ}
-    → Rises n p least f
-    → 1 ≤ t
-    → t ≤ n
-    → namesOnly t f ≡ true
-    → (v : ℕ → ℕ)
-    → v 0 ≡ 1
-    → eval f v ≡ coef f 0 + coef f t * v t
-eval-only {t = zero} r least h e v one = absurd (omega arith)
-eval-only {n} {f = f} {t = suc t} r least h e v one =
-    eval-sum r v
-    ∙ sum-first n (λ s. coef f s * v s)
-    ∙ omega (
-      arith,
-      ap (λ (k : ℕ). coef f 0 * k) one,
-      sum-one n (λ s. coef f (suc s) * v (suc s)) t (omega arith)
-          (λ s l d. none-times _ (v (suc s)) (only-coef (suc t) f e s (λ (i : suc s ≡ suc t). d (omega arith)))),
-    )
+module _ {n p least : ℕ} {f : Form} (r : Rises n p least f) where
+  -- one signal taken out
+  pub eval-out : (v : ℕ → ℕ) (t : ℕ) → t ≤ n → eval f v ≡ coef f t * v t + sum (suc n) (λ s. keep (not (eqb s t)) (coef f s * v s))
+  eval-out v t h = eval-sum r v ∙ sum-out (suc n) (λ s. coef f s * v s) t (omega arith)
 
--- runs that agree at the constant and at the marked signals agree at each term but the one of t
-pub others-equal :
-    {n p least : ℕ} {f : Form}
-    → Rises n p least f
-    → (m : ℕ → Bool) (t : ℕ)
-    → othersMarked m t f ≡ true
-    → (v w : ℕ → ℕ)
-    → v 0 ≡ w 0
-    → ((s : ℕ) → 1 ≤ s → s ≤ n → m s ≡ true → v s ≡ w s)
-    → (s : ℕ)
-    → s < suc n
-    → keep (not (eqb s t)) (coef f s * v s) ≡ keep (not (eqb s t)) (coef f s * w s)
-others-equal {n} {f = f} r m t e v w zero-equal agree s l =
-    keep-same (not (eqb s t)) _ _
-    (λ d.
-    by-test (names f s) (λ h. ap (λ (k : ℕ). coef f s * k) (same s l (not-true _ d) (others-at m t f e s h)))
-    (λ h. none-times _ (v s) (unnamed-coef f s h) ∙ sym (none-times _ (w s) (unnamed-coef f s h))))
-  where
-    same : (s : ℕ) → s < suc n → eqb s t ≡ false → (eqb s 0 || eqb s t || m s) ≡ true → v s ≡ w s
-    same zero l d h = zero-equal
-    same (suc s) l d h =
-        or-cases (eqb (suc s) 0 || eqb (suc s) t) (m (suc s)) h
-        (λ i. or-cases (eqb (suc s) 0) (eqb (suc s) t) i (λ j. absurd (omega (arith, eqb-true (suc s) 0 j))) (λ j. true-or-false _ j d))
-        (λ i. agree (suc s) (omega arith) (omega arith) i)
+  -- the constant taken out
+  pub eval-parts : (v : ℕ → ℕ) → v 0 ≡ 1 → eval f v ≡ coef f 0 + signals n f v
+  unfolding signals
+  eval-parts v one = eval-sum r v ∙ sum-first n (λ s. coef f s * v s) ∙ omega (arith, ap (λ (k : ℕ). coef f 0 * k) one)
+
+  -- a form that names no other signal than t has at most two terms
+  pub eval-only : {t : ℕ} → 1 ≤ t → t ≤ n → namesOnly t f ≡ true → (v : ℕ → ℕ) → v 0 ≡ 1 → eval f v ≡ coef f 0 + coef f t * v t
+  unfolding signals
+  eval-only {t = zero} l h e v one = absurd (omega arith)
+  eval-only {t = suc t} l h e v one =
+      omega (
+        arith,
+        eval-parts v one,
+        sum-one n (λ s. coef f (suc s) * v (suc s)) t (omega arith)
+            (λ s m d. none-times _ (v (suc s)) (only-coef (suc t) f e s (λ (i : suc s ≡ suc t). d (omega arith)))),
+      )
+
+  -- runs that agree at the constant and at the marked signals agree at each term but the one of t
+  pub others-equal : (m : ℕ → Bool) (t : ℕ) → othersMarked m t f ≡ true → (v w : ℕ → ℕ) → v 0 ≡ w 0
+      → ((s : ℕ) → 1 ≤ s → s ≤ n → m s ≡ true → v s ≡ w s)
+      → (s : ℕ) → s < suc n → keep (not (eqb s t)) (coef f s * v s) ≡ keep (not (eqb s t)) (coef f s * w s)
+  others-equal m t e v w zero-equal agree s l =
+      keep-same (not (eqb s t)) _ _
+      (λ d.
+      by-test (names f s) (λ h. ap (λ (k : ℕ). coef f s * k) (same s l (not-true _ d) (others-at m t f e s h)))
+      (λ h. none-times _ (v s) (unnamed-coef f s h) ∙ sym (none-times _ (w s) (unnamed-coef f s h))))
+    where
+      same : (s : ℕ) → s < suc n → eqb s t ≡ false → (eqb s 0 || eqb s t || m s) ≡ true → v s ≡ w s
+      same zero l d h = zero-equal
+      same (suc s) l d h =
+          or-cases (eqb (suc s) 0 || eqb (suc s) t) (m (suc s)) h
+          (λ i. or-cases (eqb (suc s) 0) (eqb (suc s) t) i (λ j. absurd (omega (arith, eqb-true (suc s) 0 j))) (λ j. true-or-false _ j d))
+          (λ i. agree (suc s) (omega arith) (omega arith) i)

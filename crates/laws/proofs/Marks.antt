@@ -1,19 +1,17 @@
 -- Phases that add by one sort of change: each turn takes a step that adds, as long as there is one. So n turns suffice. The marks phase is one.
-use Prim.Native.Nat.{ℕ, _≤_}
+use Prim.Native.Nat.{ℕ}
 use mathlib.Core.Path.{_≡_, refl}
 use mathlib.Core.Bool.{Bool, true, false}
 use mathlib.Core.List.{List}
 use mathlib.Core.Option.{some}
-use native.Mathlib.Omega.{arith}
-use lib.ListN.{length}
 use Rattle.laws.specs.Problem.{Problem}
-use Rattle.laws.specs.Standing.{Standing, add, lower, mark, Change, atMost, fixed, apply, idle, marks}
-use Rattle.laws.specs.Step.{Step, change, adds, after, replay, accepted}
-use Rattle.laws.specs.Solver.{addsBy, firstAdding, turns, stepsFor}
+use Rattle.laws.specs.Standing.{Standing, add, mark, Change, apply, idle, marks}
+use Rattle.laws.specs.Step.{Step, change, adds, after, replay}
+use Rattle.laws.specs.Solver.{addsBy, firstAdding, turns}
 use Rattle.laws.proofs.Sum.{and-left, and-right, true-or-false, false-by}
-use Rattle.laws.proofs.Order.{add-mono}
+use Rattle.laws.proofs.Order.{add-mono, marks-is}
 use Rattle.laws.proofs.First.{first-some, first-none}
-use Rattle.laws.proofs.Turns.{adds-says, none-done, Turn, Phase, open-most, turns-accepted, turns-hold, turns-once, turns-short, turns-end}
+use Rattle.laws.proofs.Turns.{adds-says, none-done, Turn, Phase, Ends, phase-ends}
 
 -- changes of sort c add to `held`, and keep `Same`
 pub record Adding (c : Change → Bool) (held : Standing → ℕ → Bool) (Same : Standing → Standing → Type 0) : Type 0 where
@@ -55,22 +53,12 @@ module _ {c : Change → Bool} {held : Standing → ℕ → Bool} {Same : Standi
   abbrev steps : List Step
   steps = turns (firstAdding c P) P (P .n) S₁
 
-  pub steps-accepted : accepted P S₁ steps ≡ true
-  steps-accepted = turns-accepted adding-phase (P .n) none-done S₁ held-start
-
-  pub steps-same : Same S₁ (replay P S₁ steps)
-  steps-same = turns-hold adding-phase (P .n) none-done S₁ held-start .1 .same
-
-  pub steps-once : (t : ℕ) → stepsFor t steps ≤ 1
-  steps-once t = omega (arith, turns-once adding-phase t (P .n) none-done S₁ held-start)
-
-  pub steps-short : length steps ≤ P .n
-  steps-short = turns-short adding-phase (P .n) none-done S₁ held-start
+  pub steps-end : Ends P (firstAdding c P) Held S₁ steps
+  steps-end = phase-ends adding-phase S₁ held-start
 
   -- after them no step adds of this sort
   pub nothing-added : (x : Step) → addsBy c P (replay P S₁ steps) x ≡ false
-  nothing-added =
-      first-none c P _ (turns-end adding-phase (P .n) none-done S₁ held-start (open-most (P .n) none-done))
+  nothing-added = first-none c P _ (steps-end .none-left)
 
 -- Marks
 
@@ -78,17 +66,11 @@ pub record SameBounds (S₁ S : Standing) : Type 0 where
   pub bounds-stay : (s : ℕ) → S .bound s ≡ S₁ .bound s
 
 pub marking : Adding marks (λ S. S .marked) SameBounds
-unfolding lower mark
-marking = record { was-not = was-not; now = now; same-refl = λ S. record { bounds-stay = λ s. refl }; same-step = same-step }
-  where
-    was-not : (d : Change) (S : Standing) (t : ℕ) → marks d ≡ true → idle d S t ≡ false → S .marked t ≡ false
-    was-not (atMost x) S t e i = true-or-false false e refl
-    was-not fixed S t e i = i
-
-    now : (d : Change) (S : Standing) (t : ℕ) → marks d ≡ true → apply d S t .marked ≡ add (S .marked) t
-    now (atMost x) S t e = true-or-false false e refl
-    now fixed S t e = refl
-
-    same-step : (d : Change) (S₁ S : Standing) (t : ℕ) → marks d ≡ true → SameBounds S₁ S → SameBounds S₁ (apply d S t)
-    same-step (atMost x) S₁ S t e h = true-or-false false e refl
-    same-step fixed S₁ S t e h = record { bounds-stay = h .bounds-stay }
+unfolding mark
+marking =
+    record {
+      was-not = λ d S t e i. rw (marks-is d e) at i;
+      now = λ d S t e. rw (marks-is d e);
+      same-refl = λ S. record { bounds-stay = λ s. refl };
+      same-step = λ d S₁ S t e h. rw (marks-is d e) (record { bounds-stay = h .bounds-stay });
+    }

@@ -5,43 +5,30 @@ use mathlib.Core.Bool.{true, not}
 use mathlib.Core.Logic.{⊎-elim}
 use native.Mathlib.Omega.{arith}
 use native.Mathlib.Nat.{mul-le-mul-right}
-use native.Mathlib.Decide.{ℕ-discrete}
 use lib.Dec.{eqb}
 use borrow.Author.Tests.{ne-eqb}
 use Rattle.field.specs.Residue.{opposite}
 use Rattle.field.specs.Prime.{Prime}
 use Rattle.field.specs.Inverse.{inverse}
-use Rattle.field.proofs.Residue.{congruent-sym, congruent-plus, congruent-shift, congruent-zero, zero-congruent, opposite-plus}
+use Rattle.field.proofs.Residue.{congruent-shift, congruent-zero}
 use Rattle.field.proofs.Inverse.{inverse-is, inverse-nonzero, euclid}
 use Rattle.circuit.specs.Circuit.{Constraint}
-use Rattle.laws.specs.Sum.{sum}
 use Rattle.laws.specs.Rules.{reduced, occurs, ceiling, sumWeight, sumTerm, sumBound}
-use Rattle.laws.proofs.Sum.{keep-true, sum-at}
-use Rattle.laws.proofs.Reduced.{nonzero-mod, reduced-below, occurs-yes}
-
-opposite-nonzero : {p : ℕ} (x : ℕ) → 0 < p → (x % p ≡ 0 → ⊥) → opposite p x % p ≡ 0 → ⊥
-opposite-nonzero {p} x h d e =
-    d (congruent-zero (congruent-shift x 0
-    (congruent-plus (opposite-plus x h) (congruent-sym (zero-congruent (opposite p x) e))) (omega arith)))
+use Rattle.laws.proofs.Sum.{by-equal, keep-true, sum-at}
+use Rattle.laws.proofs.Reduced.{opposite-scaled, occurs-nonzero}
 
 -- every weight of the form is at least 1
 pub weight-positive : {p : ℕ} → Prime p → (K : Constraint) (t s : ℕ) → occurs (reduced p K) t ≡ true → occurs (reduced p K) s ≡ true
     → 1 ≤ sumWeight p (reduced p K) t s
 unfolding sumWeight
-weight-positive {p} P K t s et es = go (ℕ-discrete (opposite p (reduced p K s) * inverse p (reduced p K t) % p) 0)
-  where
-    positive : 0 < p
-    positive = omega (arith, P .above)
-
-    nonzero : (u : ℕ) → occurs (reduced p K) u ≡ true → reduced p K u % p ≡ 0 → ⊥
-    nonzero u e = nonzero-mod (reduced p K u) (reduced-below p K u positive) (occurs-yes p K u e)
-
-    go : Dec (opposite p (reduced p K s) * inverse p (reduced p K t) % p ≡ 0) → 1 ≤ opposite p (reduced p K s) * inverse p (reduced p K t) % p
-    go (yes z) =
-        absurd (⊎-elim (opposite-nonzero (reduced p K s) positive (nonzero s es))
-        (inverse-nonzero (P .above) (inverse-is (reduced p K t) P (nonzero t et)))
-        (euclid (opposite p (reduced p K s)) (inverse p (reduced p K t)) P z))
-    go (no d) = omega arith
+weight-positive {p} P K t s et es =
+    let positive : 0 < p = omega (arith, P .above) in
+    let d = inverse p (reduced p K t) in
+    by-equal (opposite p (reduced p K s) * d % p) 0
+    (λ (z : opposite p (reduced p K s) * d % p ≡ 0).
+    absurd (⊎-elim (inverse-nonzero (P .above) (inverse-is (reduced p K t) P (occurs-nonzero K t positive et))) (occurs-nonzero K s positive es)
+    (euclid d (reduced p K s) P (congruent-zero (congruent-shift _ 0 (opposite-scaled (reduced p K s) d positive) (omega arith))))))
+    (λ (z : opposite p (reduced p K s) * d % p ≡ 0 → ⊥). omega arith)
 
 module _ {p : ℕ} (P : Prime p) (n : ℕ) (K : Constraint) (b : ℕ → ℕ) where
   -- a sum is at least every other bound in its form
@@ -64,8 +51,5 @@ module _ {p : ℕ} (P : Prime p) (n : ℕ) (K : Constraint) (b : ℕ → ℕ) wh
 
   pub one-target : (t u : ℕ) → 1 ≤ t → t ≤ n → 1 ≤ u → u ≤ n → occurs (reduced p K) t ≡ true → occurs (reduced p K) u ≡ true
       → sumBound p n (reduced p K) b t < b t → sumBound p n (reduced p K) b u < b u → t ≡ u
-  one-target t u lt mt lu mu et eu h g = go (ℕ-discrete t u)
-    where
-      go : Dec (t ≡ u) → t ≡ u
-      go (yes q) = q
-      go (no d) = absurd (omega (arith, sum-at-least t u et eu lu mu (λ q. d (sym q)), sum-at-least u t eu et lt mt d))
+  one-target t u lt mt lu mu et eu h g =
+      by-equal t u (λ q. q) (λ d. absurd (omega (arith, sum-at-least t u et eu lu mu (λ q. d (sym q)), sum-at-least u t eu et lt mt d)))

@@ -32,8 +32,8 @@ use Rattle.laws.specs.Rules.{
   separated,
 }
 use Rattle.laws.specs.Problem.{Problem, Subject, subject}
-use Rattle.laws.specs.Standing.{Standing}
-use Rattle.laws.specs.Step.{namesOf, Kind, Root, Sum, Zero, Product, Digits, Step, Rule, rule, ruleOf, met, change, after}
+use Rattle.laws.specs.Standing.{Standing, Change, atMost, fixed}
+use Rattle.laws.specs.Step.{namesOf, Kind, Step, Rule, rule, ruleOf, met, change, after}
 use Rattle.laws.specs.Sound.{AtLeast}
 use Rattle.laws.proofs.Sum.{
   and-left,
@@ -95,6 +95,10 @@ module _ (b b′ : ℕ → ℕ) (below : (s : ℕ) → b′ s ≤ b s) where
       sum-mono (suc n) _ _
       (λ s l. keep-mono _ _ _ _ (same (not (eqb s t))) (λ e. mul-le-mul-left (sumWeight p (reduced p K) t s) (ceiling-mono s)))
 
+  zero-met-mono : (t : ℕ) → zeroMet b t ≡ true → zeroMet b′ t ≡ true
+  unfolding zeroMet
+  zero-met-mono t e = eq-eqb (b′ t) 0 (omega (arith, below t, eqb-true (b t) 0 e))
+
 -- digits, where bounds are no higher and no more signals of the form are unmarked
 module _ (p : ℕ) (K : Constraint) (b b′ : ℕ → ℕ) (m m′ : ℕ → Bool) (below : (s : ℕ) → b′ s ≤ b s)
     (fewer : (s : ℕ) → live (reduced p K) m′ s ≡ true → live (reduced p K) m s ≡ true) where
@@ -131,19 +135,11 @@ module _ (p : ℕ) (K : Constraint) (b b′ : ℕ → ℕ) (m m′ : ℕ → Boo
   digits-met-from n t r =
       and-mono (same (linear K && (occurs (reduced p K) t && occurs (reduced p K) r))) (separated-from n r)
 
-module _ {b b′ : ℕ → ℕ} (below : (s : ℕ) → b′ s ≤ b s) where
-  zero-met-mono : (t : ℕ) → zeroMet b t ≡ true → zeroMet b′ t ≡ true
-  unfolding zeroMet
-  zero-met-mono t e = eq-eqb (b′ t) 0 (omega (arith, below t, eqb-true (b t) 0 e))
-
 module _ {m m′ : ℕ → Bool} (more : (s : ℕ) → m s ≡ true → m′ s ≡ true) where
   others-marked-mono : (t : ℕ) (f : Form) → othersMarked m t f ≡ true → othersMarked m′ t f ≡ true
   unfolding othersMarked
   others-marked-mono t [] = λ e. refl
-  others-marked-mono t (x ∷ f) =
-      and-mono
-      (or-mono (same (eqb (x .signal) 0 || eqb (x .signal) t)) (more (x .signal)))
-      (others-marked-mono t f)
+  others-marked-mono t (x ∷ f) = and-mono (or-mono (same (eqb (x .signal) 0 || eqb (x .signal) t)) (more (x .signal))) (others-marked-mono t f)
 
   product-met-mono : (K : Constraint) (t : ℕ) → productMet K m t ≡ true → productMet K m′ t ≡ true
   unfolding productMet
@@ -158,34 +154,40 @@ module _ {m m′ : ℕ → Bool} (more : (s : ℕ) → m s ≡ true → m′ s �
   live-mono p K (suc s) =
       and-mono (same (occurs (reduced p K) (suc s))) (not-mono (m (suc s)) (m′ (suc s)) (more (suc s)))
 
+-- what each kind gives
+pub data Sorted : Kind → Change → Type 0 where
+  root : {x : ℕ} → Sorted Kind.Root (atMost x)
+  sum : {x : ℕ} → Sorted Kind.Sum (atMost x)
+  marker : {q : Kind} → Sorted q fixed
+
 -- what holds of every kind
-pub record Grows (r r′ : Rule) : Type 0 where
+pub record Grows (q : Kind) (r r′ : Rule) : Type 0 where
   pub still-met : r .met ≡ true → r′ .met ≡ true
   pub stronger : Stronger (r .change) (r′ .change)
+  pub sort : Sorted q (r .change)
 
-pub grows : (q : Kind) (J : Subject) {S S′ : Standing} → AtLeast S S′ → (t r : ℕ) → Grows (rule q J S t r) (rule q J S′ t r)
-grows Root J g t r = record { still-met = λ e. e; stronger = same-change }
-grows Sum J g t r =
+marker-grows : {q : Kind} {a a′ : Bool} → (a ≡ true → a′ ≡ true) → Grows q (record { met = a; change = fixed }) (record { met = a′; change = fixed })
+marker-grows h = record { still-met = h; stronger = same-change; sort = marker }
+
+pub grows : (q : Kind) (J : Subject) {S S′ : Standing} → AtLeast S S′ → (t r : ℕ) → Grows q (rule q J S t r) (rule q J S′ t r)
+grows Kind.Root J g t r = record { still-met = λ e. e; stronger = same-change; sort = root }
+grows Kind.Sum J g t r =
     let h = sum-bound-mono _ _ (g .bounds) (J .p) (J .n) (J .equation) t in
-    record { still-met = sum-met-from (J .p) (J .n) (J .equation) _ _ t h; stronger = lower-bound h }
-grows Zero J g t r = record { still-met = zero-met-mono (g .bounds) t; stronger = same-change }
-grows Product J g t r = record { still-met = product-met-mono (g .marks) (J .equation) t; stronger = same-change }
-grows Digits J g t r =
-    let K = J .equation in
-    record { still-met = digits-met-from (J .p) K _ _ _ _ (g .bounds) (live-mono (g .marks) (J .p) K) (J .n) t r; stronger = same-change }
+    record { still-met = sum-met-from (J .p) (J .n) (J .equation) _ _ t h; stronger = lower-bound h; sort = sum }
+grows Kind.Zero J g t r = marker-grows (zero-met-mono _ _ (g .bounds) t)
+grows Kind.Product J g t r = marker-grows (product-met-mono (g .marks) (J .equation) t)
+grows Kind.Digits J g t r =
+    marker-grows (digits-met-from (J .p) (J .equation) _ _ _ _ (g .bounds) (live-mono (g .marks) (J .p) (J .equation)) (J .n) t r)
 
 module _ (P : Problem) {S S′ : Standing} (g : AtLeast S S′) (x : Step) where
-  pub met-mono : met P S x ≡ true → met P S′ x ≡ true
-  unfolding met ruleOf
-  met-mono = grows (x .kind) (subject (namesOf (x .kind)) P (x .constraint)) g (x .target) (x .reference) .still-met
+  step-grows : Grows (x .kind) (ruleOf P S x) (ruleOf P S′ x)
+  unfolding ruleOf
+  step-grows = grows (x .kind) (subject (namesOf (x .kind)) P (x .constraint)) g (x .target) (x .reference)
 
-  pub change-mono : Stronger (change P S x) (change P S′ x)
-  unfolding change ruleOf
-  change-mono = grows (x .kind) (subject (namesOf (x .kind)) P (x .constraint)) g (x .target) (x .reference) .stronger
+  pub met-mono : met P S x ≡ true → met P S′ x ≡ true
+  unfolding met
+  met-mono = step-grows .still-met
 
   pub after-mono : AtLeast (after P S x) (after P S′ x)
-  unfolding after
-  after-mono = apply-mono (x .target) g change-mono
-
-  pub monotone : met P S x ≡ true → (met P S′ x ≡ true) × AtLeast (after P S x) (after P S′ x)
-  monotone e = (met-mono e, after-mono)
+  unfolding after change
+  after-mono = apply-mono (x .target) g (step-grows .stronger)

@@ -1,12 +1,12 @@
 -- OPTIMUM: a standing where no met step adds anything is not exceeded by any accepted derivation from a standing below it.
-use mathlib.Core.Path.{_≡_}
+use mathlib.Core.Path.{_≡_, ap}
 use mathlib.Core.Bool.{true, false, not}
 use mathlib.Core.List.{List, [], _∷_}
 use Rattle.laws.specs.Problem.{Problem}
-use Rattle.laws.specs.Standing.{Standing, idle}
+use Rattle.laws.specs.Standing.{Standing}
 use Rattle.laws.specs.Step.{Step, inRange, met, fits, change, adds, after, replay, accepted}
 use Rattle.laws.specs.Sound.{AtLeast, Closed}
-use Rattle.laws.proofs.Sum.{and-left, and-right, and-both, true-by, true-or-false, false-not}
+use Rattle.laws.proofs.Sum.{and-left, and-right, and-both, true-by, true-or-false}
 use Rattle.laws.proofs.Order.{at-least-trans, apply-idle}
 use Rattle.laws.proofs.Monotone.{met-mono, after-mono}
 
@@ -18,16 +18,12 @@ pub fits-holds : (P : Problem) (S : Standing) (x : Step) → inRange P x ≡ tru
 unfolding fits
 fits-holds P S x e g = and-both _ _ e g
 
-pub adds-fits : (P : Problem) (S : Standing) (x : Step) → adds P S x ≡ true → fits P S x ≡ true
-unfolding adds
-adds-fits P S x e = and-left _ _ e
-
 -- what fits and doesn't add is idle
 pub closed-idle : (P : Problem) (S : Standing) (x : Step) → adds P S x ≡ false → fits P S x ≡ true → AtLeast (after P S x) S
 unfolding after adds
 closed-idle P S x a f =
     apply-idle (change P S x) S (x .target)
-    (true-by _ (λ e. true-or-false _ (and-both (fits P S x) _ f (false-not _ e)) a))
+    (true-by _ (λ e. true-or-false _ (and-both (fits P S x) _ f (ap not e)) a))
 
 pub optimum : {P : Problem} {S S′ : Standing}
     → Closed P S′ → AtLeast S S′ → (xs : List Step) → accepted P S xs ≡ true → AtLeast (replay P S xs) S′

@@ -1,7 +1,7 @@
 -- The reduced form of a linear constraint: it is 0 modulo p exactly at the runs that satisfy the constraint.
-use Prim.Native.Nat.{ℕ, zero, suc, _+_, _*_, _%_, _<_}
+use Prim.Native.Nat.{ℕ, zero, suc, _+_, _*_, _%_, _≤_, _<_}
 use mathlib.Core.Path.{_≡_, sym, ap, _∙_}
-use mathlib.Core.Bool.{Bool, true, false, not}
+use mathlib.Core.Bool.{true, false}
 use native.Mathlib.Omega.{arith}
 use native.Mathlib.Nat.{mod-lt, mod-eq-of-lt}
 use borrow.Author.Tests.{eqb-true, eqb-false, not-true, not-false}
@@ -9,46 +9,47 @@ use Rattle.field.specs.Residue.{Congruent, opposite}
 use Rattle.field.specs.Inverse.{IsInverse}
 use Rattle.field.proofs.Residue.{congruent-refl, congruent-sym, congruent-trans, congruent-plus, congruent-times, congruent-mod, congruent-shift}
 use Rattle.field.proofs.Residue.{congruent-below, opposite-plus}
-use Rattle.circuit.specs.Circuit.{Constraint, WellFormedConstraint, Satisfies, coef, names, eval}
-use Rattle.laws.specs.Sum.{sum, keep}
+use Rattle.circuit.specs.Circuit.{Form, Constraint, Rises, WellFormedConstraint, Satisfies, coef, names, eval}
+use Rattle.laws.specs.Sum.{sum}
 use Rattle.laws.specs.Rules.{namesNone, linear, constant, reduced, occurs}
 use Rattle.laws.proofs.Sum.{or-cases, none-times, sum-cong, sum-plus, sum-scale, sum-zeros, sum-first}
-use Rattle.laws.proofs.Forms.{unnamed-coef, unnamed-beyond, eval-sum, signals, eval-parts, signals-none}
+use Rattle.laws.proofs.Forms.{unnamed-coef, coef-below, named-coef, eval-sum, signals, eval-parts, signals-none}
 
 -- Sums modulo p
 
-pub sum-congruent :
-    (p n : ℕ) (f g : ℕ → ℕ)
-    → ((s : ℕ) → s < n → Congruent p (f s) (g s))
-    → Congruent p (sum n f) (sum n g)
+pub sum-congruent : (p n : ℕ) (f g : ℕ → ℕ) → ((s : ℕ) → s < n → Congruent p (f s) (g s)) → Congruent p (sum n f) (sum n g)
 unfolding sum
 sum-congruent p zero f g h = congruent-refl p 0
 sum-congruent p (suc n) f g h =
     congruent-plus (h 0 (omega arith)) (sum-congruent p n (λ s. f (suc s)) (λ s. g (suc s)) (λ s l. h (suc s) (omega arith)))
 
-pub keep-congruent : {p x y : ℕ} (b : Bool) → Congruent p x y → Congruent p (keep b x) (keep b y)
-unfolding keep
-keep-congruent true h = h
-keep-congruent {p} false h = congruent-refl p 0
-
--- an equation with one unknown u: with d the inverse of c, and o the opposite of f, c·u + f = 0 is solved by o·d
-pub solve :
-    {p c d u r : ℕ} (f o : ℕ)
-    → IsInverse p c d
-    → Congruent p (f + c * u) 0
-    → Congruent p (f + o) 0
-    → Congruent p r (o * d)
-    → Congruent p u r
-solve {p} {c} {d} {u} {r} f o inverted equation negated result =
+-- an equation with one unknown u: with d the inverse of c, c·u + f = 0 is solved by r = -d·f
+pub solve : {p c d u r : ℕ} (f : ℕ) → IsInverse p c d → Congruent p (f + c * u) 0 → Congruent p (r + d * f) 0 → Congruent p u r
+solve {p} {d = d} {u = u} f inverted equation result =
     congruent-shift _ _
     (congruent-plus (congruent-times (congruent-sym (inverted .one)) (congruent-refl p u))
-    (congruent-plus (congruent-times equation (congruent-refl p d))
-    (congruent-plus (congruent-times (congruent-sym negated) (congruent-refl p d)) (congruent-sym result))))
+    (congruent-plus (congruent-times equation (congruent-refl p d)) (congruent-sym result)))
+    (omega arith)
+
+pub opposite-scaled : {p : ℕ} (x d : ℕ) → 0 < p → Congruent p (opposite p x * d % p + d * x) 0
+opposite-scaled {p} x d h =
+    congruent-shift _ _ (congruent-plus (congruent-mod p (opposite p x * d)) (congruent-times (opposite-plus x h) (congruent-refl p d)))
     (omega arith)
 
 -- a number from 1 to p - 1 is not 0 modulo p
 pub nonzero-mod : {p : ℕ} (c : ℕ) → c < p → (c ≡ 0 → ⊥) → c % p ≡ 0 → ⊥
 nonzero-mod c h d e = d (sym (mod-eq-of-lt h) ∙ e)
+
+-- nor is the coefficient of a signal that a form names
+pub named-nonzero : {n p least : ℕ} {f : Form} → 0 < p → Rises n p least f → (s : ℕ) → names f s ≡ true → coef f s % p ≡ 0 → ⊥
+named-nonzero {f = f} h r s e = nonzero-mod (coef f s) (coef-below h r s) (λ (z : coef f s ≡ 0). omega (arith, named-coef r s e))
+
+-- What a rule may know of a run: values below p and within the bounds, and the constraint satisfied
+pub record Fulfils (n p : ℕ) (K : Constraint) (b v : ℕ → ℕ) : Type 0 where
+  pub one : v 0 ≡ 1
+  pub below : (s : ℕ) → 1 ≤ s → s ≤ n → v s < p
+  pub bounded : (s : ℕ) → 1 ≤ s → s ≤ n → v s ≤ b s
+  pub satisfies : Satisfies p K v
 
 -- The form
 
@@ -64,24 +65,24 @@ pub occurs-no : (p : ℕ) (K : Constraint) (s : ℕ) → occurs (reduced p K) s 
 unfolding occurs
 occurs-no p K s e = eqb-true (reduced p K s) 0 (not-false _ e)
 
+pub occurs-nonzero : {p : ℕ} (K : Constraint) (s : ℕ) → 0 < p → occurs (reduced p K) s ≡ true → reduced p K s % p ≡ 0 → ⊥
+occurs-nonzero {p} K s h e = nonzero-mod (reduced p K s) (reduced-below p K s h) (occurs-yes p K s e)
+
 -- a0·b0 at the constant
 abbrev constants : Constraint → ℕ
 constants K = coef (K .a) 0 * coef (K .b) 0
 
-minus-two : (p x y z : ℕ) → 0 < p → Congruent p ((x + opposite p y + opposite p z) % p + y + z) x
-minus-two p x y z h =
-    congruent-shift _ _
-    (congruent-plus (congruent-mod p (x + opposite p y + opposite p z)) (congruent-plus (opposite-plus y h) (opposite-plus z h)))
-    (omega arith)
-
 -- the reduced form, with its negative parts on the other side
-reduced-at :
-    (p : ℕ) (K : Constraint) (s : ℕ)
-    → 0 < p
+reduced-at : (p : ℕ) (K : Constraint) (s : ℕ) → 0 < p
     → Congruent p (reduced p K s + constant (constants K) s + coef (K .c) s)
     (coef (K .a) 0 * coef (K .b) s + coef (K .b) 0 * coef (K .a) s)
 unfolding reduced
-reduced-at p K s h = minus-two p _ (constant (constants K) s) (coef (K .c) s) h
+reduced-at p K s h =
+    let positive = coef (K .a) 0 * coef (K .b) s + coef (K .b) 0 * coef (K .a) s in
+    congruent-shift _ _
+    (congruent-plus (congruent-mod p (positive + opposite p (constant (constants K) s) + opposite p (coef (K .c) s)))
+    (congruent-plus (opposite-plus (constant (constants K) s) h) (opposite-plus (coef (K .c) s) h)))
+    (omega arith)
 
 constant-sum : (n x : ℕ) (v : ℕ → ℕ) → v 0 ≡ 1 → sum (suc n) (λ s. constant x s * v s) ≡ x
 unfolding constant
@@ -158,8 +159,3 @@ reduced-unnamed p K s h a b c =
       ap (λ (k : ℕ). coef (K .b) 0 * k) (unnamed-coef (K .a) (suc s) a),
       unnamed-coef (K .c) (suc s) c,
     )))
-
--- a signal above n does not occur
-pub reduced-beyond : {n p : ℕ} {K : Constraint} → WellFormedConstraint n p K → 0 < p → (s : ℕ) → n < suc s → reduced p K (suc s) ≡ 0
-reduced-beyond {n} {p} {K} W h s l =
-    reduced-unnamed p K s h (unnamed-beyond (W .rises-a) (suc s) l) (unnamed-beyond (W .rises-b) (suc s) l) (unnamed-beyond (W .rises-c) (suc s) l)

@@ -1,32 +1,27 @@
 -- The solver's steps are accepted, at most two for each target; no step adds to what they reach, and no accepted derivation exceeds it.
 use Prim.Native.Nat.{ℕ, _+_, _*_, _≤_}
-use mathlib.Core.Path.{_≡_, refl, sym}
+use mathlib.Core.Path.{_≡_, sym}
 use mathlib.Core.Bool.{true}
 use mathlib.Core.List.{List, [], _∷_, _++_}
-use mathlib.Core.Logic.{_⊎_, inl, inr, ⊎-elim}
+use mathlib.Core.Logic.{⊎-elim}
 use native.Mathlib.Omega.{arith}
 use lib.ListN.{length, length-append}
 use Rattle.laws.specs.Problem.{Problem}
-use Rattle.laws.specs.Standing.{Standing, start, Change, atMost, fixed, bounds, marks}
+use Rattle.laws.specs.Standing.{Standing, start, bounds}
 use Rattle.laws.specs.Step.{Step, change, replay, accepted}
 use Rattle.laws.specs.Sound.{AtLeast, Closed}
 use Rattle.laws.specs.Solver.{addsBy, bounded, boundSteps, markSteps, solution, stepsFor}
 use Rattle.laws.proofs.Sum.{and-both, true-or-false, false-by}
-use Rattle.laws.proofs.Order.{replay-adds, replay-append, accepted-append}
+use Rattle.laws.proofs.Order.{sorts, replay-adds, replay-append, accepted-append}
 use Rattle.laws.proofs.Optimum.{optimum}
 use Rattle.laws.proofs.Best.{lowers-says, lowers-holds}
-use Rattle.laws.proofs.Greedy.{lowering-from, bound-steps-accepted, bound-steps-once, bound-steps-short, nothing-lowers}
-use Rattle.laws.proofs.Marks.{marking, steps-accepted, steps-same, steps-once, steps-short, nothing-added}
+use Rattle.laws.proofs.Greedy.{lowering-from, bounds-end, nothing-lowers}
+use Rattle.laws.proofs.Marks.{marking, steps-end, nothing-added}
 
 steps-append : (t : ℕ) (xs ys : List Step) → stepsFor t (xs ++ ys) ≡ stepsFor t xs + stepsFor t ys
 unfolding stepsFor
 steps-append t [] ys = omega arith
 steps-append t (x ∷ xs) ys = omega (arith, steps-append t xs ys)
-
--- every change gives a bound or a mark
-sorts : (d : Change) → (bounds d ≡ true) ⊎ (marks d ≡ true)
-sorts (atMost x) = inl refl
-sorts fixed = inr refl
 
 module _ (P : Problem) where
   last : Standing
@@ -39,24 +34,24 @@ module _ (P : Problem) where
   pub solution-accepted : accepted P (start P) (solution P) ≡ true
   unfolding solution markSteps
   solution-accepted =
-      accepted-append P (start P) (boundSteps P) (markSteps P) (bound-steps-accepted P) (steps-accepted marking P (bounded P))
+      accepted-append P (start P) (boundSteps P) (markSteps P) (bounds-end P .are-accepted) (steps-end marking P (bounded P) .are-accepted)
 
   -- at most two steps for each target
   pub solution-short : (t : ℕ) → stepsFor t (solution P) ≤ 2
   unfolding solution markSteps
   solution-short t =
-      omega (arith, steps-append t (boundSteps P) (markSteps P), bound-steps-once P t, steps-once marking P (bounded P) t)
+      omega (arith, steps-append t (boundSteps P) (markSteps P), bounds-end P .once t, steps-end marking P (bounded P) .once t)
 
   pub solution-length : length (solution P) ≤ 2 * P .n
   unfolding solution markSteps
   solution-length =
-      omega (arith, length-append (boundSteps P) (markSteps P), bound-steps-short P, steps-short marking P (bounded P))
+      omega (arith, length-append (boundSteps P) (markSteps P), bounds-end P .short, steps-end marking P (bounded P) .short)
 
   no-lower : (x : Step) → addsBy bounds P last x ≡ true → ⊥
   unfolding last markSteps
   no-lower x a =
       let l = lowers-says P last x a in
-      let same : (s : ℕ) → last .bound s ≡ bounded P .bound s = steps-same marking P (bounded P) .bounds-stay in
+      let same : (s : ℕ) → last .bound s ≡ bounded P .bound s = steps-end marking P (bounded P) .held .1 .same .bounds-stay in
       let earlier =
       lowering-from P (bounded P) last (x .target) (last .bound (x .target)) (λ s d. sym (same s)) (omega arith) x
       (omega (arith, same (x .target)))

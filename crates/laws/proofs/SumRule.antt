@@ -1,23 +1,20 @@
 -- The sum rule is sound: at a run that satisfies the constraint the target is the weighted sum, which the bounds keep below p.
 use Prim.Native.Nat.{ℕ, zero, suc, _+_, _*_, _≤_, _<_}
-use mathlib.Core.Path.{_≡_, refl, sym, _∙_}
-use mathlib.Core.Bool.{true, not, _&&_}
+use mathlib.Core.Path.{_≡_, refl}
+use mathlib.Core.Bool.{Bool, true, false, not, _&&_}
 use native.Mathlib.Omega.{arith}
-use native.Mathlib.Nat.{mul-le-mul-left, mul-comm}
+use native.Mathlib.Nat.{mul-le-mul-left}
 use lib.Dec.{eqb}
 use borrow.Author.Tests.{ltb-true}
-use Rattle.field.specs.Residue.{Congruent, opposite}
+use Rattle.field.specs.Residue.{Congruent}
 use Rattle.field.specs.Prime.{Prime}
-use Rattle.field.specs.Inverse.{inverse}
-use Rattle.field.proofs.Residue.{congruent-refl, congruent-trans, congruent-mod, congruent-equal, congruent-shift, congruent-times, congruent-below}
-use Rattle.field.proofs.Residue.{opposite-plus}
+use Rattle.field.proofs.Residue.{congruent-refl, congruent-trans, congruent-equal, congruent-shift, congruent-times, congruent-below}
 use Rattle.field.proofs.Inverse.{inverse-is}
-use Rattle.circuit.specs.Circuit.{Constraint, WellFormedConstraint, Satisfies}
+use Rattle.circuit.specs.Circuit.{Constraint, WellFormedConstraint}
 use Rattle.laws.specs.Sum.{sum, keep}
 use Rattle.laws.specs.Rules.{linear, reduced, occurs, sumWeight, ceiling, sumTerm, sumBound, sumMet}
-use Rattle.laws.proofs.Sum.{and-left, and-right, keep-mono, keep-times, keep-plus, keep-zero, sum-mono, sum-plus, sum-scale, sum-zeros}
-use Rattle.laws.proofs.Sum.{sum-out}
-use Rattle.laws.proofs.Reduced.{solve, nonzero-mod, sum-congruent, keep-congruent, reduced-below, reduced-zero, occurs-yes}
+use Rattle.laws.proofs.Sum.{and-left, and-right, keep-mono, sum-mono, sum-plus, sum-scale, sum-zeros, sum-out}
+use Rattle.laws.proofs.Reduced.{Fulfils, sum-congruent, solve, opposite-scaled, occurs-nonzero, reduced-zero}
 
 -- what `sumMet` says
 pub record SumMet (p n : ℕ) (K : Constraint) (b : ℕ → ℕ) (t : ℕ) : Type 0 where
@@ -38,87 +35,43 @@ sum-met p n K b t e =
 others : ℕ → (ℕ → ℕ) → (ℕ → ℕ) → ℕ → ℕ
 others t g v s = keep (not (eqb s t)) (g s * v s)
 
--- the opposite coefficients make the opposite sum
-others-opposite :
-    (p n t : ℕ) (g v : ℕ → ℕ)
-    → 0 < p
-    → Congruent p (sum (suc n) (others t g v) + sum (suc n) (others t (λ s. opposite p (g s)) v)) 0
-unfolding others
-others-opposite p n t g v h =
-    congruent-trans (congruent-equal p (sym (sum-plus (suc n) (others t g v) (others t (λ s. opposite p (g s)) v))))
-    (congruent-trans
-    (sum-congruent p (suc n) _ (λ s. 0)
-    (λ s l.
-    congruent-trans (congruent-equal p (sym (keep-plus (not (eqb s t)) (g s * v s) (opposite p (g s) * v s))))
-    (congruent-trans
-    (keep-congruent (not (eqb s t))
-    (congruent-shift (g s * v s + opposite p (g s) * v s) 0 (congruent-times (opposite-plus (g s) h) (congruent-refl p (v s))) (omega arith)))
-    (congruent-equal p (keep-zero (not (eqb s t)))))))
-    (congruent-equal p (sum-zeros (suc n) (λ s. 0) (λ s l. refl))))
-
--- weights are the coefficients times d
-others-weights :
-    (p n t d : ℕ) (g w v : ℕ → ℕ)
-    → ((s : ℕ) → Congruent p (w s) (g s * d))
-    → Congruent p (sum (suc n) (others t w v)) (sum (suc n) (others t g v) * d)
-unfolding others
-others-weights p n t d g w v h =
-    congruent-trans
-    (sum-congruent p (suc n) _ (λ s. d * others t g v s)
-    (λ s l.
-    congruent-trans
-    (keep-congruent (not (eqb s t)) (congruent-shift (w s * v s) (d * (g s * v s)) (congruent-times (h s) (congruent-refl p (v s))) (omega arith)))
-    (congruent-equal p (keep-times (not (eqb s t)) (g s * v s) d))))
-    (congruent-equal p (sum-scale (suc n) d (others t g v) ∙ mul-comm d _))
-
-weight-scaled :
-    (p : ℕ) (K : Constraint) (t s : ℕ)
-    → Congruent p (sumWeight p (reduced p K) t s) (opposite p (reduced p K s) * inverse p (reduced p K t))
-unfolding sumWeight
-weight-scaled p K t s = congruent-mod p _
-
--- values within the bounds make no larger sum
-others-bounded :
-    (p n : ℕ) (K : Constraint) (b : ℕ → ℕ) (t : ℕ) (v : ℕ → ℕ)
-    → v 0 ≡ 1
-    → ((s : ℕ) → 1 ≤ s → s ≤ n → v s ≤ b s)
-    → sum (suc n) (others t (sumWeight p (reduced p K) t) v) ≤ sumBound p n (reduced p K) b t
-unfolding others sumBound sumTerm ceiling
-others-bounded p n K b t v one bounded =
-    sum-mono (suc n) (others t (sumWeight p (reduced p K) t) v) (sumTerm p (reduced p K) b t)
-    (λ s l. keep-mono _ _ _ _ (λ e. e) (λ e. mul-le-mul-left (sumWeight p (reduced p K) t s) (within s l)))
+-- weights that cancel d times the coefficients make a sum that cancels d times theirs
+others-cancel : (p n t d : ℕ) (g w v : ℕ → ℕ) → ((s : ℕ) → Congruent p (w s + d * g s) 0)
+    → Congruent p (sum (suc n) (others t w v) + d * sum (suc n) (others t g v)) 0
+unfolding others keep
+others-cancel p n t d g w v h =
+    congruent-shift _ _ (sum-congruent p (suc n) (λ s. others t w v s + d * others t g v s) (λ s. 0) (λ s l. each s (not (eqb s t))))
+    (omega (
+      arith,
+      sum-plus (suc n) (others t w v) (λ s. d * others t g v s),
+      sum-scale (suc n) d (others t g v),
+      sum-zeros (suc n) (λ s. 0) (λ s l. refl),
+    ))
   where
-    within : (s : ℕ) → s < suc n → v s ≤ ceiling b s
-    within zero l = omega arith
-    within (suc s) l = bounded (suc s) (omega arith) (omega arith)
+    each : (s : ℕ) (b : Bool) → Congruent p (keep b (w s * v s) + d * keep b (g s * v s)) 0
+    each s true = congruent-shift _ _ (congruent-times (h s) (congruent-refl p (v s))) (omega arith)
+    each s false = congruent-equal p (omega arith)
 
-pub sum-sound :
-    {n p : ℕ} {K : Constraint} {b : ℕ → ℕ} {t : ℕ}
-    → Prime p
-    → WellFormedConstraint n p K
-    → t ≤ n
-    → SumMet p n K b t
-    → (v : ℕ → ℕ)
-    → v 0 ≡ 1
-    → v t < p
-    → ((s : ℕ) → 1 ≤ s → s ≤ n → v s ≤ b s)
-    → Satisfies p K v
-    → v t ≤ sumBound p n (reduced p K) b t
-unfolding others
-sum-sound {n} {p} {K} {b} {t} P W h M v one below bounded sat =
-    let positive : 0 < p = omega (arith, P .above) in
-    let rest = sum (suc n) (others t (reduced p K) v) in
-    let whole : sum (suc n) (λ s. reduced p K s * v s) ≡ reduced p K t * v t + rest =
-    sum-out (suc n) (λ s. reduced p K s * v s) t (omega arith) in
-    let at-most : sum (suc n) (others t (sumWeight p (reduced p K) t) v) ≤ sumBound p n (reduced p K) b t =
-    others-bounded p n K b t v one bounded in
-    let equal : v t ≡ sum (suc n) (others t (sumWeight p (reduced p K) t) v) =
-    congruent-below below (omega (arith, M .below))
-    (solve rest (sum (suc n) (others t (λ s. opposite p (reduced p K s)) v))
-    (inverse-is (reduced p K t) P
-    (nonzero-mod (reduced p K t) (reduced-below p K t positive) (occurs-yes p K t (M .has-target))))
-    (congruent-trans (congruent-equal p (omega arith)) (reduced-zero W positive v one (M .is-linear) sat))
-    (others-opposite p n t (reduced p K) v positive)
-    (others-weights p n t (inverse p (reduced p K t)) (λ s. opposite p (reduced p K s)) (sumWeight p (reduced p K) t) v
-    (weight-scaled p K t))) in
-    omega arith
+module _ {n p : ℕ} {K : Constraint} {b v : ℕ → ℕ} (F : Fulfils n p K b v) (t : ℕ) where
+  -- values within the bounds make no larger sum
+  others-bounded : sum (suc n) (others t (sumWeight p (reduced p K) t) v) ≤ sumBound p n (reduced p K) b t
+  unfolding others sumBound sumTerm ceiling
+  others-bounded =
+      sum-mono (suc n) (others t (sumWeight p (reduced p K) t) v) (sumTerm p (reduced p K) b t)
+      (λ s l. keep-mono _ _ _ _ (λ e. e) (λ e. mul-le-mul-left (sumWeight p (reduced p K) t s) (within s l)))
+    where
+      within : (s : ℕ) → s < suc n → v s ≤ ceiling b s
+      within zero l = omega (arith, F .one)
+      within (suc s) l = F .bounded (suc s) (omega arith) (omega arith)
+
+  pub sum-sound : Prime p → WellFormedConstraint n p K → 1 ≤ t → t ≤ n → SumMet p n K b t → v t ≤ sumBound p n (reduced p K) b t
+  unfolding others sumWeight
+  sum-sound P W l h M =
+      let positive : 0 < p = omega (arith, P .above) in
+      let whole = sum-out (suc n) (λ s. reduced p K s * v s) t (omega arith) in
+      let equal : v t ≡ sum (suc n) (others t (sumWeight p (reduced p K) t) v) =
+      congruent-below (F .below t l h) (omega (arith, others-bounded, M .below))
+      (solve (sum (suc n) (others t (reduced p K) v)) (inverse-is (reduced p K t) P (occurs-nonzero K t positive (M .has-target)))
+      (congruent-trans (congruent-equal p (omega arith)) (reduced-zero W positive v (F .one) (M .is-linear) (F .satisfies)))
+      (others-cancel p n t _ (reduced p K) (sumWeight p (reduced p K) t) v (λ s. opposite-scaled (reduced p K s) _ positive))) in
+      omega (arith, others-bounded)

@@ -6,7 +6,6 @@ use mathlib.Core.Bool.{Bool, true, false, not}
 use mathlib.Core.List.{List, [], _∷_}
 use mathlib.Core.Option.{Option, none, some}
 use native.Mathlib.Omega.{arith}
-use native.Mathlib.Decide.{ℕ-discrete}
 use lib.Dec.{leb, eqb}
 use lib.ListN.{length}
 use borrow.Author.Tests.{leb-true, eq-eqb, ne-eqb, not-true}
@@ -15,7 +14,7 @@ use Rattle.laws.specs.Sum.{sum, keep}
 use Rattle.laws.specs.Standing.{Standing, add, idle}
 use Rattle.laws.specs.Step.{Step, within, inRange, fits, change, adds, after, replay, accepted}
 use Rattle.laws.specs.Solver.{taken, turns, stepsFor}
-use Rattle.laws.proofs.Sum.{and-left, and-right, and-both, keep-true, keep-false, keep-le, sum-mono, sum-out}
+use Rattle.laws.proofs.Sum.{and-left, and-right, and-both, by-equal, keep-true, keep-false, keep-le, sum-mono, sum-out}
 use Rattle.laws.proofs.Order.{add-same, add-other}
 
 pub within-says : (n s : ℕ) → within n s ≡ true → (1 ≤ s) × (s ≤ n)
@@ -46,7 +45,7 @@ none-done s = false
 openAt : (ℕ → Bool) → ℕ → ℕ
 openAt done s = keep (not (done (suc s))) 1
 
-pub open-count : ℕ → (ℕ → Bool) → ℕ
+open-count : ℕ → (ℕ → Bool) → ℕ
 open-count n done = sum n (openAt done)
 
 count-most : (n : ℕ) (f : ℕ → ℕ) → ((s : ℕ) → f s ≤ 1) → sum n f ≤ n
@@ -54,12 +53,12 @@ unfolding sum
 count-most zero f h = omega arith
 count-most (suc n) f h = omega (arith, h 0, count-most n (λ s. f (suc s)) (λ s. h (suc s)))
 
-pub open-most : (n : ℕ) (done : ℕ → Bool) → open-count n done ≤ n
+open-most : (n : ℕ) (done : ℕ → Bool) → open-count n done ≤ n
 unfolding open-count openAt
 open-most n done = count-most n (openAt done) (λ s. keep-le (not (done (suc s))) 1)
 
 -- a new target leaves one fewer
-pub open-less : (n : ℕ) (done : ℕ → Bool) (t : ℕ) → 1 ≤ t → t ≤ n → done t ≡ false → open-count n (add done t) < open-count n done
+open-less : (n : ℕ) (done : ℕ → Bool) (t : ℕ) → 1 ≤ t → t ≤ n → done t ≡ false → open-count n (add done t) < open-count n done
 unfolding open-count openAt
 open-less n done zero l m e = absurd (omega arith)
 open-less n done (suc t) l m e =
@@ -67,39 +66,25 @@ open-less n done (suc t) l m e =
       arith,
       sum-out n (openAt done) t (omega arith),
       keep-true (not (done (suc t))) 1 (ap not e),
-      sum-mono n (openAt (add done (suc t))) (λ s. keep (not (eqb s t)) (openAt done s)) (λ s k. term s (ℕ-discrete s t)),
+      sum-mono n (openAt (add done (suc t))) (λ s. keep (not (eqb s t)) (openAt done s)) (λ s k. term s),
     )
   where
-    term : (s : ℕ) → Dec (s ≡ t) → openAt (add done (suc t)) s ≤ keep (not (eqb s t)) (openAt done s)
-    term s (yes q) =
-        let e : add done (suc t) (suc s) ≡ true = rw q (add-same done (suc t)) in
-        omega (arith, keep-false (not (add done (suc t) (suc s))) 1 (ap not e))
-    term s (no d) =
+    term : (s : ℕ) → openAt (add done (suc t)) s ≤ keep (not (eqb s t)) (openAt done s)
+    term s =
+        by-equal s t (λ q. rw q (omega (arith, keep-false (not (add done (suc t) (suc t))) 1 (ap not (add-same done (suc t))))))
+        (λ d.
         omega (
           arith,
           keep-true (not (eqb s t)) (openAt done s) (ap not (ne-eqb s t d)),
           ap (λ (b : Bool). keep (not b) 1) (add-other done (suc t) (suc s) (λ (q : suc s ≡ suc t). d (omega arith))),
-        )
+        ))
 
 -- a step that takes a new target is counted where it is done
 add-counts : (done : ℕ → Bool) (u t : ℕ) → done u ≡ false → keep (eqb u t) 1 + keep (done t) 1 ≡ keep (add done u t) 1
-add-counts done u t e = go (ℕ-discrete t u)
-  where
-    go : Dec (t ≡ u) → keep (eqb u t) 1 + keep (done t) 1 ≡ keep (add done u t) 1
-    go (yes q) =
-        rw q
-        (omega (
-          arith,
-          keep-true (eqb u u) 1 (eq-eqb u u refl),
-          keep-false (done u) 1 e,
-          keep-true (add done u u) 1 (add-same done u),
-        ))
-    go (no d) =
-        omega (
-          arith,
-          keep-false (eqb u t) 1 (ne-eqb u t (λ q. d (sym q))),
-          ap (λ (b : Bool). keep b 1) (add-other done u t d),
-        )
+add-counts done u t e =
+    by-equal t u
+    (λ q. rw q (omega (arith, keep-true _ 1 (eq-eqb u u refl), keep-false (done u) 1 e, keep-true _ 1 (add-same done u))))
+    (λ d. omega (arith, keep-false _ 1 (ne-eqb u t (λ q. d (sym q))), ap (λ (b : Bool). keep b 1) (add-other done u t d)))
 
 -- Turns
 
@@ -111,6 +96,14 @@ pub record Turn (P : Problem) (Holds : (ℕ → Bool) → Standing → Type 0) (
 -- each turn takes a step that is in range and met, with a target that is not done, and keeps the invariant
 pub record Phase (P : Problem) (choose : Standing → Option Step) (Holds : (ℕ → Bool) → Standing → Type 0) : Type 0 where
   pub turn : (done : ℕ → Bool) (S : Standing) (x : Step) → Holds done S → choose S ≡ some x → Turn P Holds done S x
+
+-- what a phase comes to: accepted steps, one a target, and none left to choose
+pub record Ends (P : Problem) (choose : Standing → Option Step) (Holds : (ℕ → Bool) → Standing → Type 0) (S : Standing) (xs : List Step) : Type 0 where
+  pub are-accepted : accepted P S xs ≡ true
+  pub held : (last : ℕ → Bool) × Holds last (replay P S xs)
+  pub once : (t : ℕ) → stepsFor t xs ≤ 1
+  pub short : length xs ≤ P .n
+  pub none-left : choose (replay P S xs) ≡ none
 
 module _ {P : Problem} {choose : Standing → Option Step} {Holds : (ℕ → Bool) → Standing → Type 0} (phase : Phase P choose Holds) where
   -- induction over the turns
@@ -141,37 +134,37 @@ module _ {P : Problem} {choose : Standing → Option Step} {Holds : (ℕ → Boo
   finished done S h z none e = e
   finished done S h z (some x) e = absurd (omega (arith, turn-less done S x (phase .turn done S x h e)))
 
-  pub turns-accepted : (fuel : ℕ) (done : ℕ → Bool) (S : Standing) → Holds done S → accepted P S (turns choose P fuel S) ≡ true
-  unfolding accepted
-  turns-accepted =
-      turns-by (λ fuel done S xs. accepted P S xs ≡ true) (λ done S h. refl) (λ fuel done S h e. refl)
-      (λ fuel done S x xs u r. and-both _ _ (adds-says P S x (u .is-new) .0) r)
-
-  pub turns-hold : (fuel : ℕ) (done : ℕ → Bool) (S : Standing) → Holds done S
-      → (last : ℕ → Bool) × Holds last (replay P S (turns choose P fuel S))
-  unfolding replay
-  turns-hold =
-      turns-by (λ fuel done S xs. (last : ℕ → Bool) × Holds last (replay P S xs)) (λ done S h. (done, h)) (λ fuel done S h e. (done, h))
-      (λ fuel done S x xs u r. r)
-
-  pub turns-once : (t fuel : ℕ) (done : ℕ → Bool) (S : Standing) → Holds done S
-      → stepsFor t (turns choose P fuel S) + keep (done t) 1 ≤ 1
-  unfolding stepsFor
-  turns-once t =
-      turns-by (λ fuel done S xs. stepsFor t xs + keep (done t) 1 ≤ 1) (λ done S h. omega (arith, keep-le (done t) 1))
-      (λ fuel done S h e. omega (arith, keep-le (done t) 1))
-      (λ fuel done S x xs u r. omega (arith, add-counts done (x .target) t (u .new)))
-
   pub turns-short : (fuel : ℕ) (done : ℕ → Bool) (S : Standing) → Holds done S → length (turns choose P fuel S) ≤ fuel
   turns-short =
       turns-by (λ fuel done S xs. length xs ≤ fuel) (λ done S h. omega arith) (λ fuel done S h e. omega arith)
       (λ fuel done S x xs u r. omega arith)
 
-  pub turns-end : (fuel : ℕ) (done : ℕ → Bool) (S : Standing) → Holds done S
-      → open-count (P .n) done ≤ fuel → choose (replay P S (turns choose P fuel S)) ≡ none
-  unfolding replay
-  turns-end =
-      turns-by (λ fuel done S xs. open-count (P .n) done ≤ fuel → choose (replay P S xs) ≡ none)
-      (λ done S h l. finished done S h (omega arith) (choose S) refl)
-      (λ fuel done S h e l. e)
-      (λ fuel done S x xs u r l. r (omega (arith, turn-less done S x u)))
+  -- a phase of n turns from where no target is done
+  pub phase-ends : (S : Standing) → Holds none-done S → Ends P choose Holds S (turns choose P (P .n) S)
+  unfolding accepted replay stepsFor none-done
+  phase-ends S h =
+      record {
+        are-accepted =
+            turns-by (λ fuel done S xs. accepted P S xs ≡ true) (λ done S h. refl) (λ fuel done S h e. refl)
+            (λ fuel done S x xs u r. and-both _ _ (adds-says P S x (u .is-new) .0) r)
+            (P .n) none-done S h;
+        held =
+            turns-by (λ fuel done S xs. (last : ℕ → Bool) × Holds last (replay P S xs)) (λ done S h. (done, h)) (λ fuel done S h e. (done, h))
+            (λ fuel done S x xs u r. r)
+            (P .n) none-done S h;
+        once = λ t.
+            omega (
+              arith,
+              turns-by (λ fuel done S xs. stepsFor t xs + keep (done t) 1 ≤ 1) (λ done S h. omega (arith, keep-le (done t) 1))
+                  (λ fuel done S h e. omega (arith, keep-le (done t) 1))
+                  (λ fuel done S x xs u r. omega (arith, add-counts done (x .target) t (u .new)))
+                  (P .n) none-done S h,
+            );
+        short = turns-short (P .n) none-done S h;
+        none-left =
+            turns-by (λ fuel done S xs. open-count (P .n) done ≤ fuel → choose (replay P S xs) ≡ none)
+            (λ done S h l. finished done S h (omega arith) (choose S) refl)
+            (λ fuel done S h e l. e)
+            (λ fuel done S x xs u r l. r (omega (arith, turn-less done S x u)))
+            (P .n) none-done S h (open-most (P .n) none-done);
+      }

@@ -5,7 +5,7 @@ use mathlib.Core.Bool.{Bool, true, false}
 use mathlib.Core.List.{List}
 use native.Mathlib.Nat.{zero-add}
 use native.Mathlib.Omega.{arith}
-use borrow.Author.Tests.{lt-ltb, le-ltb, le-leb, lt-leb, eq-eqb, ne-eqb, ltb-true, leb-true, eqb-true, not-true}
+use borrow.Author.Tests.{lt-ltb, le-leb, eq-eqb, ltb-true, leb-true, eqb-true, not-true}
 use lib.Dec.{ltb, leb, eqb}
 use lib.ListN.{length, drop, take}
 use Rattle.circuit.specs.Bytes.{u16At}
@@ -14,7 +14,7 @@ use Rattle.circuit.specs.Reader.{pairLetter, hasMark, constraintOf}
 use Rattle.circuit.specs.Run.{valuesIn}
 use Rattle.circuit.specs.Runs.{valueAt, runIn, firstFrom, below, satisfiedBy, agree}
 use Rattle.circuit.specs.Answer.{Answer, refused, given, ask, askNone, andThen}
-use Rattle.circuit.specs.Call.{circuitOf, Sized}
+use Rattle.circuit.specs.Call.{sizesOf, circuitOf, Sized}
 use Rattle.circuit.specs.declared.reader.Sizes.{Sizes}
 use Rattle.circuit.proofs.ReaderLaws.{part-drop}
 use Rattle.circuit.proofs.SearchLaws.{first-same, passed, below-is, agree-yes, agree-no}
@@ -23,9 +23,12 @@ use Rattle.pair.specs.Call.{firstRun, secondRun, signalOf, valuesOf, fil
 
 -- Tests and searches
 
-ask-found : (z number base : ℕ) (r : Answer ℕ) → (z ≡ 0 → ⊥) → askNone z number base r ≡ refused number (base + z)
+pub ask-found : (z number base : ℕ) (r : Answer ℕ) → (z ≡ 0 → ⊥) → askNone z number base r ≡ refused number (base + z)
 ask-found zero number base r h = absurd (h refl)
 ask-found (suc z) number base r h = refl
+
+pub ask-here : (z number : ℕ) (r : Answer ℕ) → (z ≡ 0 → ⊥) → askNone z number 0 r ≡ refused number z
+ask-here z number r h = ask-found z number 0 r h ∙ ap (refused number) (zero-add z)
 
 ask-given : (b : Bool) (number place q : ℕ) (r : Answer ℕ) → ask b number place r ≡ given q → (b ≡ true) × (r ≡ given q)
 ask-given true number place q r e = (refl, e)
@@ -51,64 +54,23 @@ pub record FileWhole (z : Sizes) (t : List ℕ) : Type 0 where
   pub within : signalOf t ≤ z .i + z .o
   pub values : (number : ℕ) → 1 ≤ number → number ≤ 2 * z .n → valueAt (valuesOf t) number < z .p
 
-module _ (z : Sizes) (t : List ℕ) where
-  pub file-short : length t < 7 → refused 18 0 ≡ fileOn z t
+-- the tests after the frame
+module _ {z : Sizes} {t : List ℕ} (F : FileFramed z t) where
+  pub framed-file : fileOn z t
+      ≡ ask (ltb (z .i) (signalOf t)) 20 0
+      (ask (leb (signalOf t) (z .i + z .o)) 20 0
+      (askNone (firstFrom (below (z .p) (valuesOf t)) 1 (2 * z .n)) 21 0
+      (given (signalOf t))))
   unfolding fileOn
-  file-short h = rw (lt-leb 7 (length t) h)
+  framed-file =
+      rw (le-leb 7 (length t) (F .least), F .mark, eq-eqb (u16At t 3) 1 (F .version), eq-eqb (length t) (7 + 8 * z .n) (F .sized))
 
-  module _ (least : 7 ≤ length t) where
-    pub file-mark : hasMark pairLetter t ≡ false → refused 18 0 ≡ fileOn z t
-    unfolding fileOn
-    file-mark h = rw (le-leb 7 (length t) least, h)
+  pub file-values : {q large : ℕ} → q ≡ signalOf t → z .i < q → q ≤ z .i + z .o
+      → large ≡ firstFrom (below (z .p) (take (length t - 7) (drop 7 t))) 1 (2 * z .n) → fileOn z t ≡ askNone large 21 0 (given q)
+  file-values {q} known above within found =
+      framed-file ∙ rw (← known, lt-ltb (z .i) q above, le-leb q (z .i + z .o) within, ← (part-drop t 7 (F .least)), ← found)
 
-    module _ (mark : hasMark pairLetter t ≡ true) where
-      pub file-version : (u16At t 3 ≡ 1 → ⊥) → refused 19 0 ≡ fileOn z t
-      unfolding fileOn
-      file-version h = rw (le-leb 7 (length t) least, mark, ne-eqb (u16At t 3) 1 h)
-
-      pub file-length : u16At t 3 ≡ 1 → (length t ≡ 7 + 8 * z .n → ⊥) → refused 20 0 ≡ fileOn z t
-      unfolding fileOn
-      file-length version h = rw (le-leb 7 (length t) least, mark, eq-eqb (u16At t 3) 1 version, ne-eqb (length t) (7 + 8 * z .n) h)
-
-  -- the tests after the frame
-  module _ (F : FileFramed z t) where
-    framed-file : fileOn z t
-        ≡ ask (ltb (z .i) (signalOf t)) 20 0
-        (ask (leb (signalOf t) (z .i + z .o)) 20 0
-        (askNone (firstFrom (below (z .p) (valuesOf t)) 1 (2 * z .n)) 21 0
-        (given (signalOf t))))
-    unfolding fileOn
-    framed-file =
-        rw (
-          le-leb 7 (length t) (F .least),
-          F .mark,
-          eq-eqb (u16At t 3) 1 (F .version),
-          eq-eqb (length t) (7 + 8 * z .n) (F .sized),
-        )
-
-    module _ (q : ℕ) (known : q ≡ signalOf t) where
-      pub file-low : q ≤ z .i → refused 20 0 ≡ fileOn z t
-      file-low h = sym (framed-file ∙ rw (← known, le-ltb (z .i) q h))
-
-      module _ (above : z .i < q) where
-        pub file-high : z .i + z .o < q → refused 20 0 ≡ fileOn z t
-        file-high h = sym (framed-file ∙ rw (← known, lt-ltb (z .i) q above, lt-leb q (z .i + z .o) h))
-
-        module _ (within : q ≤ z .i + z .o) (large : ℕ) (found : large ≡ firstFrom (below (z .p) (valuesOf t)) 1 (2 * z .n)) where
-          file-values : fileOn z t ≡ askNone large 21 0 (given q)
-          file-values = framed-file ∙ rw (← known, lt-ltb (z .i) q above, le-leb q (z .i + z .o) within, ← found)
-
-          pub file-large : (large ≡ 0 → ⊥) → refused 21 large ≡ fileOn z t
-          file-large h = sym (file-values ∙ ask-found large 21 0 (given q) h ∙ ap (refused 21) (zero-add large))
-
-          pub file-whole : large ≡ 0 → given q ≡ fileOn z t
-          file-whole h = sym (file-values ∙ rw h)
-
-  -- the values are lent as the part after the header
-  pub file-part : (x : ℕ) → 7 ≤ length t → x ≡ firstFrom (below (z .p) (take (length t - 7) (drop 7 t))) 1 (2 * z .n)
-      → x ≡ firstFrom (below (z .p) (valuesOf t)) 1 (2 * z .n)
-  file-part x h e = e ∙ ap (λ (l : List ℕ). firstFrom (below (z .p) l) 1 (2 * z .n)) (part-drop t 7 h)
-
+module _ (z : Sizes) (t : List ℕ) where
   pub file-given : (q : ℕ) → fileOn z t ≡ given q → FileWhole z t × (q ≡ signalOf t)
   unfolding fileOn
   file-given q e =
@@ -133,39 +95,22 @@ module _ (z : Sizes) (t : List ℕ) where
 
 -- Refusals 22 to 24
 
--- none of them is met
-pub record RunsWhole (z : Sizes) (constraint : ℕ → Constraint) (v w : ℕ → ℕ) (q : ℕ) : Type 0 where
-  pub none-first : firstFrom (satisfiedBy (z .p) constraint v) 1 (z .m) ≡ 0
-  pub none-second : firstFrom (satisfiedBy (z .p) constraint w) 1 (z .m) ≡ 0
-  pub none-input : firstFrom (agree v w) 1 (z .i) ≡ 0
-  pub differ : agree v w q ≡ false
+-- no search finds anything
+pub record NoneFound (z : Sizes) (constraint : ℕ → Constraint) (v w : ℕ → ℕ) : Type 0 where
+  pub first : firstFrom (satisfiedBy (z .p) constraint v) 1 (z .m) ≡ 0
+  pub second : firstFrom (satisfiedBy (z .p) constraint w) 1 (z .m) ≡ 0
+  pub input : firstFrom (agree v w) 1 (z .i) ≡ 0
 
 module _ (z : Sizes) (constraint : ℕ → Constraint) (v w : ℕ → ℕ) (q : ℕ) where
-  pub runs-first : (k : ℕ) → k ≡ firstFrom (satisfiedBy (z .p) constraint v) 1 (z .m) → (k ≡ 0 → ⊥) → refused 22 k ≡ runsOn z constraint v w q
+  pub runs-agree : NoneFound z constraint v w → v q ≡ w q → refused 24 q ≡ runsOn z constraint v w q
   unfolding runsOn
-  runs-first k e h = rw (← e) (sym (ask-found k 22 0 _ h ∙ ap (refused 22) (zero-add k)))
+  runs-agree N h = rw (N .first, N .second, N .input, agree-yes v w q h)
 
-  module _ (none-first : firstFrom (satisfiedBy (z .p) constraint v) 1 (z .m) ≡ 0) where
-    pub runs-second : (k : ℕ) → k ≡ firstFrom (satisfiedBy (z .p) constraint w) 1 (z .m) → (k ≡ 0 → ⊥)
-        → refused 22 (z .m + k) ≡ runsOn z constraint v w q
-    unfolding runsOn
-    runs-second k e h = rw (none-first, ← e) (sym (ask-found k 22 (z .m) _ h))
+  pub runs-differ : NoneFound z constraint v w → (v q ≡ w q → ⊥) → given q ≡ runsOn z constraint v w q
+  unfolding runsOn
+  runs-differ N h = rw (N .first, N .second, N .input, agree-no v w q h)
 
-    module _ (none-second : firstFrom (satisfiedBy (z .p) constraint w) 1 (z .m) ≡ 0) where
-      pub runs-input : (k : ℕ) → k ≡ firstFrom (agree v w) 1 (z .i) → (k ≡ 0 → ⊥) → refused 23 k ≡ runsOn z constraint v w q
-      unfolding runsOn
-      runs-input k e h = rw (none-first, none-second, ← e) (sym (ask-found k 23 0 _ h ∙ ap (refused 23) (zero-add k)))
-
-      module _ (none-input : firstFrom (agree v w) 1 (z .i) ≡ 0) where
-        pub runs-agree : v q ≡ w q → refused 24 q ≡ runsOn z constraint v w q
-        unfolding runsOn
-        runs-agree h = rw (none-first, none-second, none-input, agree-yes v w q h)
-
-        pub runs-differ : (v q ≡ w q → ⊥) → given q ≡ runsOn z constraint v w q
-        unfolding runsOn
-        runs-differ h = rw (none-first, none-second, none-input, agree-no v w q h)
-
-  pub runs-given : (x : ℕ) → runsOn z constraint v w q ≡ given x → RunsWhole z constraint v w q × (x ≡ q)
+  pub runs-given : (x : ℕ) → runsOn z constraint v w q ≡ given x → NoneFound z constraint v w × (agree v w q ≡ false) × (x ≡ q)
   unfolding runsOn
   runs-given x e =
       let a = none-given (firstFrom (satisfiedBy (z .p) constraint v) 1 (z .m)) 22 0 x _ e in
@@ -173,7 +118,7 @@ module _ (z : Sizes) (constraint : ℕ → Constraint) (v w : ℕ → ℕ) (q : 
       let c = none-given (firstFrom (agree v w) 1 (z .i)) 23 0 x _ (b .1) in
       let d = ask-given _ 24 q x _ (c .1) in
       let same : given q ≡ given x = d .1 in
-      (record { none-first = a .0; none-second = b .0; none-input = c .0; differ = not-true (agree v w q) (d .0) }, cc)
+      (record { first = a .0; second = b .0; input = c .0 }, not-true (agree v w q) (d .0), cc)
 
 -- the runs as they are copied into arrays, the second from the part after the first
 pub runs-copied : (z : Sizes) (constraint : ℕ → Constraint) (values first second : List ℕ) (q : ℕ) → z .n ≤ 256 → 4 * z .n ≤ length values
@@ -207,25 +152,20 @@ module _ (s : List ℕ) (z : Sizes) (Z : Sized s z) (t : List ℕ) where
   unfolding pairCall pairOn
   call-by =
       let C = circuitOf s in
-      let same : pairOn C t
-      ≡ andThen (fileOn z t) (runsOn z (constraintOf (drop 17 s)) (valueOf (firstRun (C .n) t)) (valueOf (secondRun (C .n) t))) =
-      rw (← (sizes-are Z))
-      (then-same (fileOn z t) _ _ (λ q. runs-same z (constraintAt C) (constraintOf (drop 17 s)) _ _ q (sized-constraint Z))) in
-      on-sized (λ C. pairOn C t) Z ∙ same
-      ∙ ap (λ (n : ℕ). andThen (fileOn z t) (runsOn z (constraintOf (drop 17 s)) (valueOf (firstRun n t)) (valueOf (secondRun n t)))) (sym (Z .is-n))
+      rw (sizes-are Z)
+      (on-sized (λ C. pairOn C t) Z
+      ∙ then-same (fileOn (sizesOf C) t) _ _
+      (λ q. runs-same (sizesOf C) (constraintAt C) (constraintOf (drop 17 s)) _ _ q (λ k l g. sized-constraint Z k l (omega (arith, Z .is-m)))))
 
   pub file-refused : (r : Answer ℕ) (number place : ℕ) → r ≡ fileOn z t → r ≡ refused number place → r ≡ pairCall s t
   file-refused r number place e f = sym (call-by ∙ rw (← e, f))
 
   -- what a file that isn't refused needs of its sizes
   module _ (f : Answer ℕ) (q : ℕ) (e : f ≡ fileOn z t) (g : f ≡ given q) where
-    pub file-signal : q ≤ 256
-    file-signal =
+    pub file-sizes : (7 + 8 * z .n ≤ length t) × (q ≤ 256)
+    file-sizes =
         let F = file-given z t q (sym e ∙ g) in
-        omega (arith, F .1, F .0 .within, Z .formed .n-most, Z .formed .fits, Z .is-i, Z .is-o)
-
-    pub file-long : 7 + 8 * z .n ≤ length t
-    file-long = omega (arith, file-given z t q (sym e ∙ g) .0 .framed .sized)
+        (omega (arith, F .0 .framed .sized), omega (arith, F .1, F .0 .within, Z .formed .n-most, Z .formed .fits, Z .is-i, Z .is-o))
 
     pub runs-answer : (r : Answer ℕ) (body values : List ℕ) → body ≡ drop 17 s → values ≡ valuesOf t
         → r ≡ runsOn z (constraintOf body) (valueOf (runIn values (z .n))) (valueOf (runIn (drop (4 * z .n) values) (z .n))) q → r ≡ pairCall s t

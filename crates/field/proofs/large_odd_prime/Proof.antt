@@ -8,9 +8,11 @@ use Rattle.field.specs.Divisors.{complete, paired}
 use Rattle.field.proofs.large_odd_prime.Statement.{statement}
 use Rattle.field.proofs.large_odd_prime.Tie as tie
 
-odd-prime-by-requires : tie.Need-odd-prime-by-requires
-unfolding complete noDivisor trial paired
-odd-prime-by-requires c κs = (omega arith, record { count = 23169; all = refl; past = omega arith }, refl)
-
 pub large-odd-prime-spec : {M : Type 1} → statement M
-large-odd-prime-spec = tie.close (tie.spec (λ c. search needs) (λ c. search needs) odd-prime-by-requires (λ c. search needs))
+unfolding complete noDivisor trial paired
+large-odd-prime-spec =
+    tie.close
+    (tie.spec
+    (λ c. search needs) (λ c. search needs)
+    (λ c κs. (omega arith, record { count = 23169; all = refl; past = omega arith }, refl))
+    (λ c. search needs))

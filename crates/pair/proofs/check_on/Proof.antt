@@ -10,41 +10,27 @@ use Rattle.pair.proofs.CallLaws as laws
 use Rattle.pair.proofs.check_on.Statement.{statement}
 use Rattle.pair.proofs.check_on.Tie as tie
 
-check-file-requires : tie.Need-check-file-requires
-check-file-requires c κs = let Z = c .before .before .pre in omega (arith, Z .formed .n-most, Z .is-n)
-
 returns : tie.Need-returns
 returns c =
     let f = c .before .before in
     laws.file-refused _ _ (f .before .before .before .pre) _ _ _ _ (f .check-file .ensures) (ap paperOf (c .enum-told .given .1))
 
--- the pair is as long as it must be
-long : (c : tie.After-known-told) → let a = c .before .before .before .before .before .before .args in 7 + 8 * a .sizes .n ≤ length (a .pair .now)
-long c =
+-- the pair is as long as it must be, and its signal is small
+sizes : (c : tie.After-known-told) → let a = c .before .before .before .before .before .before .args in
+    (7 + 8 * a .sizes .n ≤ length (a .pair .now)) × (c .before .file .given .0 .0 ≤ 256)
+sizes c =
     let f = c .before .before .before in
-    laws.file-long _ _ (f .before .before .before .pre) _ _ _ (f .check-file .ensures) (ap paperOf (c .before .file .given .1))
-
-sub-check-runs : tie.Need-sub-check-runs
-sub-check-runs c = c .before .before .before .before .before .before .pre .least
-
-part-check-runs-start : tie.Need-part-check-runs-start
-part-check-runs-start c = c .before .before .before .before .before .before .pre .least
-
-sub-check-runs-2 : tie.Need-sub-check-runs-2
-sub-check-runs-2 c = omega (arith, long (c .before))
-
-part-check-runs-start-2 : tie.Need-part-check-runs-start-2
-part-check-runs-start-2 c = omega (arith, long (c .before))
+    laws.file-sizes _ _ (f .before .before .before .pre) _ _ _ (f .check-file .ensures) (ap paperOf (c .before .file .given .1))
 
 check-runs-requires : tie.Need-check-runs-requires
 check-runs-requires c κs =
     let k = c .before .before in
     let f = k .before .before .before in
     let start = f .before .before .before in
-    let whole = long k in (
+    let whole = sizes k .0 in (
       omega (arith, start .pre .formed .n-most, start .pre .is-n),
       rw (part-drop (start .args .pair .now) 7 (omega (arith, whole))) (omega (arith, whole, length-drop 7 (start .args .pair .now))),
-      laws.file-signal _ _ (start .pre) _ _ _ (f .check-file .ensures) (ap paperOf (k .before .file .given .1)),
+      sizes k .1,
     )
 
 returns-2 : tie.Need-returns-2
@@ -53,21 +39,21 @@ returns-2 c =
     let f = k .before .before .before in
     let start = f .before .before .before in
     laws.runs-answer _ _ (start .pre) _ _ _ (f .check-file .ensures) (ap paperOf (k .before .file .given .1)) _ _ _
-    (part-drop (start .args .circuit .now) 17 (start .pre .least)) (part-drop (start .args .pair .now) 7 (omega (arith, long k)))
+    (part-drop (start .args .circuit .now) 17 (start .pre .least)) (part-drop (start .args .pair .now) 7 (omega (arith, sizes k .0)))
     (c .check-runs .ensures)
 
 pub check-on-spec : {M : Type 1} → statement M
 check-on-spec =
     tie.close
     (tie.spec
-    check-file-requires
+    (λ c κs. let Z = c .before .before .pre in omega (arith, Z .formed .n-most, Z .is-n))
     (λ c. search needs) (λ c. search needs)
     returns
-    sub-check-runs
-    part-check-runs-start
+    (λ c. c .before .before .before .before .before .before .pre .least)
+    (λ c. c .before .before .before .before .before .before .pre .least)
     (λ c. search needs)
-    sub-check-runs-2
-    part-check-runs-start-2
+    (λ c. omega (arith, sizes (c .before) .0))
+    (λ c. omega (arith, sizes (c .before) .0))
     (λ c. search needs)
     check-runs-requires
     returns-2)

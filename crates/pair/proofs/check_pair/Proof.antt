@@ -6,17 +6,16 @@ use Rattle.pair.proofs.Exact.{exactly, circuit-refused}
 use Rattle.pair.proofs.check_pair.Statement.{statement}
 use Rattle.pair.proofs.check_pair.Tie as tie
 
-check-on-requires : tie.Need-check-on-requires
-check-on-requires c κs = c .before .before .before .check-circuit .ensures .1 _ (ap paperOf (c .before .answer2 .given .1))
-
 returns : tie.Need-returns
 returns c =
     exactly _ _ _
     (circuit-refused _ _ (sym (ap paperOf (c .before .answer .given .1)) ∙ c .before .before .before .check-circuit .ensures .0))
 
-returns-2 : tie.Need-returns-2
-returns-2 c = exactly _ _ _ (c .check-on .ensures)
-
 pub check-pair-spec : {M : Type 1} → statement M
 check-pair-spec =
-    tie.close (tie.spec (λ c κs. search needs) (λ c. search needs) (λ c. search needs) check-on-requires returns returns-2)
+    tie.close
+    (tie.spec
+    (λ c κs. search needs) (λ c. search needs) (λ c. search needs)
+    (λ c κs. c .before .before .before .check-circuit .ensures .1 _ (ap paperOf (c .before .answer2 .given .1)))
+    returns
+    (λ c. exactly _ _ _ (c .check-on .ensures)))

@@ -6,18 +6,15 @@ use Rattle.circuit.proofs.ByteLaws.{byte-past}
 use Rattle.circuit.proofs.bytes.byte_at.Statement.{statement}
 use Rattle.circuit.proofs.bytes.byte_at.Tie as tie
 
--- src/bytes.rt:10:23
-cast-result : tie.Need-cast-result
-cast-result c = omega (arith, c .shared-slice-known .given (c .before .before .args .at))
-
--- src/bytes.rt:7:1
 returns : tie.Need-returns
 unfolding byteAt
 returns c = (refl, omega (arith, c .shared-slice-known .given (c .before .before .args .at)))
 
--- src/bytes.rt:7:1
-returns-2 : tie.Need-returns-2
-returns-2 c = (sym (byte-past _ _ (c .if1 .left)), omega arith)
-
 pub byte-at-spec : {M : Type 1} → statement M
-byte-at-spec = tie.close (tie.spec (λ c. search needs) cast-result returns returns-2)
+byte-at-spec =
+    tie.close
+    (tie.spec
+    (λ c. search needs)
+    (λ c. omega (arith, c .shared-slice-known .given (c .before .before .args .at)))
+    returns
+    (λ c. (sym (byte-past _ _ (c .if1 .left)), omega arith)))

@@ -7,19 +7,11 @@ use Rattle.circuit.proofs.ByteLaws.{u16-past}
 use Rattle.circuit.proofs.bytes.u16_at.Statement.{statement}
 use Rattle.circuit.proofs.bytes.u16_at.Tie as tie
 
--- src/bytes.rt:17:9
-returns : tie.Need-returns
-returns c = (sym (u16-past _ _ (c .if1 .taken)), omega arith)
-
--- src/bytes.rt:13:1
-returns-2 : tie.Need-returns-2
-unfolding u16At
-returns-2 c = (ap₂ (λ (a b : ℕ). a + 256 * b) (c .before .byte-at .ensures .0) (c .byte-at2 .ensures .0), omega arith)
-
 pub u16-at-spec : {M : Type 1} → statement M
+unfolding u16At
 u16-at-spec =
     tie.close
     (tie.spec
-    returns
+    (λ c. (sym (u16-past _ _ (c .if1 .taken)), omega arith))
     (λ c κs. search needs) (λ c. search needs) (λ c κs. search needs) (λ c. search needs) (λ c. search needs)
-    returns-2)
+    (λ c. (ap₂ (λ (a b : ℕ). a + 256 * b) (c .before .byte-at .ensures .0) (c .byte-at2 .ensures .0), omega arith)))

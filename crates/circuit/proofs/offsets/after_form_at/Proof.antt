@@ -4,10 +4,7 @@ use Rattle.circuit.specs.Reader.{offsetAfter}
 use Rattle.circuit.proofs.offsets.after_form_at.Statement.{statement}
 use Rattle.circuit.proofs.offsets.after_form_at.Tie as tie
 
-returns : tie.Need-returns
-unfolding offsetAfter
-returns c = search needs
-
 pub after-form-at-spec : {M : Type 1} → statement M
+unfolding offsetAfter
 after-form-at-spec =
-    tie.close (tie.spec (λ c κs. search needs) (λ c. search needs) (λ c. search needs) (λ c. search needs) (λ c. search needs) returns)
+    tie.close (tie.spec (λ c κs. search needs) (λ c. search needs) (λ c. search needs) (λ c. search needs) (λ c. search needs) (λ c. search needs))

@@ -13,20 +13,11 @@ Inv-loop circuit m table₀ at₀ k₀ table at k = laws.Filling circuit m table
 abbrev μ-loop : tie.MeasureT-loop
 μ-loop circuit m table₀ at₀ k₀ table at k = 512 - k
 
-loop-holds : tie.Need-loop-holds Inv-loop μ-loop
-loop-holds c = laws.filling-start _ _
-
 loop-again : tie.Need-loop-again Inv-loop μ-loop
 loop-again c =
     let a = c .before .before in
     laws.filling-again (a .before .before .before .loop .inv) (search needs) (search needs)
     (a .after-form-at .ensures) (c .before .after-form-at2 .ensures) (c .after-form-at3 .ensures)
-
-returns : tie.Need-returns Inv-loop μ-loop
-returns c = laws.filling-end (c .before .before .loop .inv) (omega (arith, ltb-false))
-
-returns-2 : tie.Need-returns-2 Inv-loop μ-loop
-returns-2 c = laws.filling-end (c .before .loop .inv) (omega arith)
 
 pub offsets-spec : {M : Type 1} → statement M
 offsets-spec =
@@ -34,9 +25,9 @@ offsets-spec =
     (tie.spec
     Inv-loop
     μ-loop
-    loop-holds
-    (λ c. search needs) (λ c. search needs) (λ c. search needs) (λ c. search needs) (λ c κs. search needs) (λ c κs. search needs)
-    (λ c κs. search needs) (λ c. search needs)
+    (λ c. laws.filling-start _ _)
+    (λ c. search needs) (λ c. search needs) (λ c. search needs) (λ c. search needs) (λ c κs. search needs) (λ c κs. search needs) (λ c κs. search needs)
+    (λ c. search needs)
     loop-again
-    returns
-    returns-2)
+    (λ c. laws.filling-end (c .before .before .loop .inv) (omega (arith, ltb-false)))
+    (λ c. laws.filling-end (c .before .loop .inv) (omega arith)))

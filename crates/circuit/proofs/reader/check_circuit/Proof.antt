@@ -1,13 +1,13 @@
 -- `circuit::reader::check_circuit`: the tests in reading order; each way out is one law.
-use mathlib.Core.Path.{_≡_, sym, ap, _∙_}
+use mathlib.Core.Path.{_≡_, refl, sym, ap, _∙_}
 use mathlib.Core.Bool.{true}
 use borrow.Author.Needs.{needs}
-use borrow.Author.Tests.{not-true, not-false}
+use borrow.Author.Tests.{le-leb, lt-leb, ne-eqb, not-true, not-false}
 use Rattle.field.specs.Prime.{oddPrime}
 use Rattle.circuit.specs.Reader.{sizesFit}
-use Rattle.circuit.specs.Answer.{foundOf, paperOf}
+use Rattle.circuit.specs.Answer.{foundOf}
 use Rattle.circuit.proofs.HeaderLaws as laws
-use Rattle.circuit.proofs.Sized.{answered}
+use Rattle.circuit.proofs.Sized.{answered, refusing}
 use Rattle.circuit.proofs.reader.check_circuit.Statement.{statement}
 use Rattle.circuit.proofs.reader.check_circuit.Tie as tie
 
@@ -29,42 +29,38 @@ prime c = sym (c .before .is-odd-prime .ensures .0) ∙ not-false _ (c .if5 .lef
 fit : (c : tie.Else6) → let z = c .before .before .before .before .sizes-at .result in sizesFit (z .n) (z .i) (z .o) (z .m) ≡ true
 fit c = sym (c .before .fits2 .ensures) ∙ not-false _ (c .if6 .left)
 
-returns : tie.Need-returns
-returns c = answered _ _ (ap paperOf (c .refusal .ensures) ∙ laws.call-short _ (c .before .if1 .taken))
-
-returns-2 : tie.Need-returns-2
-returns-2 c = answered _ _ (ap paperOf (c .refusal2 .ensures) ∙ laws.call-long _ (c .before .before .if1 .left) (c .before .if2 .taken))
-
 returns-3 : tie.Need-returns-3
+unfolding laws.chain
 returns-3 c =
     let h = c .before .before in
-    answered _ _
-    (ap paperOf (c .refusal3 .ensures)
-    ∙ laws.call-mark _ (h .before .before .if1 .left) (h .before .if2 .left) (sym (h .has-mark .ensures) ∙ not-true _ (c .before .if3 .taken)))
+    refusing _ (c .refusal3 .ensures)
+    (laws.call-chain _ _ refl
+    ∙ rw (le-leb _ _ (h .before .before .if1 .left), le-leb _ _ (h .before .if2 .left), sym (h .has-mark .ensures) ∙ not-true _ (c .before .if3 .taken)))
 
 returns-4 : tie.Need-returns-4
+unfolding laws.chain
 returns-4 c =
     let u = c .before .before in
     let h = u .before .before in
-    answered _ _
-    (ap paperOf (c .refusal4 .ensures)
-    ∙ laws.call-version _ (h .before .before .if1 .left) (h .before .if2 .left) (sym (h .has-mark .ensures) ∙ not-false _ (u .before .if3 .left))
-    (λ e. c .before .if4 .taken (u .u16-at .ensures .0 ∙ e)))
+    let mark = sym (h .has-mark .ensures) ∙ not-false _ (u .before .if3 .left) in
+    refusing _ (c .refusal4 .ensures)
+    (laws.call-chain _ _ refl
+    ∙ rw (le-leb _ _ (h .before .before .if1 .left), le-leb _ _ (h .before .if2 .left), mark, ← (u .u16-at .ensures .0), ne-eqb _ _ (c .before .if4 .taken)))
 
 returns-5 : tie.Need-returns-5
 returns-5 c =
     let z = c .before .before .before in
-    answered _ _
-    (ap paperOf (c .refusal5 .ensures)
-    ∙ laws.call-prime _ (versioned z) _ (z .sizes-at .ensures) (sym (c .before .before .is-odd-prime .ensures .0) ∙ not-true _ (c .before .if5 .taken)))
+    refusing _ (c .refusal5 .ensures)
+    (laws.call-numbers (versioned z) _ (z .sizes-at .ensures)
+    ∙ rw (sym (c .before .before .is-odd-prime .ensures .0) ∙ not-true _ (c .before .if5 .taken)))
 
 returns-6 : tie.Need-returns-6
 returns-6 c =
     let p = c .before .before .before in
     let z = p .before .before in
-    answered _ _
-    (ap paperOf (c .refusal6 .ensures)
-    ∙ laws.call-sizes _ (versioned z) _ (z .sizes-at .ensures) (prime p) (sym (c .before .before .fits2 .ensures) ∙ not-true _ (c .before .if6 .taken)))
+    refusing _ (c .refusal6 .ensures)
+    (laws.call-numbers (versioned z) _ (z .sizes-at .ensures)
+    ∙ rw (prime p, sym (c .before .before .fits2 .ensures) ∙ not-true _ (c .before .if6 .taken)))
 
 returns-7 : tie.Need-returns-7
 returns-7 c =
@@ -72,8 +68,8 @@ returns-7 c =
     let p = b .before .before .before in
     let z = p .before .before in
     answered _ _
-    (laws.call-whole _ (versioned z) _ (z .sizes-at .ensures) (prime p) (fit (b .before))
-    (c .enum-told .given .0 .0) (sym (b .check-body .ensures) ∙ ap foundOf (c .enum-told .given .1)))
+    (laws.call-numbers (versioned z) _ (z .sizes-at .ensures)
+    ∙ rw (prime p, fit (b .before), sym (b .check-body .ensures) ∙ ap foundOf (c .enum-told .given .1)))
 
 returns-8 : tie.Need-returns-8
 returns-8 c =
@@ -81,17 +77,19 @@ returns-8 c =
     let p = b .before .before .before in
     let z = p .before .before in
     answered _ _
-    (laws.call-fault _ (versioned z) _ (z .sizes-at .ensures) (prime p) (fit (b .before))
-    _ _ (sym (b .check-body .ensures) ∙ ap foundOf (c .before .body .given .1)))
+    (laws.call-numbers (versioned z) _ (z .sizes-at .ensures)
+    ∙ rw (prime p, fit (b .before), sym (b .check-body .ensures) ∙ ap foundOf (c .before .body .given .1)))
 
 pub check-circuit-spec : {M : Type 1} → statement M
+unfolding laws.chain
 check-circuit-spec =
     tie.close
     (tie.spec
     (λ c κs. search needs)
-    returns
+    (λ c. refusing _ (c .refusal .ensures) (laws.call-chain _ _ refl ∙ rw (lt-leb _ _ (c .before .if1 .taken))))
     (λ c κs. search needs)
-    returns-2
+    (λ c. refusing _ (c .refusal2 .ensures)
+    (laws.call-chain _ _ refl ∙ rw (le-leb _ _ (c .before .before .if1 .left), lt-leb _ _ (c .before .if2 .taken))))
     (λ c κs. search needs) (λ c κs. search needs)
     returns-3
     (λ c κs. search needs) (λ c κs. search needs)

@@ -9,33 +9,22 @@ use Rattle.circuit.proofs.reader.check_constraint.Tie as tie
 returns : tie.Need-returns
 returns c =
     let told = ap foundOf (c .enum-told .given .1) in
-    told ∙ sym (laws.constraint-a _ _ _ _ _ (sym (c .before .before .check-form-at .ensures .0) ∙ told))
-
-check-form-at-requires-2 : tie.Need-check-form-at-requires-2
-check-form-at-requires-2 c κs = rw (ap foundOf (c .before .a .given .1)) at (c .before .before .before .check-form-at .ensures .1)
+    told ∙ sym (laws.constraint-start _ _ _ ∙ laws.onward-out _ (sym (c .before .before .check-form-at .ensures .0) ∙ told))
 
 returns-2 : tie.Need-returns-2
 returns-2 c =
-    let c4 = c .before .before .before .before in
-    let c6 = c4 .before .before in
+    let a = c .before .before .before .before in
+    let first = sym (a .before .before .check-form-at .ensures .0) ∙ ap foundOf (a .a .given .1) in
     let told = ap foundOf (c .enum-told2 .given .1) in
-    told
-    ∙ sym
-    (laws.constraint-b _ _ _ _ (sym (c6 .check-form-at .ensures .0) ∙ ap foundOf (c4 .a .given .1)) _ _
-    (sym (c .before .before .check-form-at2 .ensures .0) ∙ told))
-
-check-form-at-requires-3 : tie.Need-check-form-at-requires-3
-check-form-at-requires-3 c κs = rw (ap foundOf (c .before .b .given .1)) at (c .before .before .before .check-form-at2 .ensures .1)
+    told ∙ sym (laws.constraint-start _ _ _ ∙ laws.onward-on _ first ∙ laws.onward-out _ (sym (c .before .before .check-form-at2 .ensures .0) ∙ told))
 
 returns-3 : tie.Need-returns-3
 returns-3 c =
-    let c4 = c .before .before .before .before in
-    let c6 = c4 .before .before in
-    let c8 = c6 .before .before in
-    c .check-form-at3 .ensures .0
-    ∙ sym
-    (laws.constraint-c _ _ _ _ (sym (c8 .check-form-at .ensures .0) ∙ ap foundOf (c6 .a .given .1)) _
-    (sym (c4 .check-form-at2 .ensures .0) ∙ ap foundOf (c .before .before .b .given .1)))
+    let b = c .before .before in
+    let a = b .before .before .before .before in
+    let first = sym (a .before .before .check-form-at .ensures .0) ∙ ap foundOf (a .a .given .1) in
+    let second = sym (b .before .before .check-form-at2 .ensures .0) ∙ ap foundOf (b .b .given .1) in
+    c .check-form-at3 .ensures .0 ∙ sym (laws.constraint-start _ _ _ ∙ laws.onward-on _ first ∙ laws.onward-on _ second)
 
 pub check-constraint-spec : {M : Type 1} → statement M
 check-constraint-spec =
@@ -43,8 +32,8 @@ check-constraint-spec =
     (tie.spec
     (λ c κs. search needs) (λ c. search needs) (λ c. search needs)
     returns
-    check-form-at-requires-2
+    (λ c κs. rw (ap foundOf (c .before .a .given .1)) at (c .before .before .before .check-form-at .ensures .1))
     (λ c. search needs) (λ c. search needs)
     returns-2
-    check-form-at-requires-3
+    (λ c κs. rw (ap foundOf (c .before .b .given .1)) at (c .before .before .before .check-form-at2 .ensures .1))
     returns-3)

@@ -1,75 +1,62 @@
--- `circuit::reader::check_form`: at each turn the whole answer is what is still to be read.
-use Prim.Native.Nat.{_≤_, _-_}
-use mathlib.Core.Path.{_≡_, _∙_}
-use lib.ListN.{length}
+-- `circuit::reader::check_form`: at each turn the whole answer is what is still to be read, and each test leads out or on.
+use mathlib.Core.Path.{sym, _∙_}
 use native.Mathlib.Omega.{arith}
 use borrow.Author.Needs.{needs}
-use Rattle.circuit.specs.Reading.{sizeOf}
-use Rattle.circuit.specs.Reader.{readForm}
+use borrow.Author.Tests.{lt-ltb, le-ltb, le-leb, lt-leb}
 use Rattle.circuit.proofs.ReaderLaws as laws
 use Rattle.circuit.proofs.reader.check_form.Statement.{statement}
 use Rattle.circuit.proofs.reader.check_form.Tie as tie
 
 abbrev Inv-loop : tie.InvT-loop
-Inv-loop part n p count left₀ at₀ least₀ left at least =
-    (at ≤ length part) × (left ≤ 32) × (sizeOf (readForm n p part) ≡ laws.termsFrom n p part left at least)
+Inv-loop part n p count left₀ at₀ least₀ left at least = laws.Terms n p part left at least
 
 abbrev μ-loop : tie.MeasureT-loop
 μ-loop part n p count left₀ at₀ least₀ left at least = left
 
-returns : tie.Need-returns Inv-loop μ-loop
-returns c = laws.form-none _ _ _ (c .if1 .taken)
-
 returns-2 : tie.Need-returns-2 Inv-loop μ-loop
-returns-2 c = laws.form-long _ _ _ _ (c .before .byte-at .ensures .0) (c .before .before .if1 .left) (c .if2 .taken)
-
-loop-holds : tie.Need-loop-holds Inv-loop μ-loop
-loop-holds c = (omega arith, omega arith, laws.form-open _ _ _ _ (c .before .byte-at .ensures .0) (c .before .before .if1 .left) (c .if2 .left))
-
-returns-3 : tie.Need-returns-3 Inv-loop μ-loop
-returns-3 c = laws.term-short _ _ _ _ _ _ _ (c .before .before .loop .inv .2) (c .before .loop-test .taken) (c .if3 .taken)
+returns-2 c =
+    let b = c .before in
+    sym (laws.form-start _ _ _ ∙ rw (le-leb _ _ (b .before .if1 .left), ← (b .byte-at .ensures .0), lt-leb _ _ (c .if2 .taken)))
 
 returns-4 : tie.Need-returns-4 Inv-loop μ-loop
 returns-4 c =
-    let c3 = c .before .before .before in
-    let c4 = c3 .before in
-    laws.term-high _ _ _ _ _ _ _ (c4 .loop .inv .2) (c3 .loop-test .taken) (c .before .before .if3 .left) (omega arith)
+    let s = c .before in
+    let t = s .before .before in
+    sym (laws.term-turn (t .before .loop .inv) (t .loop-test .taken)
+    ∙ rw (le-leb _ _ (s .before .if3 .left), ← (s .u16-at .ensures .0), lt-leb _ _ (c .if4 .taken)))
 
 returns-5 : tie.Need-returns-5 Inv-loop μ-loop
 returns-5 c =
-    let c3 = c .before .before .before in
-    let c4 = c3 .before in
-    let c5 = c4 .before in
-    laws.term-unsorted _ _ _ _ _ _ _ (c5 .loop .inv .2) (c4 .loop-test .taken) (c3 .if3 .left) (omega arith) (omega arith)
+    let s = c .before .before in
+    let t = s .before .before in
+    sym (laws.term-turn (t .before .loop .inv) (t .loop-test .taken)
+    ∙ rw (le-leb _ _ (s .before .if3 .left), ← (s .u16-at .ensures .0), le-leb _ _ (c .before .if4 .left), lt-leb _ _ (c .if5 .taken)))
 
 returns-6 : tie.Need-returns-6 Inv-loop μ-loop
 returns-6 c =
-    let c5 = c .before .before .before .before .before in
-    let c6 = c5 .before in
-    let c7 = c6 .before in
-    laws.term-zero _ _ _ _ _ _ _ (c7 .loop .inv .2) (c6 .loop-test .taken) (c5 .if3 .left) (omega arith) (omega arith) (omega arith)
+    let u = c .before in
+    let s = u .before .before .before in
+    let t = s .before .before in
+    sym (laws.term-signal (t .before .loop .inv) (t .loop-test .taken) (s .before .if3 .left) (s .u16-at .ensures .0)
+    (u .before .before .if4 .left) (u .before .if5 .left)
+    ∙ rw (← (u .u32-at .ensures), c .if6 .taken))
 
 returns-7 : tie.Need-returns-7 Inv-loop μ-loop
 returns-7 c =
-    let c6 = c .before .before .before .before .before .before in
-    let c7 = c6 .before in
-    let c8 = c7 .before in
-    laws.term-large _ _ _ _ _ _ _ (c8 .loop .inv .2) (c7 .loop-test .taken) (c6 .if3 .left) (omega arith) (omega arith) (omega arith) (omega arith)
+    let u = c .before .before in
+    let s = u .before .before .before in
+    let t = s .before .before in
+    sym (laws.term-signal (t .before .loop .inv) (t .loop-test .taken) (s .before .if3 .left) (s .u16-at .ensures .0)
+    (u .before .before .if4 .left) (u .before .if5 .left)
+    ∙ rw (← (u .u32-at .ensures), lt-ltb 0 (u .u32-at .result) (omega arith), le-ltb _ _ (c .if7 .taken)))
 
 loop-again : tie.Need-loop-again Inv-loop μ-loop
 loop-again c =
-    let c5 = c .before .before .before .before .before in
-    let c6 = c5 .before in
-    let c7 = c6 .before in
-    let c8 = c7 .before in (
-      omega arith,
-      omega arith,
-      laws.term-read _ _ _ _ _ _ _ (c8 .loop .inv .2) (c7 .loop-test .taken) (c6 .if3 .left) (omega arith) (omega arith) (omega arith)
-          (omega arith) ∙ laws.terms-known _ _ _ _ _ _ _ (c5 .u16-at .ensures .0),
-    )
-
-returns-8 : tie.Need-returns-8 Inv-loop μ-loop
-returns-8 c = laws.terms-end _ _ _ _ _ _ _ (c .before .loop .inv .2) (c .loop-test .left)
+    let u = c .before .before in
+    let s = u .before .before .before in
+    let t = s .before .before in
+    laws.term-again (t .before .loop .inv) (t .loop-test .taken) (s .before .if3 .left) (s .u16-at .ensures .0)
+    (u .before .before .if4 .left) (u .before .if5 .left) (u .u32-at .ensures) (c .before .if6 .left) (c .if7 .left)
 
 pub check-form-spec : {M : Type 1} → statement M
 check-form-spec =
@@ -77,12 +64,12 @@ check-form-spec =
     (tie.spec
     Inv-loop
     μ-loop
-    returns
+    (λ c. sym (laws.form-start _ _ _ ∙ rw (lt-leb _ _ (c .if1 .taken))))
     (λ c κs. search needs)
     returns-2
-    loop-holds
+    (λ c. laws.terms-start _ _ _ (c .before .byte-at .ensures .0) (c .before .before .if1 .left) (c .if2 .left))
     (λ c. search needs)
-    returns-3
+    (λ c. sym (laws.term-turn (c .before .before .loop .inv) (c .before .loop-test .taken) ∙ rw (lt-leb _ _ (c .if3 .taken))))
     (λ c κs. search needs)
     returns-4
     returns-5
@@ -91,4 +78,4 @@ check-form-spec =
     returns-7
     (λ c. search needs) (λ c. search needs) (λ c. search needs) (λ c. search needs)
     loop-again
-    returns-8)
+    (λ c. sym (laws.terms-end (c .before .loop .inv) (c .loop-test .left))))

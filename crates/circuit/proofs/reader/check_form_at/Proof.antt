@@ -23,9 +23,4 @@ returns c =
     (c .shifted .ensures ∙ part .0, rw (c .shifted .ensures, laws.extent-further (a .at) (foundOf (c .before .check-form .result))) (part .1))
 
 pub check-form-at-spec : {M : Type 1} → statement M
-check-form-at-spec =
-    tie.close
-    (tie.spec
-    (λ c. search needs) (λ c. search needs) (λ c. search needs) (λ c κs. search needs)
-    shifted-requires
-    returns)
+check-form-at-spec = tie.close (tie.spec (λ c. search needs) (λ c. search needs) (λ c. search needs) (λ c κs. search needs) shifted-requires returns)

@@ -7,18 +7,13 @@ use Rattle.circuit.specs.Answer.{foundOf}
 use Rattle.circuit.proofs.reader.shifted.Statement.{statement}
 use Rattle.circuit.proofs.reader.shifted.Tie as tie
 
-add-t7 : tie.Need-add-t7
-add-t7 c = let h = rw (c .before .found .given .1) at (c .before .before .before .pre) in omega (arith, h)
-
-add-t8 : tie.Need-add-t8
-add-t8 c = let h = rw (c .before .found2 .given .1) at (c .before .before .before .pre) in omega (arith, h)
-
-returns : tie.Need-returns
-returns c = sym (ap (λ z. further (c .before .before .before .args .at) (foundOf z)) (c .before .found .given .1))
-
-returns-2 : tie.Need-returns-2
-returns-2 c = sym (ap (λ z. further (c .before .before .before .args .at) (foundOf z)) (c .before .found2 .given .1))
-
 pub shifted-spec : {M : Type 1} → statement M
 shifted-spec =
-    tie.close (tie.spec (λ c. search needs) add-t7 (λ c. search needs) add-t8 returns returns-2)
+    tie.close
+    (tie.spec
+    (λ c. search needs)
+    (λ c. let h = rw (c .before .found .given .1) at (c .before .before .before .pre) in omega (arith, h))
+    (λ c. search needs)
+    (λ c. let h = rw (c .before .found2 .given .1) at (c .before .before .before .pre) in omega (arith, h))
+    (λ c. sym (ap (λ z. further (c .before .before .before .args .at) (foundOf z)) (c .before .found .given .1)))
+    (λ c. sym (ap (λ z. further (c .before .before .before .args .at) (foundOf z)) (c .before .found2 .given .1))))

@@ -16,12 +16,6 @@ Inv-loop part values p left₀ at₀ sum₀ left at sum =
 abbrev μ-loop : tie.MeasureT-loop
 μ-loop part values p left₀ at₀ sum₀ left at sum = left
 
-returns : tie.Need-returns Inv-loop μ-loop
-returns c = laws.sum-zero _ _ _ (c .if1 .taken)
-
-loop-holds : tie.Need-loop-holds Inv-loop μ-loop
-loop-holds c = (omega arith, omega arith, laws.sum-start _ _ _ _ (c .byte-at .ensures .0) (c .before .if1 .left))
-
 loop-again : tie.Need-loop-again Inv-loop μ-loop
 loop-again c =
     let l = c .before .before .loop in (
@@ -31,18 +25,15 @@ loop-again c =
           ∙ ap (laws.sumFrom _ _ _ _ _) (sym (c .plus-term .ensures)),
     )
 
-returns-2 : tie.Need-returns-2 Inv-loop μ-loop
-returns-2 c = laws.sum-end _ _ _ _ _ _ _ (c .before .loop .inv .2) (c .loop-test .left) (c .before .loop .inv .1)
-
 pub eval-form-spec : {M : Type 1} → statement M
 eval-form-spec =
     tie.close
     (tie.spec
     Inv-loop
     μ-loop
-    returns
+    (λ c. laws.sum-zero _ _ _ (c .if1 .taken))
     (λ c κs. search needs)
-    loop-holds
+    (λ c. (omega arith, omega arith, laws.sum-start _ _ _ _ (c .byte-at .ensures .0) (c .before .if1 .left)))
     (λ c κs. search needs) (λ c. search needs) (λ c. search needs) (λ c. search needs)
     loop-again
-    returns-2)
+    (λ c. laws.sum-end _ _ _ _ _ _ _ (c .before .loop .inv .2) (c .loop-test .left) (c .before .loop .inv .1)))

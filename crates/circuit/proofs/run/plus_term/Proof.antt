@@ -7,15 +7,6 @@ use Rattle.circuit.proofs.RunLaws as laws
 use Rattle.circuit.proofs.run.plus_term.Statement.{statement}
 use Rattle.circuit.proofs.run.plus_term.Tie as tie
 
-returns : tie.Need-returns
-returns c = laws.term-passed _ _ _ _ _ (omega arith)
-
-mul-result : tie.Need-mul-result
-mul-result c = omega (arith, laws.product-most (c .before .u32-at .result) (c .value-of .result) (omega arith) (omega arith))
-
-add-result : tie.Need-add-result
-add-result c = omega (arith, laws.product-most (c .before .u32-at .result) (c .value-of .result) (omega arith) (omega arith))
-
 cast-result : tie.Need-cast-result
 cast-result c =
     let a = c .before .before .before .before .before .before .args in
@@ -31,10 +22,10 @@ plus-term-spec =
     tie.close
     (tie.spec
     (λ c κs. search needs)
-    returns
+    (λ c. laws.term-passed _ _ _ _ _ (omega arith))
     (λ c. search needs) (λ c κs. search needs) (λ c. search needs) (λ c κs. search needs) (λ c. search needs)
-    mul-result
-    add-result
+    (λ c. omega (arith, laws.product-most (c .before .u32-at .result) (c .value-of .result) (omega arith) (omega arith)))
+    (λ c. omega (arith, laws.product-most (c .before .u32-at .result) (c .value-of .result) (omega arith) (omega arith)))
     (λ c. search needs)
     cast-result
     returns-2)

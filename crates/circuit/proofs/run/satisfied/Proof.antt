@@ -5,12 +5,6 @@ use Rattle.circuit.proofs.RunLaws as laws
 use Rattle.circuit.proofs.run.satisfied.Statement.{statement}
 use Rattle.circuit.proofs.run.satisfied.Tie as tie
 
-returns : tie.Need-returns
-returns c = laws.holds-not _ _ _ (c .if1 .taken)
-
-mul-result : tie.Need-mul-result
-mul-result c = omega (arith, laws.product-most (c .before .before .eval-form .result) (c .before .eval-form2 .result) (omega arith) (omega arith))
-
 returns-2 : tie.Need-returns-2
 returns-2 c =
     let forms = c .before .before in
@@ -21,9 +15,9 @@ pub satisfied-spec : {M : Type 1} → statement M
 satisfied-spec =
     tie.close
     (tie.spec
-    returns
+    (λ c. laws.holds-not _ _ _ (c .if1 .taken))
     (λ c κs. search needs) (λ c κs. search needs) (λ c κs. search needs) (λ c. search needs) (λ c κs. search needs) (λ c. search needs)
     (λ c κs. search needs) (λ c. search needs)
-    mul-result
+    (λ c. omega (arith, laws.product-most (c .before .before .eval-form .result) (c .before .eval-form2 .result) (omega arith) (omega arith)))
     (λ c. search needs)
     returns-2)

@@ -10,8 +10,5 @@ returns : tie.Need-returns
 unfolding valuesIn
 returns c = search needs
 
-returns-2 : tie.Need-returns-2
-returns-2 c = sym (value-past _ _ (c .if1 .left))
-
 pub value-of-spec : {M : Type 1} → statement M
-value-of-spec = tie.close (tie.spec (λ c. search needs) (λ c. search needs) returns returns-2)
+value-of-spec = tie.close (tie.spec (λ c. search needs) (λ c. search needs) returns (λ c. sym (value-past _ _ (c .if1 .left))))

@@ -17,9 +17,6 @@ Inv-loop values n run₀ end s₀ run s = (s ≤ end) × (length run ≡ 257) ×
 abbrev μ-loop : tie.MeasureT-loop
 μ-loop values n run₀ end s₀ run s = end - s
 
-loop-holds : tie.Need-loop-holds Inv-loop μ-loop
-loop-holds c = (omega arith, refl, laws.copy-start _ 256)
-
 loop-again : tie.Need-loop-again Inv-loop μ-loop
 loop-again c =
     let l = c .before .before .loop in (
@@ -40,7 +37,7 @@ copy-run-spec =
     Inv-loop
     μ-loop
     (λ c. search needs) (λ c κs. search needs)
-    loop-holds
+    (λ c. (omega arith, refl, laws.copy-start _ 256))
     (λ c. search needs) (λ c κs. search needs) (λ c. search needs) (λ c. search needs) (λ c. search needs) (λ c. search needs)
     loop-again
     returns)

@@ -17,9 +17,6 @@ Inv-loop values other count s₀ s =
 abbrev μ-loop : tie.MeasureT-loop
 μ-loop values other count s₀ s = count - s
 
-loop-holds : tie.Need-loop-holds Inv-loop μ-loop
-loop-holds c = (omega arith, laws.first-start _ _)
-
 returns : tie.Need-returns Inv-loop μ-loop
 returns c =
     let v = c .before .before in
@@ -34,18 +31,15 @@ loop-again c =
           (laws.agree-yes _ _ _ (sym (v .value-of .ensures) ∙ c .if1 .left ∙ c .before .value-of2 .ensures)),
     )
 
-returns-2 : tie.Need-returns-2 Inv-loop μ-loop
-returns-2 c = laws.first-none _ _ _ _ (c .before .loop .inv .1) (c .loop-test .left)
-
 pub first-difference-spec : {M : Type 1} → statement M
 first-difference-spec =
     tie.close
     (tie.spec
     Inv-loop
     μ-loop
-    loop-holds
+    (λ c. (omega arith, laws.first-start _ _))
     (λ c. search needs) (λ c κs. search needs) (λ c κs. search needs)
     returns
     (λ c. search needs)
     loop-again
-    returns-2)
+    (λ c. laws.first-none _ _ _ _ (c .before .loop .inv .1) (c .loop-test .left)))

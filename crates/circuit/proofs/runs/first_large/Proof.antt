@@ -14,9 +14,6 @@ Inv-loop values p count j₀ j = (j ≤ count) × (firstFrom (below p values) 1 
 abbrev μ-loop : tie.MeasureT-loop
 μ-loop values p count j₀ j = count - j
 
-loop-holds : tie.Need-loop-holds Inv-loop μ-loop
-loop-holds c = (omega arith, laws.first-start _ _)
-
 returns : tie.Need-returns Inv-loop μ-loop
 returns c =
     laws.first-found _ _ _ _ (c .before .before .before .loop .inv .1) (c .before .before .loop-test .taken)
@@ -29,18 +26,15 @@ loop-again c = (
       (laws.below-yes _ _ _ _ (c .before .value-at .ensures) (c .if1 .left)),
 )
 
-returns-2 : tie.Need-returns-2 Inv-loop μ-loop
-returns-2 c = laws.first-none _ _ _ _ (c .before .loop .inv .1) (c .loop-test .left)
-
 pub first-large-spec : {M : Type 1} → statement M
 first-large-spec =
     tie.close
     (tie.spec
     Inv-loop
     μ-loop
-    loop-holds
+    (λ c. (omega arith, laws.first-start _ _))
     (λ c. search needs) (λ c κs. search needs)
     returns
     (λ c. search needs)
     loop-again
-    returns-2)
+    (λ c. laws.first-none _ _ _ _ (c .before .loop .inv .1) (c .loop-test .left)))

@@ -20,9 +20,6 @@ Inv-loop body values p m rest₀ k₀ rest k =
 abbrev μ-loop : tie.MeasureT-loop
 μ-loop body values p m rest₀ k₀ rest k = m - k
 
-loop-holds : tie.Need-loop-holds Inv-loop μ-loop
-loop-holds c = (omega arith, laws.part-zero _, laws.first-start _ _)
-
 returns : tie.Need-returns Inv-loop μ-loop
 returns c =
     let l = c .before .before .before .loop in
@@ -38,18 +35,15 @@ loop-again c =
           (laws.satisfied-part _ _ _ _ _ _ (l .inv .1) (c .before .before .satisfied .ensures) ∙ not-false _ (c .before .if1 .left)),
     )
 
-returns-2 : tie.Need-returns-2 Inv-loop μ-loop
-returns-2 c = laws.first-none _ _ _ _ (c .before .loop .inv .2) (c .loop-test .left)
-
 pub first-unsatisfied-spec : {M : Type 1} → statement M
 first-unsatisfied-spec =
     tie.close
     (tie.spec
     Inv-loop
     μ-loop
-    loop-holds
+    (λ c. (omega arith, laws.part-zero _, laws.first-start _ _))
     (λ c. search needs) (λ c κs. search needs)
     returns
     (λ c κs. search needs) (λ c. search needs)
     loop-again
-    returns-2)
+    (λ c. laws.first-none _ _ _ _ (c .before .loop .inv .2) (c .loop-test .left)))

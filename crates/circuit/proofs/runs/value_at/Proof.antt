@@ -4,9 +4,6 @@ use Rattle.circuit.specs.Runs.{valueAt}
 use Rattle.circuit.proofs.runs.value_at.Statement.{statement}
 use Rattle.circuit.proofs.runs.value_at.Tie as tie
 
-returns : tie.Need-returns
-unfolding valueAt
-returns c = c .u32-at .ensures
-
 pub value-at-spec : {M : Type 1} → statement M
-value-at-spec = tie.close (tie.spec (λ c. search needs) (λ c. search needs) (λ c κs. search needs) returns)
+unfolding valueAt
+value-at-spec = tie.close (tie.spec (λ c. search needs) (λ c. search needs) (λ c κs. search needs) (λ c. c .u32-at .ensures))
