@@ -30,7 +30,7 @@ static inline uint32_t yolqushek_signal(uint64_t returned) { return (uint32_t)re
 uint64_t yolqushek_read(const uint8_t *circuit, size_t circuit_length, uint64_t answer[5]);
 
 /* Judges a derivation: refusals 1 to 17. Writes n bytes to marks, 1 for marked and 0 for not. answer: how many signals are marked, and 1 for fixed and
- * 0 for open. Stack: 44 kB. */
+ * 0 for open. Stack: 124 kB. */
 uint64_t yolqushek_mark(const uint8_t *circuit, size_t circuit_length, const uint8_t *derivation, size_t derivation_length, uint8_t *marks,
                         size_t marks_length, uint64_t answer[2]);
 
@@ -38,7 +38,7 @@ uint64_t yolqushek_mark(const uint8_t *circuit, size_t circuit_length, const uin
 uint64_t yolqushek_pair(const uint8_t *circuit, size_t circuit_length, const uint8_t *pair, size_t pair_length);
 
 /* Solves a circuit: refusals 1 to 10 and 25. Writes its derivation to output, which has 7 + 14 * n bytes at least. answer: how many signals are marked,
- * 1 for fixed and 0 for open, and the derivation's length. Stack: 140 kB, for refused circuits too. */
+ * 1 for fixed and 0 for open, and the derivation's length. Stack: 164 kB, for refused circuits too. */
 uint64_t yolqushek_solve(const uint8_t *circuit, size_t circuit_length, uint8_t *output, size_t output_length, uint64_t answer[3]);
 
 #ifdef __cplusplus

@@ -57,7 +57,7 @@ pub fn read_circuit(circuit: &[u8]) -> Result<Sizes, Refusal> {
     Ok(Sizes { prime, signals, inputs, outputs, constraints })
 }
 
-/// Judges a derivation and writes a byte for each signal to `marks`: refusals 1 to 17. Needs 44 kB of stack.
+/// Judges a derivation and writes a byte for each signal to `marks`: refusals 1 to 17. Needs 124 kB of stack.
 pub fn check_derivation(circuit: &[u8], derivation: &[u8], marks: &mut [u8]) -> Result<Marked, Refusal> {
     let mut answer = [0; 2];
     taken(unsafe {
@@ -72,7 +72,7 @@ pub fn check_pair(circuit: &[u8], pair: &[u8]) -> Result<u32, Refusal> {
     taken(unsafe { yolqushek_pair(circuit.as_ptr(), circuit.len(), pair.as_ptr(), pair.len()) })
 }
 
-/// Solves a circuit, writes its derivation to `output`, and answers the derivation's length too: refusals 1 to 10 and 25. Needs 140 kB of stack, for
+/// Solves a circuit, writes its derivation to `output`, and answers the derivation's length too: refusals 1 to 10 and 25. Needs 164 kB of stack, for
 /// refused circuits too.
 pub fn solve(circuit: &[u8], output: &mut [u8]) -> Result<(Marked, usize), Refusal> {
     let mut answer = [0; 3];

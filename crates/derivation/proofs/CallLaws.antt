@@ -1,141 +1,31 @@
--- Laws of the call in the code's terms: the header's tests, the turns of the walk, and what the call answers and leaves.
-use Prim.Native.Nat.{ℕ, suc, _+_, _*_, _-_, _≤_, _<_, min}
+-- Laws of the call in the code's terms: the start of the walk, and what the call answers and leaves.
+use Prim.Native.Nat.{ℕ, _+_, _-_, _≤_, min}
 use mathlib.Core.Path.{_≡_, refl, sym, ap, _∙_}
-use mathlib.Core.Bool.{true, false}
 use mathlib.Core.List.{List, _++_}
-use native.Mathlib.Numerals.{add-one}
 use native.Mathlib.Omega.{arith}
-use borrow.Author.Tests.{le-leb, lt-leb, eq-eqb, ne-eqb}
 use lib.ListN.{length, drop}
 use Rattle.circuit.specs.Bytes.{u16At}
 use Rattle.circuit.specs.Circuit.{Circuit}
 use Rattle.circuit.specs.Reading.{Reading, whole, fault}
-use Rattle.circuit.specs.Reader.{signalsMost, readCircuit, derivationLetter, hasMark}
+use Rattle.circuit.specs.Reader.{signalsMost, readCircuit}
 use Rattle.circuit.specs.Answer.{Answer, refused, given, andThen}
 use Rattle.circuit.specs.Call.{onCircuit, circuitCall, circuitOf, Sized}
 use Rattle.circuit.specs.declared.reader.Sizes.{Sizes}
 use Rattle.circuit.proofs.Sized.{on-refused}
 use Rattle.laws.specs.Sum.{all}
-use Rattle.laws.specs.Problem.{Problem, largest, problem}
+use Rattle.laws.specs.Problem.{largest, problem}
 use Rattle.laws.specs.Standing.{Standing, isInput, start}
-use Rattle.derivation.specs.Steps.{headSize, stepSize, stepsMost, readStep, tried, walkFrom, stepsOf}
-use Rattle.derivation.specs.Call.{
-  Open,
-  Judgement,
-  marksFrom,
-  marksOf,
-  total,
-  outputMarked,
-  verdictBy,
-  verdictOf,
-  judged,
-  headed,
-  derivationOn,
-  derivationCall,
-  lastOf,
-  leftOn,
-  derivationMarks,
-}
-use Rattle.derivation.specs.declared.step.Way.{Way}
-use Rattle.derivation.specs.declared.step.Way.the-variants.{On, Stopped}
-use Rattle.derivation.specs.Exact.{Framed, ExactCall, SoundCall}
+use Rattle.derivation.specs.Steps.{walkFrom, stepsOf}
+use Rattle.derivation.specs.Call as call
+use Rattle.derivation.specs.Call.{Judgement, judged, headed, derivationOn, derivationCall, derivationMarks}
+use Rattle.derivation.specs.declared.call.Way.{Way}
+use Rattle.derivation.specs.declared.call.Way.the-variants.{On, Stopped}
+use Rattle.derivation.specs.Exact.{ExactCall, SoundCall}
+use Rattle.derivation.specs.Inner as inner
 use Rattle.derivation.specs.Inner.{problemOf, byWay, Answers}
 use Rattle.derivation.proofs.Walks.{walk-accepted}
-use Rattle.derivation.proofs.Exact.{framed-headed, headed-given, call-on, exact-call}
+use Rattle.derivation.proofs.Exact.{headed-given, call-on, exact-call}
 use Rattle.derivation.proofs.Sound.{marks-left, sound-call}
-
--- The header
-
--- the tests before those of the count
-pub record Versioned (d : List ℕ) : Type 0 where
-  pub long : headSize ≤ length d
-  pub mark : hasMark derivationLetter d ≡ true
-  pub version : u16At d 3 ≡ 1
-
-module _ (d : List ℕ) (n room : ℕ) (x : Answer Judgement) where
-  pub head-short : length d < headSize → refused 11 0 ≡ headed d n room x
-  unfolding headed
-  head-short h = sym (rw (lt-leb headSize (length d) h))
-
-  pub head-mark : headSize ≤ length d → hasMark derivationLetter d ≡ false → refused 11 0 ≡ headed d n room x
-  unfolding headed
-  head-mark long h = sym (rw (le-leb headSize (length d) long, h))
-
-  pub head-version : headSize ≤ length d → hasMark derivationLetter d ≡ true → (u16At d 3 ≡ 1 → ⊥) → refused 12 0 ≡ headed d n room x
-  unfolding headed
-  head-version long mark h = sym (rw (le-leb headSize (length d) long, mark, ne-eqb (u16At d 3) 1 h))
-
-  -- then the count, as it was read
-  module _ (H : Versioned d) (count : ℕ) (is-count : count ≡ u16At d 5) where
-    pub head-count : stepsMost < count → refused 13 0 ≡ headed d n room x
-    unfolding headed
-    head-count h =
-        sym (rw (le-leb _ _ (H .long), H .mark, eq-eqb _ _ (H .version), lt-leb (u16At d 5) stepsMost (omega (arith, is-count))))
-
-    module _ (few : count ≤ stepsMost) where
-      pub head-length : (length d ≡ headSize + stepSize * count → ⊥) → refused 13 0 ≡ headed d n room x
-      unfolding headed
-      head-length h =
-          let other : length d ≡ headSize + stepSize * u16At d 5 → ⊥ = λ (e : length d ≡ headSize + stepSize * u16At d 5). h (omega (arith, e, is-count)) in
-          sym
-          (rw (
-            le-leb _ _ (H .long),
-            H .mark,
-            eq-eqb _ _ (H .version),
-            le-leb (u16At d 5) stepsMost (omega (arith, is-count)),
-            ne-eqb _ _ other,
-          ))
-
-      module _ (sized : length d ≡ headSize + stepSize * count) where
-        framed : (k : ℕ) → k ≤ room → Framed d k room
-        framed k h =
-            record {
-              long = H .long;
-              mark = H .mark;
-              version = H .version;
-              few = omega (arith, is-count);
-              sized = omega (arith, sized, is-count);
-              roomy = h;
-            }
-
-        pub head-room : room < n → refused 14 0 ≡ headed d n room x
-        unfolding headed
-        head-room h =
-            let F = framed 0 (omega arith) in
-            sym
-            (rw (
-              le-leb _ _ (F .long),
-              F .mark,
-              eq-eqb _ _ (F .version),
-              le-leb _ _ (F .few),
-              eq-eqb _ _ (F .sized),
-              lt-leb n room h,
-            ))
-
-        pub head-fine : n ≤ room → x ≡ headed d n room x
-        head-fine h = sym (framed-headed d n room x (framed n h))
-
--- The turns of the walk
-
-pub walk-whole : (P : Problem) (d : List ℕ) (S : Standing) (count : ℕ) → count ≡ u16At d 5
-    → walkFrom P d 0 (u16At d 5) S ≡ walkFrom P d 0 (count - 0) S
-walk-whole P d S count e = let all : count - 0 ≡ u16At d 5 = omega (arith, e) in rw all
-
-module _ (P : Problem) (d : List ℕ) (count k : ℕ) (S : Standing) (w : Answer Standing) (inv : w ≡ walkFrom P d k (count - k) S) where
-  module _ (some-left : k < count) where
-    turn : w ≡ andThen (tried P S (readStep d k) (suc k)) (walkFrom P d (k + 1) (count - (k + 1)))
-    unfolding walkFrom
-    turn = inv ∙ (let z : count - k ≡ suc (count - (k + 1)) = omega arith in rw (z, add-one k))
-
-    pub walk-on : (S′ : Standing) → given S′ ≡ tried P S (readStep d k) (suc k) → w ≡ walkFrom P d (k + 1) (count - (k + 1)) S′
-    walk-on S′ e = turn ∙ rw (← e)
-
-    pub walk-stopped : (number place : ℕ) → refused number place ≡ tried P S (readStep d k) (suc k) → refused number place ≡ w
-    walk-stopped number place e = sym (turn ∙ rw (← e))
-
-  pub walk-ended : count ≤ k → given S ≡ w
-  unfolding walkFrom
-  walk-ended h = sym (inv ∙ (let z : count - k ≡ 0 = omega arith in rw z))
 
 -- the start, on a circuit that isn't refused
 module _ (c : List ℕ) (z : Sizes) (Z : Sized c z) where
@@ -145,7 +35,7 @@ module _ (c : List ℕ) (z : Sizes) (Z : Sized c z) where
   -- a walk from the start, whatever the first bounds say
   pub walk-start : (d : List ℕ) (w : Answer Standing) (S : Standing) → S ≡ record { bound = largest (z .p); marked = isInput (min (z .i) 256) }
       → ((first : ℕ → ℕ) → w ≡ walkFrom (problemOf c first) d 0 (u16At d 5) S)
-      → w ≡ walkFrom (problem (circuitOf c)) d 0 (u16At d 5) (start (problem (circuitOf c)))
+      → inner.Walked c d w
   unfolding start
   walk-start d w S e h =
       let few : min (z .i) 256 ≡ circuitOf c .i = omega (arith, Z .formed .n-most, Z .formed .fits, Z .is-i) in
@@ -154,19 +44,15 @@ module _ (c : List ℕ) (z : Sizes) (Z : Sized c z) where
 
 -- The answer, and what is left in the buffer
 
-left-refused : (c d marks : List ℕ) {number place : ℕ} → refused number place ≡ derivationCall c d (length marks)
-    → marks ≡ derivationMarks c d marks
-unfolding derivationCall derivationMarks
-left-refused c d marks e = go (readCircuit c) e
-  where
-    go : (R : Reading Circuit) {number place : ℕ}
-        → refused number place ≡ onCircuit R (λ (C : Circuit). derivationOn (problem C) d (length marks)) → marks ≡ leftOn R d marks
-    go (whole C size) h = rw (← h)
-    go (fault number place) h = refl
-
 answers-refused : (c d marks : List ℕ) (number place : ℕ) → refused number place ≡ derivationCall c d (length marks)
     → Answers c d marks (refused number place) marks
-answers-refused c d marks number place e = record { answer = e; written = left-refused c d marks e }
+unfolding derivationCall derivationMarks
+answers-refused c d marks number place e = record { answer = e; written = go (readCircuit c) e }
+  where
+    go : (R : Reading Circuit) {number place : ℕ}
+        → refused number place ≡ onCircuit R (λ (C : Circuit). derivationOn (problem C) d (length marks)) → marks ≡ call.leftOn R d marks
+    go (whole C size) h = rw (← h)
+    go (fault number place) h = refl
 
 -- after the header's tests
 pub record Checked (c d marks : List ℕ) (z : Sizes) (way : Way) : Type 0 where
@@ -177,10 +63,10 @@ pub record Checked (c d marks : List ℕ) (z : Sizes) (way : Way) : Type 0 where
 pub record Walked (c d marks : List ℕ) (z : Sizes) (way on : Way) (S : Standing) : Type 0 where
   pub checked : Checked c d marks z way
   pub fine : way ≡ On
-  pub walk : byWay on (given S) ≡ walkFrom (problem (circuitOf c)) d 0 (u16At d 5) (start (problem (circuitOf c)))
+  pub walk : inner.Walked c d (byWay on (given S))
 
 module _ {c d marks : List ℕ} {z : Sizes} {way : Way} (H : Checked c d marks z way) where
-  call-headed : (w : Answer Standing) → w ≡ walkFrom (problem (circuitOf c)) d 0 (u16At d 5) (start (problem (circuitOf c)))
+  call-headed : (w : Answer Standing) → inner.Walked c d w
       → derivationCall c d (length marks) ≡ byWay way (andThen w (λ (S : Standing). given (judged (problem (circuitOf c)) S)))
   unfolding derivationOn
   call-headed w e =
@@ -197,7 +83,7 @@ module _ {c d marks : List ℕ} {z : Sizes} {way : Way} (H : Checked c d marks z
 
   pub head-roomy : way ≡ On → z .n ≤ length marks
   head-roomy fine =
-      let any : Judgement = record { count = 0; verdict = Open } in
+      let any : Judgement = record { count = 0; verdict = call.Open } in
       let e : headed d (z .n) (length marks) (given any) ≡ given any = sym (H .head (given any)) ∙ rw fine in
       headed-given d (z .n) (length marks) (given any) e .0 .roomy
 
@@ -208,16 +94,16 @@ module _ {c d marks : List ℕ} {z : Sizes} {way on : Way} {S : Standing} (W : W
 
   module _ (ended : on ≡ On) where
     -- the standing after the last step
-    last-is : lastOf (problem (circuitOf c)) d ≡ S
-    unfolding lastOf stepsOf
+    last-is : call.lastOf (problem (circuitOf c)) d ≡ S
+    unfolding call.lastOf stepsOf
     last-is = walk-accepted (problem (circuitOf c)) d 0 (u16At d 5) (start (problem (circuitOf c))) S (sym (rw ended at (W .walk))) .leads
 
     pub walk-accepts : (r : Answer Judgement) (out : List ℕ)
         → r ≡ given (record {
-          count = total (marksFrom (S .marked) 0 (z .n));
-          verdict = verdictBy (all (z .o) (outputMarked (S .marked) (z .i)));
-        }) → out ≡ marksFrom (S .marked) 0 (z .n) ++ drop (z .n) marks → Answers c d marks r out
-    unfolding judged marksOf verdictOf
+          count = call.total (call.marksFrom (S .marked) 0 (z .n));
+          verdict = call.verdictBy (all (z .o) (call.outputMarked (S .marked) (z .i)));
+        }) → out ≡ call.marksFrom (S .marked) 0 (z .n) ++ drop (z .n) marks → Answers c d marks r out
+    unfolding judged call.marksOf call.verdictOf
     walk-accepts r out e is =
         let P = problem (circuitOf c) in
         let Z = W .checked .sized in

@@ -1,7 +1,6 @@
--- The bytes of steps list them again, so steps that are accepted are an accepted derivation.
-use Prim.Native.Nat.{ℕ, suc, _+_, _*_, _≤_}
+-- The bytes of steps list them again.
+use Prim.Native.Nat.{ℕ, suc, _+_, _*_}
 use mathlib.Core.Path.{_≡_, refl, sym, ap, _∙_}
-use mathlib.Core.Bool.{true}
 use mathlib.Core.List.{List, [], _∷_, _++_}
 use mathlib.Core.Option.{some}
 use native.Mathlib.Nat.{div-add-mod'}
@@ -11,26 +10,26 @@ use lib.Seq.{drop-drop}
 use Rattle.circuit.specs.Bytes.{byteAt, u16At}
 use Rattle.circuit.specs.Reader.{hasMark}
 use Rattle.circuit.proofs.ByteLaws.{byte-drop, u16-drop}
-use Rattle.laws.specs.Problem.{Problem}
-use Rattle.laws.specs.Standing.{start}
-use Rattle.laws.specs.Step.{Kind, Root, Sum, Zero, Product, Digits, kindNumber, Step, replay, accepted}
-use Rattle.derivation.specs.Steps.{stepsMost, numbered, kindOf, stepStart, stepAt, readStep, stepsFrom, stepsOf}
-use Rattle.derivation.specs.Call.{Accepted, lastOf}
+use Rattle.laws.specs.Step.{Kind, Root, Sum, Zero, Product, Digits, kindNumber, Step}
+use Rattle.derivation.specs.Steps.{numbered, kindOf, stepStart, stepAt, readStep, stepsFrom, stepsOf}
 use Rattle.derivation.specs.Encoded.{low, high, stepBytes, stepsBytes, encoded}
 use Rattle.derivation.proofs.Walks.{steps-known}
-use Rattle.derivation.proofs.Exact.{Lists, lists-accepted}
+use Rattle.derivation.proofs.Exact.{Lists}
 
 low-high : (x : ℕ) → low x + 256 * high x ≡ x
 low-high x = omega (arith, div-add-mod' x 256)
 
 -- each kind is found by its number
-pub kind-numbered : (q : Kind) → kindOf (kindNumber q) ≡ some q
+kind-numbered : (q : Kind) → kindOf (kindNumber q) ≡ some q
 unfolding kindOf numbered
 kind-numbered Root = refl
 kind-numbered Sum = refl
 kind-numbered Zero = refl
 kind-numbered Product = refl
 kind-numbered Digits = refl
+
+pub kind-found : (q : Kind) (x : ℕ) → x ≡ kindNumber q → some q ≡ kindOf x
+kind-found q x e = sym (ap kindOf e ∙ kind-numbered q)
 
 pub bytes-length : (xs : List Step) → length (stepsBytes xs) ≡ 7 * length xs
 unfolding stepsBytes stepBytes
@@ -56,9 +55,7 @@ module _ (d : List ℕ) where
         let t : u16At d (stepStart k + 1) ≡ x .target = field-read 1 ∙ low-high (x .target) in
         let con : u16At d (stepStart k + 3) ≡ x .constraint = field-read 3 ∙ low-high (x .constraint) in
         let r : u16At d (stepStart k + 5) ≡ x .reference = field-read 5 ∙ low-high (x .reference) in
-        ap (λ (s : ℕ). record { kind = x .kind; target = s; constraint = u16At d (stepStart k + 3); reference = u16At d (stepStart k + 5) }) t
-        ∙ ap (λ (s : ℕ). record { kind = x .kind; target = x .target; constraint = s; reference = u16At d (stepStart k + 5) }) con
-        ∙ ap (λ (s : ℕ). record { kind = x .kind; target = x .target; constraint = x .constraint; reference = s }) r
+        rw (t, con, r)
 
     known : readStep d k ≡ some x
     unfolding readStep
@@ -87,8 +84,3 @@ encoded-lists xs =
       sized = omega (arith, bytes-length xs);
       steps = ap (stepsFrom (encoded xs) 0) (low-high (length xs)) ∙ steps-listed (encoded xs) 0 xs refl;
     }
-
--- steps that are accepted, written as bytes, are an accepted derivation that leads where they lead
-pub encoded-accepted : (P : Problem) (xs : List Step) → length xs ≤ stepsMost → accepted P (start P) xs ≡ true
-    → Accepted P (encoded xs) × (lastOf P (encoded xs) ≡ replay P (start P) xs)
-encoded-accepted P xs few met = lists-accepted P (encoded xs) xs (encoded-lists xs) few met

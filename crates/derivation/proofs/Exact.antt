@@ -116,7 +116,7 @@ pub record Lists (d : List ℕ) (xs : List laws.Step) : Type 0 where
 pub lists-accepted : (P : Problem) (d : List ℕ) (xs : List laws.Step) → Lists d xs → length xs ≤ stepsMost
     → laws.accepted P (start P) xs ≡ true → Accepted P d × (lastOf P d ≡ laws.replay P (start P) xs)
 unfolding lastOf
-lists-accepted P d xs L few met = (record { judgement = _; is = is }, ap (laws.replay P (start P)) (L .steps))
+lists-accepted P d xs L few met = (record { judgement = _; is = accepted-derivation P d (P .n) A }, ap (laws.replay P (start P)) (L .steps))
   where
     A : AcceptedAs P d (P .n)
     A =
@@ -133,6 +133,3 @@ lists-accepted P d xs L few met = (record { judgement = _; is = is }, ap (laws.r
           met = rw (L .steps) met;
           counted = rw (L .steps) (sym (L .count));
         }
-
-    is : derivationOn P d (P .n) ≡ given (judged P (lastOf P d))
-    is = accepted-derivation P d (P .n) A

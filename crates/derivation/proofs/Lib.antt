@@ -4,6 +4,5 @@ pub mod Sound
 pub mod Encoding
 pub mod Written
 pub mod MarkLaws
-pub mod KindLaws
 pub mod StepLaws
 pub mod CallLaws

@@ -1,16 +1,14 @@
 -- Laws of the marks written one after the other, of their count, and of the verdict.
 use Prim.Native.Nat.{ℕ, zero, suc, _+_, _≤_, _<_}
 use mathlib.Core.Path.{_≡_, refl, sym, ap, _∙_}
-use mathlib.Core.Bool.{Bool, true, false}
+use mathlib.Core.Bool.{Bool, true, false, _&&_, and-true, and-assoc}
 use mathlib.Core.List.{List, [], _∷_, _++_}
 use native.Mathlib.Numerals.{add-one}
-use native.Mathlib.Decide.{ℕ-discrete}
 use native.Mathlib.Omega.{arith}
 use lib.ListN.{length, drop, set}
 use lib.Seq.{drop-cons, append-snoc, set-at}
 use Rattle.laws.specs.Sum.{all}
-use Rattle.laws.proofs.Sum.{all-at, all-from, false-by, true-or-false}
-use Rattle.derivation.specs.Call.{Fixed, Open, bit, marksFrom, total, outputMarked, verdictBy}
+use Rattle.derivation.specs.Call.{bit, marksFrom, total, outputMarked, verdictBy}
 use Rattle.derivation.proofs.Sound.{marks-length}
 
 marks-more : (m : ℕ → Bool) (s left : ℕ) → marksFrom m s (suc left) ≡ marksFrom m s left ++ (bit (m (suc (s + left))) ∷ [])
@@ -65,20 +63,16 @@ pub bit-most : (b : Bool) → bit b ≤ 1
 bit-most true = omega arith
 bit-most false = omega arith
 
-pub all-marked : (n : ℕ) (q : ℕ → Bool) → ((j : ℕ) → j < n → q j ≡ true) → Fixed ≡ verdictBy (all n q)
-all-marked n q h = rw (all-from n q h)
+all-more : (n : ℕ) (q : ℕ → Bool) → all (suc n) q ≡ (all n q && q n)
+unfolding all
+all-more zero q = and-true (q 0)
+all-more (suc n) q = ap (λ (b : Bool). q 0 && b) (all-more n λ s. q (suc s)) ∙ sym (and-assoc (q 0) _ _)
 
-pub one-unmarked : (n : ℕ) (q : ℕ → Bool) (j : ℕ) → j < n → q j ≡ false → Open ≡ verdictBy (all n q)
-one-unmarked n q j l e = rw (false-by (all n q) λ (a : all n q ≡ true). true-or-false (q j) (all-at n q a j l) e)
-
-pub output-at : (m : ℕ → Bool) (i j : ℕ) {b : Bool} → m (i + j + 1) ≡ b → outputMarked m i j ≡ b
+-- one output more
+pub output-more : (m : ℕ → Bool) (i j : ℕ) {a b : Bool} → a ≡ all j (outputMarked m i) → b ≡ m (i + j + 1) → (a && b) ≡ all (j + 1) (outputMarked m i)
 unfolding outputMarked
-output-at m i j e = sym (ap m (add-one (i + j))) ∙ e
+output-more m i j e f = rw (e, f, add-one (i + j), add-one j) (sym (all-more j (outputMarked m i)))
 
-pub marked-more : (m : ℕ → Bool) (i j : ℕ) → ((k : ℕ) → k < j → outputMarked m i k ≡ true) → outputMarked m i j ≡ true
-    → (k : ℕ) → k < j + 1 → outputMarked m i k ≡ true
-marked-more m i j h e k l = go (ℕ-discrete k j)
-  where
-    go : Dec (k ≡ j) → outputMarked m i k ≡ true
-    go (yes q) = rw q e
-    go (no d) = h k (omega arith)
+-- the verdict after the last
+pub verdict-told : (q : ℕ → Bool) (n j : ℕ) {a b : Bool} → a ≡ all j q → j ≤ n → n ≤ j → a ≡ b → verdictBy b ≡ verdictBy (all n q)
+verdict-told q n j e g h f = let last : j ≡ n = omega arith in rw (← f, e, last)

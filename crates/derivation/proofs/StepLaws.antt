@@ -1,62 +1,66 @@
--- Laws of one step in the code's terms: the refusals in their order, and a rule over the part of the bytes that a step names.
-use Prim.Native.Nat.{ℕ, suc, _+_, _-_, _<_}
-use mathlib.Core.Path.{_≡_, refl, sym, ap, _∙_}
+-- Laws of the walk in the code's terms: a step read from its bytes, its rule over the part that it names, and the turns of the loop.
+use Prim.Native.Nat.{ℕ, suc, _+_, _*_, _-_, _/_, _≤_, _<_}
+use mathlib.Core.Path.{_≡_, refl, sym, _∙_}
 use mathlib.Core.Bool.{Bool, true, false, cond}
 use mathlib.Core.List.{List, []}
-use mathlib.Core.Option.{Option, none, some}
+use mathlib.Core.Logic.{inl, ⊎-elim}
+use mathlib.Core.Option.{none, some}
 use native.Mathlib.Numerals.{add-one}
 use native.Mathlib.Omega.{arith}
-use lib.ListN.{length, drop, take}
+use lib.ListN.{length, drop, take, getD}
 use lib.Seq.{drop-length}
 use Rattle.circuit.specs.Bytes.{byteAt, u16At}
 use Rattle.circuit.specs.Circuit.{noConstraint}
 use Rattle.circuit.specs.Reader.{afterForm, termsIn, formIn, constraintIn}
-use Rattle.circuit.specs.Answer.{refused, given}
+use Rattle.circuit.specs.Answer.{refused, given, ask, andThen}
 use Rattle.circuit.specs.Offsets.{Offsets}
 use Rattle.circuit.specs.declared.reader.Sizes.{Sizes}
-use Rattle.circuit.specs.Call.{Sized}
+use Rattle.circuit.specs.Call.{circuitOf, Sized}
 use Rattle.circuit.proofs.ReaderLaws.{part-drop}
 use Rattle.circuit.proofs.OffsetLaws.{sized-part}
 use Rattle.laws.specs.Problem.{Problem, Names, nothing, aConstraint, equationAt}
 use Rattle.laws.specs.Standing.{Standing, apply}
-use Rattle.laws.specs.Step.{Kind, Rule, namesOf, Step, within, inside, named, constraints, inRange, ruleOf, met, change, after}
-use Rattle.laws.proofs.Sum.{and-left, and-right}
+use Rattle.laws.specs.Step.{Kind, Root, Sum, Zero, Product, Digits, namesOf, Step, within, inside, named, constraints, references}
+use Rattle.laws.specs.Step.{inRange, ruleOf, met, change, after}
+use Rattle.laws.proofs.Sum.{and-left, and-right, true-or-false}
 use Rattle.laws.proofs.Sound.{within-least, within-most}
-use Rattle.derivation.specs.Steps.{kindOf, stepStart, stepAt, readStep, tried}
-use Rattle.derivation.specs.Inner.{problemOf, partNamed, ruleIn}
+use Rattle.rules.specs.Promise.{reduces, Asked}
+use Rattle.rules.specs.Rows.{at, rowOf, RowMade}
+use Rattle.derivation.specs.Steps.{kindOf, stepStart, stepAt, readStep, tried, walkFrom}
+use Rattle.derivation.specs.Inner.{problemOf, stepIn, Reads, Kept, Ready, partNamed, ruleIn}
+use Rattle.derivation.specs.declared.kinds.Step as code
+use Rattle.derivation.specs.declared.step.StepRead.{StepRead}
+use Rattle.derivation.specs.declared.step.StepRead.the-variants.{Fine, Refused}
 
--- a step as it was read
-module _ (d : List ℕ) (k : ℕ) where
-  pub read-unknown : none ≡ kindOf (byteAt d (stepStart k)) → none ≡ readStep d k
-  unfolding readStep
-  read-unknown e = rw (← e)
+-- A step by its bytes
 
-  pub read-known : (q : Kind) (t con r : ℕ) → some q ≡ kindOf (byteAt d (stepStart k)) → t ≡ u16At d (stepStart k + 1)
-      → con ≡ u16At d (stepStart k + 3) → r ≡ u16At d (stepStart k + 5)
-      → some (record { kind = q; target = t; constraint = con; reference = r }) ≡ readStep d k
-  unfolding readStep stepAt
-  read-known q t con r e is-t is-con is-r = rw (← e, is-t, is-con, is-r)
+-- the fields of step k as they were read
+pub record Fields (d : List ℕ) (k : ℕ) (x : Step) : Type 0 where
+  pub known : some (x .kind) ≡ kindOf (byteAt d (stepStart k))
+  pub target : x .target ≡ u16At d (stepStart k + 1)
+  pub constraint : x .constraint ≡ u16At d (stepStart k + 3)
+  pub reference : x .reference ≡ u16At d (stepStart k + 5)
 
--- 15, 16 and 17, or on
-module _ (P : Problem) (S : Standing) (o : Option Step) (k : ℕ) where
-  pub step-unknown : none ≡ o → refused 15 (k + 1) ≡ tried P S o (suc k)
-  step-unknown e = rw (← e, add-one k)
+pub read-unknown : (P : Problem) (d : List ℕ) (k : ℕ) → none ≡ kindOf (byteAt d (stepStart k)) → (S : Standing)
+    → tried P S (readStep d k) (suc k) ≡ refused 15 (suc k)
+unfolding readStep
+read-unknown P d k e S = rw (← e)
 
-  module _ (x : Step) (known : some x ≡ o) where
-    pub step-unranged : inRange P x ≡ false → refused 16 (k + 1) ≡ tried P S o (suc k)
-    step-unranged e = rw (← known, add-one k, e)
+pub read-known : {d : List ℕ} {k : ℕ} {x : Step} → Fields d k x → readStep d k ≡ some x
+unfolding readStep stepAt
+read-known F = rw (← F .known, ← F .target, ← F .constraint, ← F .reference)
 
-    module _ (ranged : inRange P x ≡ true) where
-      pub step-unmet : met P S x ≡ false → refused 17 (k + 1) ≡ tried P S o (suc k)
-      step-unmet e = rw (← known, add-one k, ranged, e)
+pub read-unranged : (P : Problem) {d : List ℕ} {k : ℕ} {x : Step} → Fields d k x → inRange P x ≡ false → (S : Standing)
+    → tried P S (readStep d k) (suc k) ≡ refused 16 (suc k)
+read-unranged P F e S = rw (read-known F, e)
 
-      pub step-taken : (S′ : Standing) → met P S x ≡ true → S′ ≡ after P S x → given S′ ≡ tried P S o (suc k)
-      step-taken S′ e is = rw (← known, ranged, e, is)
+-- What a step looks at
 
-pub above-one : (c : List ℕ) (z : Sizes) → Sized c z → 1 < z .p
-above-one c z Z = omega (arith, Z .formed .p-least, Z .is-p)
-
--- The part of the bytes that a step names
+-- the fields of a step are in range
+record Ranged (P : Problem) (x : Step) : Type 0 where
+  target : within (P .n) (x .target) ≡ true
+  constraint : inside (constraints (x .kind) P) (x .constraint) ≡ true
+  reference : inside (references (x .kind) P) (x .reference) ≡ true
 
 pub nothing-named : (c : List ℕ) → take (length c - length c) (drop (length c) c) ≡ []
 nothing-named c = part-drop c (length c) (omega arith) ∙ drop-length c
@@ -65,45 +69,151 @@ no-constraint : constraintIn [] ≡ noConstraint
 unfolding constraintIn afterForm formIn termsIn byteAt
 no-constraint = refl
 
-module _ (c : List ℕ) (z : Sizes) (Z : Sized c z) (table : List ℕ) (O : Offsets c (z .m) table) (first : ℕ → ℕ) where
+pub reduces-names : (q : Kind) → reduces q ≡ true → namesOf q ≡ aConstraint
+reduces-names Root e = true-or-false true refl (sym e)
+reduces-names Sum e = refl
+reduces-names Zero e = true-or-false true refl (sym e)
+reduces-names Product e = true-or-false true refl (sym e)
+reduces-names Digits e = refl
+
+module _ {c : List ℕ} {z : Sizes} {table : List ℕ} (Z : Sized c z) (O : Offsets c (z .m) table) (first : ℕ → ℕ) where
   equation-is : (f : Names) (k : ℕ) → inside (named f (problemOf c first)) k ≡ true → constraintIn (partNamed f c table k) ≡ equationAt f (problemOf c first) k
   equation-is nothing k e = no-constraint
-  equation-is aConstraint k e =
-      sized-part Z O k (within-least _ _ e) (omega (arith, within-most _ _ e, Z .is-m))
+  equation-is aConstraint k e = sized-part Z O k (within-least _ _ e) (omega (arith, within-most _ _ e, Z .is-m))
 
-  -- what the code asks is the rule of the step
-  pub rule-is : (S : Standing) (x : Step) → inRange (problemOf c first) x ≡ true → ruleIn (z .p) (z .n) c table S x ≡ ruleOf (problemOf c first) S x
-  unfolding inRange ruleIn ruleOf
-  rule-is S x e =
-      let P = problemOf c first in
-      let f = and-right (within (P .n) (x .target)) _ e in
-      let k = and-left (inside (constraints (x .kind) P) (x .constraint)) _ f in
-      rw (Z .is-p, Z .is-n, equation-is (namesOf (x .kind)) (x .constraint) k)
+  module _ (x : Step) (ranged : inRange (problemOf c first) x ≡ true) where
+    fields : Ranged (problemOf c first) x
+    unfolding inRange
+    fields =
+        let P = problemOf c first in
+        let f = and-right (within (P .n) (x .target)) _ ranged in
+        record {
+          target = and-left (within (P .n) (x .target)) _ ranged;
+          constraint = and-left (inside (constraints (x .kind) P) (x .constraint)) _ f;
+          reference = and-right (inside (constraints (x .kind) P) (x .constraint)) _ f;
+        }
 
--- a step as it was read, and whether it is in range
-pub record StepRead (c d : List ℕ) (k : ℕ) (z : Sizes) (x : Step) (fine : Bool) : Type 0 where
-  pub sized : Sized c z
-  pub known : some x ≡ readStep d k
-  pub tested : (first : ℕ → ℕ) → fine ≡ inRange (problemOf c first) x
+    -- a step that looks at a row names a constraint
+    pub row-named : reduces (x .kind) ≡ true → (1 ≤ x .constraint) × (x .constraint ≤ z .m)
+    row-named e =
+        let k : within (circuitOf c .m) (x .constraint) ≡ true = rw (reduces-names (x .kind) e) at (fields .constraint) in
+        (within-least _ _ k, omega (arith, within-most _ _ k, Z .is-m))
 
-module _ {c d : List ℕ} {k : ℕ} {z : Sizes} {x : Step} {fine : Bool} (R : StepRead c d k z x fine) (S : Standing) (first : ℕ → ℕ) where
-  pub read-unranged : fine ≡ false → refused 16 (k + 1) ≡ tried (problemOf c first) S (readStep d k) (suc k)
-  read-unranged e = step-unranged (problemOf c first) S _ k x (R .known) (sym (R .tested first) ∙ e)
+    -- what the code asks is the rule of the step
+    rule-is : (S : Standing) → ruleIn (z .p) (z .n) c table S x ≡ ruleOf (problemOf c first) S x
+    unfolding ruleIn ruleOf
+    rule-is S = rw (Z .is-p, Z .is-n, equation-is (namesOf (x .kind)) (x .constraint) (fields .constraint))
 
-  module _ (table : List ℕ) (O : Offsets c (z .m) table) (in-range : fine ≡ true) (b : Bool) (told : b ≡ ruleIn (z .p) (z .n) c table S x .met) where
-    rule-same : ruleIn (z .p) (z .n) c table S x ≡ ruleOf (problemOf c first) S x
-    rule-same = rule-is c z (R .sized) table O first S x (sym (R .tested first) ∙ in-range)
+    step-asked : {ends rows : List ℕ} → Ready (x .kind) (x .constraint) c z table ends rows
+        → Asked (x .kind) (z .p) (z .n) (partNamed (namesOf (x .kind)) c table (x .constraint)) (rowOf table ends rows (x .constraint)) (x .target)
+        (x .reference)
+    step-asked R =
+        record {
+          prime = rw (Z .is-p) (Z .formed .prime);
+          few = omega (arith, Z .formed .n-most, Z .is-n);
+          least = within-least _ _ (fields .target);
+          most = omega (arith, within-most _ _ (fields .target), Z .is-n);
+          reference = λ e.
+              let r : within (circuitOf c .n) (x .reference) ≡ true = rw e at (fields .reference) in
+              (within-least _ _ r, omega (arith, within-most _ _ r, Z .is-n));
+          by-row = λ e.
+              rw (Z .is-p, Z .is-n, equation-is (namesOf (x .kind)) (x .constraint) (fields .constraint), reduces-names (x .kind) e) (R .row e);
+        }
 
-    met-same : b ≡ met (problemOf c first) S x
-    unfolding met
-    met-same = told ∙ ap (λ (r : Rule). r .met) rule-same
+-- no row is made yet
+pub none-made : {c : List ℕ} {z : Sizes} {table ends rows : List ℕ} → Sized c z → Offsets c (z .m) table → length ends ≡ 513
+    → ((k : ℕ) → k < 513 → getD ends k 0 ≡ 0) → 2 * (length c / 6 + z .m + 1) ≤ length rows → Kept c z table ends rows
+unfolding at
+none-made {z = z} Z O long zeros room =
+    let few : z .m ≤ 512 = omega (arith, Z .formed .m-most, Z .is-m) in
+    record {
+      sized = Z;
+      offsets = O;
+      roomy = record { ends-room = omega arith; rows-room = room };
+      made = record { each = λ k l h. inl (zeros k (omega (arith, h, Z .is-m))) };
+    }
 
-    pub read-unmet : b ≡ false → refused 17 (k + 1) ≡ tried (problemOf c first) S (readStep d k) (suc k)
-    read-unmet e = step-unmet (problemOf c first) S _ k x (R .known) (sym (R .tested first) ∙ in-range) (sym met-same ∙ e)
+-- a row that is asked for is made, or was
+pub row-ready : {q : Kind} {k : ℕ} {c : List ℕ} {z : Sizes} {table ends rows ends′ rows′ : List ℕ} → Kept c z table ends rows
+    → length ends′ ≡ length ends → length rows′ ≡ length rows → (1 ≤ k) × (k ≤ z .m)
+    → RowMade (circuitOf c) table k ends rows ends′ rows′ → Ready q k c z table ends′ rows′
+row-ready {k = k} K e f h M =
+    record {
+      kept =
+          record {
+            sized = K .sized;
+            offsets = K .offsets;
+            roomy = record { ends-room = omega (arith, K .roomy .ends-room); rows-room = omega (arith, K .roomy .rows-room) };
+            made = M .all;
+          };
+      row = λ _. ⊎-elim (λ z. absurd (M .made z)) (λ r. r) (M .all .each k (h .0) (omega (arith, h .1, K .sized .is-m)));
+    }
 
-    pub read-taken : b ≡ true → (S′ : Standing)
-        → S′ ≡ cond (ruleIn (z .p) (z .n) c table S x .met) (apply (ruleIn (z .p) (z .n) c table S x .change) S (x .target)) S
-        → given S′ ≡ tried (problemOf c first) S (readStep d k) (suc k)
-    unfolding after change
-    read-taken e S′ is =
-        step-taken (problemOf c first) S _ k x (R .known) (sym (R .tested first) ∙ in-range) S′ (sym met-same ∙ e) (is ∙ rw (← told, e, rule-same))
+pub row-idle : {q : Kind} {k : ℕ} {c : List ℕ} {z : Sizes} {table ends rows : List ℕ} → Kept c z table ends rows → reduces q ≡ false
+    → Ready q k c z table ends rows
+row-idle {q = q} K e = record { kept = K; row = λ h. true-or-false (reduces q) h e }
+
+-- The turns of the loop
+
+-- before step k: the whole walk from S₀ is what is left of it from S
+pub record Walking (c d table : List ℕ) (z : Sizes) (ends rows : List ℕ) (S₀ : Standing) (count k : ℕ) (S : Standing) : Type 0 where
+  pub kept : Kept c z table ends rows
+  pub most : k ≤ count
+  pub left : (first : ℕ → ℕ) → walkFrom (problemOf c first) d 0 (u16At d 5) S₀ ≡ walkFrom (problemOf c first) d k (count - k) S
+
+pub walk-starts : {c d table ends rows : List ℕ} {z : Sizes} {S : Standing} {count : ℕ} → Kept c z table ends rows → count ≡ u16At d 5
+    → Walking c d table z ends rows S count 0 S
+walk-starts {d = d} {count = count} K e = let all : count - 0 ≡ u16At d 5 = omega (arith, e) in record { kept = K; most = omega arith; left = λ first. rw all }
+
+module _ {c d table : List ℕ} {z : Sizes} {ends rows : List ℕ} {S₀ : Standing} {count k : ℕ} {S : Standing}
+    (W : Walking c d table z ends rows S₀ count k S) where
+  pub walk-ended : count ≤ k → (first : ℕ → ℕ) → given S ≡ walkFrom (problemOf c first) d 0 (u16At d 5) S₀
+  unfolding walkFrom
+  walk-ended h first = sym (W .left first ∙ (let z : count - k ≡ 0 = omega arith in rw z))
+
+  module _ (some-left : k < count) where
+    turn : (first : ℕ → ℕ) → walkFrom (problemOf c first) d 0 (u16At d 5) S₀
+        ≡ andThen (tried (problemOf c first) S (readStep d k) (suc k)) (walkFrom (problemOf c first) d (k + 1) (count - (k + 1)))
+    unfolding walkFrom
+    turn first = W .left first ∙ (let z : count - k ≡ suc (count - (k + 1)) = omega arith in rw (z, add-one k))
+
+    module _ (r : StepRead) (R : (P : Problem) → P .n ≡ z .n → P .m ≡ z .m → Reads P d k r) where
+      reads : {r′ : StepRead} → r ≡ r′ → (first : ℕ → ℕ) → Reads (problemOf c first) d k r′
+      reads e first = rw e at (R (problemOf c first) (sym (W .kept .sized .is-n)) (sym (W .kept .sized .is-m)))
+
+      pub walk-refused : {number : ℕ} → r ≡ Refused number → (first : ℕ → ℕ) → refused number (k + 1) ≡ walkFrom (problemOf c first) d 0 (u16At d 5) S₀
+      walk-refused e first = sym (turn first ∙ rw (reads e first S, add-one k))
+
+      module _ {x : code.Step} (e : r ≡ Fine x) where
+        -- the row of the step is made ..
+        pub walk-named : reduces (stepIn x .kind) ≡ true → (1 ≤ x .constraint) × (x .constraint ≤ z .m)
+        walk-named = row-named (W .kept .sized) (W .kept .offsets) _ (stepIn x) (reads e (λ s. 0) .1)
+
+        module _ {ends′ rows′ : List ℕ} (M : Ready (stepIn x .kind) (x .constraint) c z table ends′ rows′) where
+          pub walk-asked :
+              Asked (stepIn x .kind) (z .p) (z .n) (partNamed (namesOf (stepIn x .kind)) c table (x .constraint)) (rowOf table ends′ rows′ (x .constraint))
+              (x .target) (x .reference)
+          walk-asked = step-asked (W .kept .sized) (W .kept .offsets) _ (stepIn x) (reads e (λ s. 0) .1) M
+
+          -- .. and its rule is asked, with the answer b
+          module _ {b : Bool} (told : b ≡ ruleIn (z .p) (z .n) c table S (stepIn x) .met) where
+            rule-same : (first : ℕ → ℕ) → ruleIn (z .p) (z .n) c table S (stepIn x) ≡ ruleOf (problemOf c first) S (stepIn x)
+            rule-same first = rule-is (W .kept .sized) (W .kept .offsets) first (stepIn x) (reads e first .1) S
+
+            tried-is : (first : ℕ → ℕ) → tried (problemOf c first) S (readStep d k) (suc k) ≡ ask b 17 (suc k) (given (after (problemOf c first) S (stepIn x)))
+            unfolding met
+            tried-is first = rw (reads e first .0, reads e first .1, told, rule-same first)
+
+            pub walk-unmet : b ≡ false → (first : ℕ → ℕ) → refused 17 (k + 1) ≡ walkFrom (problemOf c first) d 0 (u16At d 5) S₀
+            walk-unmet h first = sym (turn first ∙ rw (tried-is first, h, add-one k))
+
+            pub walk-on : b ≡ true → {S′ : Standing}
+                → S′ ≡ cond (ruleIn (z .p) (z .n) c table S (stepIn x) .met) (apply (ruleIn (z .p) (z .n) c table S (stepIn x) .change) S (x .target)) S
+                → Walking c d table z ends′ rows′ S₀ count (k + 1) S′
+            unfolding after change
+            walk-on h is =
+                record {
+                  kept = M .kept;
+                  most = omega arith;
+                  left = λ first. turn first ∙ rw (tried-is first, h) (rw (is, ← told, h, rule-same first));
+                }

@@ -1,14 +1,15 @@
 -- Bytes written one after the other: runs of stores, and the steps of a derivation among them.
-use Prim.Native.Nat.{ℕ, suc, _+_, _*_, _≤_}
+use Prim.Native.Nat.{ℕ, suc, _+_, _*_, _≤_, _<_}
 use mathlib.Core.Path.{_≡_, refl, sym, ap, _∙_}
 use mathlib.Core.List.{List, [], _∷_, _++_, append-assoc, append-nil}
 use native.Mathlib.Nat.{add-zero}
+use native.Mathlib.Numerals.{add-one}
 use native.Mathlib.Omega.{arith}
-use lib.ListN.{length, set, take, drop}
-use lib.Seq.{sets, length-sets, sets-eq, drop-at, length-take-le}
+use lib.ListN.{length, set, take, drop, getD}
+use lib.Seq.{sets, length-sets, sets-eq, drop-at, length-take-le, take-all, take-suc}
 use Rattle.laws.specs.Step.{Step}
 use Rattle.derivation.specs.Steps.{headSize, stepSize}
-use Rattle.derivation.specs.Encoded.{low, high, headerBytes, stepBytes, stepsBytes, encoded, stored}
+use Rattle.derivation.specs.Encoded.{headerBytes, stepBytes, stepsBytes, encoded, stored}
 use Rattle.derivation.proofs.Encoding.{bytes-length}
 
 sets-append : {A : Type 0} (l : List A) (i : ℕ) (xs ys : List A) → sets l i (xs ++ ys) ≡ sets (sets l i xs) (i + length xs) ys
@@ -33,7 +34,7 @@ unfolding stored
 nothing-stored out at = refl
 
 -- bytes stored after those before them
-pub stored-append : (out₀ out : List ℕ) (at : ℕ) (xs ys : List ℕ) → out ≡ stored out₀ at xs → stored out (at + length xs) ys ≡ stored out₀ at (xs ++ ys)
+stored-append : (out₀ out : List ℕ) (at : ℕ) (xs ys : List ℕ) → out ≡ stored out₀ at xs → stored out (at + length xs) ys ≡ stored out₀ at (xs ++ ys)
 unfolding stored
 stored-append out₀ out at xs ys e = ap (λ (o : List ℕ). sets o (at + length xs) ys) e ∙ sym (sets-append out₀ at xs ys)
 
@@ -66,20 +67,14 @@ header-written out₀ out xs e h =
     ∙ drop-at (take 7 out₀) (stepsBytes xs ++ drop (7 + length (stepsBytes xs)) out₀) 7 (length-take-le 7 out₀ (omega arith))
     ∙ ap (λ (k : ℕ). stepsBytes xs ++ drop (7 + k) out₀) (bytes-length xs))
 
--- The code's stores
+-- one byte more
+pub byte-more : (out₀ out : List ℕ) (at : ℕ) (bs : List ℕ) (j : ℕ) → j < length bs → out ≡ stored out₀ at (take j bs)
+    → set out (at + j) (getD bs j 0) ≡ stored out₀ at (take (j + 1) bs)
+unfolding stored
+byte-more out₀ out at bs j h e =
+    ap (λ (k : ℕ). set out (at + k) (getD bs j 0)) (sym (length-take-le j bs (omega arith)))
+    ∙ stored-append out₀ out at (take j bs) (getD bs j 0 ∷ []) e
+    ∙ ap (stored out₀ at) (sym (take-suc bs j 0 h) ∙ ap (λ (k : ℕ). take k bs) (sym (add-one j)))
 
--- a byte, and numbers of two bytes after it
-module _ (out : List ℕ) (at : ℕ) where
-  pub two-stored : (x : ℕ) → set (set out at (low x)) (at + 1) (high x) ≡ stored out at (low x ∷ high x ∷ [])
-  unfolding stored
-  two-stored x = let next : at + 1 ≡ suc at = omega arith in rw next
-
-  pub step-stored : (k a b c d e f : ℕ)
-      → stored (stored (stored (set out at k) (at + 1) (a ∷ b ∷ [])) (at + 3) (c ∷ d ∷ [])) (at + 5) (e ∷ f ∷ [])
-      ≡ stored out at (k ∷ a ∷ b ∷ c ∷ d ∷ e ∷ f ∷ [])
-  unfolding stored
-  step-stored k a b c d e f =
-      let at1 : at + 1 ≡ suc at = omega arith in
-      let at3 : at + 3 ≡ suc (suc (suc at)) = omega arith in
-      let at5 : at + 5 ≡ suc (suc (suc (suc (suc at)))) = omega arith in
-      rw (at1, at3, at5)
+pub all-stored : (out₀ out : List ℕ) (at : ℕ) (bs : List ℕ) (j : ℕ) → length bs ≤ j → out ≡ stored out₀ at (take j bs) → out ≡ stored out₀ at bs
+all-stored out₀ out at bs j h e = e ∙ ap (stored out₀ at) (take-all j bs h)

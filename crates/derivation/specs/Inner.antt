@@ -1,29 +1,35 @@
 -- How the functions inside the call run: what they promise one another, not what the call means.
-use Prim.Native.Nat.{ℕ}
+use Prim.Native.Nat.{ℕ, suc}
 use mathlib.Core.Path.{_≡_}
+use mathlib.Core.Bool.{true}
 use mathlib.Core.List.{List, []}
 use mathlib.Core.Option.{Option, none, some}
 use lib.ListN.{length}
 use Rattle.circuit.specs.Answer.{Answer, refused}
-use Rattle.circuit.specs.Call.{circuitOf}
-use Rattle.circuit.specs.Offsets.{partOf}
+use Rattle.circuit.specs.Bytes.{u16At}
+use Rattle.circuit.specs.Circuit.{constraintAt}
+use Rattle.circuit.specs.Call.{circuitOf, Sized}
+use Rattle.circuit.specs.declared.reader.Sizes.{Sizes}
+use Rattle.circuit.specs.Offsets.{Offsets, partOf}
 use Rattle.laws.specs.Problem as laws
 use Rattle.laws.specs.Problem.{Problem}
 use Rattle.laws.specs.Standing as standing
 use Rattle.laws.specs.Step as step
-use Rattle.rules.specs.Promise.{subjectIn, kindOf}
+use Rattle.rules.specs.Promise.{subjectIn, kindOf, reduces}
+use Rattle.rules.specs.Rows.{Row, Rows, Roomy, rowOf}
+use Rattle.rules.specs.declared.standing.Kind.{Kind}
+use Rattle.derivation.specs.Steps.{readStep, tried, walkFrom}
 use Rattle.derivation.specs.Call.{Judgement, derivationCall, derivationMarks}
 use Rattle.derivation.specs.declared.kinds.KindByte.{KindByte}
 use Rattle.derivation.specs.declared.kinds.KindByte.the-variants.{Known, Unknown}
 use Rattle.derivation.specs.declared.kinds.Names.{Names}
 use Rattle.derivation.specs.declared.kinds.Names.the-variants.{Nothing, AConstraint}
-use Rattle.derivation.specs.declared.kinds.Range.{Range}
-use Rattle.derivation.specs.declared.kinds.Range.the-variants.{OnlyZero, FromOne}
-use Rattle.derivation.specs.declared.step.Step.{Step}
-use Rattle.derivation.specs.declared.step.StepBytes.{StepBytes}
-use Rattle.derivation.specs.declared.step.StepBytes.the-variants as bytes
-use Rattle.derivation.specs.declared.step.Way.{Way}
-use Rattle.derivation.specs.declared.step.Way.the-variants.{On, Stopped}
+use Rattle.derivation.specs.declared.kinds.Entry.{Entry}
+use Rattle.derivation.specs.declared.kinds.Step.{Step}
+use Rattle.derivation.specs.declared.step.StepRead.{StepRead}
+use Rattle.derivation.specs.declared.step.StepRead.the-variants.{Fine, Refused}
+use Rattle.derivation.specs.declared.call.Way.{Way}
+use Rattle.derivation.specs.declared.call.Way.the-variants.{On, Stopped}
 
 -- the circuit with any first bounds: no step looks at them but through the standing
 abbrev pub problemOf : List ℕ → (ℕ → ℕ) → Problem
@@ -39,21 +45,28 @@ abbrev pub namesIn : Names → laws.Names
 namesIn Nothing = laws.nothing
 namesIn AConstraint = laws.aConstraint
 
-abbrev pub rangeIn : Range → step.Range
-rangeIn OnlyZero = step.only-zero
-rangeIn (FromOne most) = step.from-one most
+-- a kind's row of the table
+pub record EntryOf (kind : Kind) (e : Entry) : Type 0 where
+  pub number : e .number ≡ step.kindNumber (kindOf kind)
+  pub names : namesIn (e .names) ≡ step.namesOf (kindOf kind)
+  pub refers : e .refers ≡ step.refers (kindOf kind)
 
 abbrev pub stepIn : Step → step.Step
 stepIn x = record { kind = kindOf (x .kind); target = x .target; constraint = x .constraint; reference = x .reference }
 
-abbrev pub stepFound : StepBytes → Option step.Step
-stepFound (bytes.Known x) = some (stepIn x)
-stepFound bytes.Unknown = none
+-- step k, counted from 0, is known and in range; or it is refused, whatever the standing is
+abbrev pub Reads : Problem → List ℕ → ℕ → StepRead → Type 0
+Reads P d k (Fine x) = (readStep d k ≡ some (stepIn x)) × (step.inRange P (stepIn x) ≡ true)
+Reads P d k (Refused number) = (S : standing.Standing) → tried P S (readStep d k) (suc k) ≡ refused number (suc k)
 
 -- go on with r, or stopped by a refusal
 abbrev pub byWay : {A : Type 0} → Way → Answer A → Answer A
 byWay On r = r
 byWay (Stopped number place) r = refused number place
+
+-- what the steps from the start lead to
+abbrev pub Walked : List ℕ → List ℕ → Answer standing.Standing → Type 0
+Walked c d w = w ≡ walkFrom (laws.problem (circuitOf c)) d 0 (u16At d 5) (standing.start (laws.problem (circuitOf c)))
 
 -- the call's answer, and what it leaves in the buffer that held `marks`
 pub record Answers (c d marks : List ℕ) (r : Answer Judgement) (left : List ℕ) : Type 0 where
@@ -69,3 +82,15 @@ partNamed laws.aConstraint c table k = partOf c table k
 unfoldable pub ruleIn : ℕ → ℕ → List ℕ → List ℕ → standing.Standing → step.Step → step.Rule
 ruleIn p n c table S x =
     step.rule (x .kind) (subjectIn p n (partNamed (step.namesOf (x .kind)) c table (x .constraint))) S (x .target) (x .reference)
+
+-- the rows of a circuit that have been made, in arrays with room for all of them
+pub record Kept (c : List ℕ) (z : Sizes) (table ends rows : List ℕ) : Type 0 where
+  pub sized : Sized c z
+  pub offsets : Offsets c (z .m) table
+  pub roomy : Roomy (length c) (z .m) ends rows
+  pub made : Rows (circuitOf c) table ends rows
+
+-- and row k is one of them, if a step of this kind looks at it
+pub record Ready (q : step.Kind) (k : ℕ) (c : List ℕ) (z : Sizes) (table ends rows : List ℕ) : Type 0 where
+  pub kept : Kept c z table ends rows
+  pub row : reduces q ≡ true → Row (circuitOf c .p) (circuitOf c .n) (constraintAt (circuitOf c) k) (rowOf table ends rows k)

@@ -4,9 +4,8 @@ use rules::standing::Kind;
 ghost use mathlib.Core.Path.{_≡_};
 ghost use Rattle.laws.specs.Problem.{Problem};
 ghost use Rattle.laws.specs.Step as laws;
-ghost use Rattle.rules.specs.Promise as promise;
 ghost use Rattle.derivation.specs.Steps.{kindOf};
-ghost use Rattle.derivation.specs.Inner.{kindFound, namesIn, rangeIn};
+ghost use Rattle.derivation.specs.Inner.{kindFound, namesIn, stepIn, EntryOf};
 
 // The kind byte of a step.
 pub(crate) enum KindByte {
@@ -20,121 +19,103 @@ pub(crate) enum Names {
     AConstraint,
 }
 
-// The values that a field may have: 0 alone, or 1 to a number.
-pub(crate) enum Range {
-    OnlyZero,
-    FromOne { most: u32 },
+// What the table says of a kind: its number, what the constraint field names, and whether the reference field names a signal.
+pub(crate) struct Entry {
+    pub number: u8,
+    pub names: Names,
+    pub refers: bool,
+}
+
+pub(crate) struct Step {
+    pub kind: Kind,
+    pub target: u32,
+    pub constraint: u32,
+    pub reference: u32,
 }
 
 pub(crate) fn kind_of(x: u32) -> KindByte
     ensures { λ r. ⌜ kindFound r ≡ kindOf x ⌝ }
 {
-    if x == 1 {
-        return KindByte::Known { kind: Kind::Root };
-    }
-    if x == 2 {
-        return KindByte::Known { kind: Kind::Sum };
-    }
-    if x == 3 {
-        return KindByte::Known { kind: Kind::Zero };
-    }
-    if x == 4 {
-        return KindByte::Known {
+    match x {
+        1 => KindByte::Known { kind: Kind::Root },
+        2 => KindByte::Known { kind: Kind::Sum },
+        3 => KindByte::Known { kind: Kind::Zero },
+        4 => KindByte::Known {
             kind: Kind::Product,
-        };
+        },
+        5 => KindByte::Known { kind: Kind::Digits },
+        _ => KindByte::Unknown,
     }
-    if x == 5 {
-        return KindByte::Known { kind: Kind::Digits };
-    }
-    KindByte::Unknown
 }
 
-pub(crate) fn kind_number(kind: Kind) -> u8
-    ensures { λ r. ⌜ r ≡ laws.kindNumber (promise.kindOf kind) ⌝ }
+pub(crate) fn entry_of(kind: Kind) -> Entry
+    ensures { λ r. ⌜ EntryOf kind r ⌝ }
 {
     match kind {
-        Kind::Root => 1,
-        Kind::Sum => 2,
-        Kind::Zero => 3,
-        Kind::Product => 4,
-        Kind::Digits => 5,
+        Kind::Root => Entry {
+            number: 1,
+            names: Names::AConstraint,
+            refers: false,
+        },
+        Kind::Sum => Entry {
+            number: 2,
+            names: Names::AConstraint,
+            refers: false,
+        },
+        Kind::Zero => Entry {
+            number: 3,
+            names: Names::Nothing,
+            refers: false,
+        },
+        Kind::Product => Entry {
+            number: 4,
+            names: Names::AConstraint,
+            refers: false,
+        },
+        Kind::Digits => Entry {
+            number: 5,
+            names: Names::AConstraint,
+            refers: true,
+        },
     }
-}
-
-pub(crate) fn names_of(kind: Kind) -> Names
-    ensures { λ r. ⌜ namesIn r ≡ laws.namesOf (promise.kindOf kind) ⌝ }
-{
-    match kind {
-        Kind::Root => Names::AConstraint,
-        Kind::Sum => Names::AConstraint,
-        Kind::Zero => Names::Nothing,
-        Kind::Product => Names::AConstraint,
-        Kind::Digits => Names::AConstraint,
-    }
-}
-
-// Whether the reference field names a signal.
-fn refers(kind: Kind) -> bool
-    ensures { λ r. ⌜ r ≡ laws.refers (promise.kindOf kind) ⌝ }
-{
-    match kind {
-        Kind::Root => false,
-        Kind::Sum => false,
-        Kind::Zero => false,
-        Kind::Product => false,
-        Kind::Digits => true,
-    }
-}
-
-// The constraint field's range, for m constraints.
-fn named(names: Names, m: u32) -> Range
-    ensures { λ r. ⌜ ((P : Problem) → P .m ≡ m → rangeIn r ≡ laws.named (namesIn names) P) ⌝ }
-{
-    match names {
-        Names::Nothing => Range::OnlyZero,
-        Names::AConstraint => Range::FromOne { most: m },
-    }
-}
-
-// The reference field's range, for n signals.
-fn referred(refers: bool, n: u32) -> Range
-    ensures { λ r. ⌜ ((P : Problem) → P .n ≡ n → rangeIn r ≡ laws.referred refers P) ⌝ }
-{
-    if refers {
-        return Range::FromOne { most: n };
-    }
-    Range::OnlyZero
 }
 
 // Whether s is from 1 to n.
 fn within(n: u32, s: u32) -> bool
     ensures { λ r. ⌜ r ≡ laws.within n s ⌝ }
 {
-    if s < 1 {
-        return false;
-    }
-    s <= n
+    (1 <= s) & (s <= n)
 }
 
-fn inside(range: Range, x: u32) -> bool
-    ensures { λ r. ⌜ r ≡ laws.inside (rangeIn range) x ⌝ }
+// Whether the constraint field is in range, for m constraints.
+fn names_within(names: Names, m: u32, k: u32) -> bool
+    ensures { λ r. ⌜ ((P : Problem) → P .m ≡ m → r ≡ laws.inside (laws.named (namesIn names) P) k) ⌝ }
 {
-    match range {
-        Range::OnlyZero => x == 0,
-        Range::FromOne { most } => within(most, x),
+    match names {
+        Names::Nothing => k == 0,
+        Names::AConstraint => within(m, k),
     }
 }
 
-// Whether target, constraint and reference of a step of this kind are in range, for n signals and m constraints.
-pub(crate) fn in_range(kind: Kind, n: u32, m: u32, t: u32, k: u32, r: u32) -> bool
-    ensures { λ b. ⌜ ((P : Problem) → P .n ≡ n → P .m ≡ m
-        → b ≡ laws.inRange P (record { kind = promise.kindOf kind; target = t; constraint = k; reference = r })) ⌝ }
+// Whether the reference field is in range, for n signals.
+fn refers_within(refers: bool, n: u32, r: u32) -> bool
+    ensures { λ b. ⌜ ((P : Problem) → P .n ≡ n → b ≡ laws.inside (laws.referred refers P) r) ⌝ }
 {
-    if !within(n, t) {
-        return false;
+    if refers {
+        return within(n, r);
     }
-    if !inside(named(names_of(kind), m), k) {
-        return false;
-    }
-    inside(referred(refers(kind), n), r)
+    r == 0
+}
+
+// Whether target, constraint and reference of a step are in range, for n signals and m constraints.
+pub(crate) fn in_range(step: Step, n: u32, m: u32) -> bool
+    ensures { λ b. ⌜ ((P : Problem) → P .n ≡ n → P .m ≡ m → b ≡ laws.inRange P (stepIn step)) ⌝ }
+{
+    let kind = step.kind;
+    let entry = entry_of(kind);
+    let names = entry.names;
+    let target = within(n, step.target);
+    let constraint = names_within(names, m, step.constraint);
+    let reference = refers_within(entry.refers, n, step.reference);
+    target & (constraint & reference)
 }

@@ -47,14 +47,13 @@ pub fn verdict_of(marks: &[bool], i: u32, o: u32) -> Verdict
 {
     let inputs = i as usize;
     let outputs = o as usize;
+    let mut fixed = true;
     let mut j: usize = 0;
     while j < outputs {
-        if !mark_at(marks, inputs + j + 1) {
-            return Verdict::Open;
-        }
+        fixed = fixed & mark_at(marks, inputs + j + 1);
         j = j + 1;
     }
-    Verdict::Fixed
+    if fixed { Verdict::Fixed } else { Verdict::Open }
 }
 
 // What is answered and written of the standing after the last step.

@@ -1,12 +1,13 @@
 -- The search by target, kind, constraint and reference finds the first step in this order that adds by a sort of change, if there is one.
 use Prim.Native.Nat.{ℕ, zero, suc, _+_, _≤_, _<_}
-use mathlib.Core.Path.{_≡_, refl}
-use mathlib.Core.Bool.{Bool, true, false}
+use mathlib.Core.Path.{_≡_, refl, sym, ap, _∙_}
+use mathlib.Core.Bool.{Bool, true, false, cond}
 use mathlib.Core.List.{List, [], _∷_}
 use mathlib.Core.Option.{Option, none, some}
 use native.Mathlib.Omega.{arith}
 use native.Mathlib.Decide.{ℕ-discrete}
-use borrow.Author.Tests.{le-ltb, eqb-true}
+use lib.Dec.{eqb}
+use borrow.Author.Tests.{ltb-false, le-ltb, eqb-true}
 use Rattle.laws.specs.Problem.{Problem}
 use Rattle.laws.specs.Standing.{Standing, Change}
 use Rattle.laws.specs.Step.{
@@ -31,9 +32,9 @@ use Rattle.laws.specs.Step.{
   change,
   adds,
 }
-use Rattle.laws.specs.Solver.{step, addsBy, earlier, pick, firstUp, firstIn, try, tryReferences, tryKind, tryKinds, firstAdding}
-use Rattle.laws.proofs.Sum.{and-left, and-right, false-by}
-use Rattle.laws.proofs.Best.{first-by-holds}
+use Rattle.laws.specs.Solver.{step, addsBy, firstBy, earlier, pick, firstUp, firstIn, try, tryReferences, tryKind, tryKinds, firstAdding}
+use Rattle.laws.proofs.Sum.{and-left, and-right, true-or-false, false-by}
+use Rattle.laws.proofs.Best.{first-by-says, first-by-holds}
 use Rattle.laws.proofs.Turns.{within-says, adds-says, adds-target}
 
 -- The order: y isn't earlier than a step that is before it by one key and equal by those above
@@ -59,6 +60,39 @@ unfolding earlier
 by-reference q t k r r′ l =
     first-by-holds _ _ _ (omega arith)
     (λ e. first-by-holds _ _ _ (omega arith) (λ e. first-by-holds _ _ _ (omega arith) (λ e. le-ltb r′ r l)))
+
+-- the kind with a number
+numbered : ℕ → Kind
+numbered x = cond (eqb x 1) Root (cond (eqb x 2) Sum (cond (eqb x 3) Zero (cond (eqb x 4) Product Digits)))
+
+numbered-is : (q : Kind) → numbered (kindNumber q) ≡ q
+unfolding numbered
+numbered-is Root = refl
+numbered-is Sum = refl
+numbered-is Zero = refl
+numbered-is Product = refl
+numbered-is Digits = refl
+
+first-by-neither : (a b : ℕ) {r r′ : Bool} → firstBy a b r ≡ false → firstBy b a r′ ≡ false → (a ≡ b) × (r ≡ false) × (r′ ≡ false)
+first-by-neither a b {r} {r′} e f =
+    let x = first-by-says a b r e in
+    let y = first-by-says b a r′ f in
+    let same : a ≡ b = omega arith in
+    (same, x .1 same, y .1 (sym same))
+
+-- two steps neither of which is earlier are the same
+neither : (x y : Step) → earlier x y ≡ false → earlier y x ≡ false → x ≡ y
+unfolding earlier
+neither x y e f =
+    let a = first-by-neither (x .target) (y .target) e f in
+    let b = first-by-neither (kindNumber (x .kind)) (kindNumber (y .kind)) (a .1) (a .2) in
+    let d = first-by-neither (x .constraint) (y .constraint) (b .1) (b .2) in
+    let last : x .reference ≡ y .reference
+    = omega (arith, ltb-false (x .reference) (y .reference) (d .1), ltb-false (y .reference) (x .reference) (d .2)) in
+    ap (λ (t : ℕ). step (x .kind) t (x .constraint) (x .reference)) (a .0)
+    ∙ ap (λ (q : Kind). step q (y .target) (x .constraint) (x .reference)) (sym (numbered-is (x .kind)) ∙ ap numbered (b .0) ∙ numbered-is (y .kind))
+    ∙ ap (λ (k : ℕ). step (y .kind) (y .target) k (x .reference)) (d .0)
+    ∙ ap (λ (r : ℕ). step (y .kind) (y .target) (y .constraint) r) last
 
 -- Searches upward
 
@@ -191,3 +225,19 @@ module _ (c : Change → Bool) (P : Problem) (S : Standing) where
   -- what was found is the first: no step that adds is earlier
   pub first-least : (x : Step) → firstAdding c P S ≡ some x → (y : Step) → addsBy c P S y ≡ true → earlier y x ≡ false
   first-least x e y a = rw e at (first-covers y a)
+
+  -- a step that adds, where no step that adds is earlier, is found
+  pub first-is : (x : Step) → addsBy c P S x ≡ true → ((y : Step) → addsBy c P S y ≡ true → earlier y x ≡ false) → firstAdding c P S ≡ some x
+  first-is x a h = go (firstAdding c P S) refl
+    where
+      go : (o : Option Step) → firstAdding c P S ≡ o → firstAdding c P S ≡ some x
+      go none e = true-or-false _ a (first-none e x)
+      go (some y) e = e ∙ ap (λ (z : Step). some z) (neither y x (h y (first-some y e)) (first-least y e x a))
+
+  -- where no step adds, nothing is found
+  pub first-not : ((y : Step) → addsBy c P S y ≡ true → ⊥) → firstAdding c P S ≡ none
+  first-not h = go (firstAdding c P S) refl
+    where
+      go : (o : Option Step) → firstAdding c P S ≡ o → firstAdding c P S ≡ none
+      go none e = e
+      go (some y) e = absurd (h y (first-some y e))

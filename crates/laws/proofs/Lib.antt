@@ -18,5 +18,4 @@ pub mod First
 pub mod Marks
 pub mod Solution
 pub mod Maximum
-pub mod Search
 pub mod Candidate

@@ -1,28 +1,28 @@
--- The digits test by gathered weights: what each loop of the code has shown, and that the gathered test is the rule's.
-use Prim.Native.Nat.{ℕ, zero, suc, _+_, _-_, _*_, _≤_, _<_, min}
+-- The digits test by gathered weights, over any indices: what each loop of the code has shown, and that the test is the rule's.
+use Prim.Native.Nat.{ℕ, suc, _+_, _*_, _≤_, _<_}
 use mathlib.Core.Path.{_≡_, refl, sym, ap, _∙_}
-use mathlib.Core.Logic.{⊎-elim}
 use mathlib.Core.Bool.{Bool, true, false, not, _&&_}
 use mathlib.Core.List.{List}
-use native.Mathlib.Nat.{mod-lt}
+use native.Mathlib.Nat.{mul-zero, mul-le-mul-right, pos-of-ne-zero}
 use native.Mathlib.Numerals.{add-one}
-use native.Mathlib.Decide.{decLe}
 use native.Mathlib.Omega.{arith}
 use lib.Dec.{ltb, eqb}
 use lib.ListN.{length, set}
-use lib.Seq.{getD-set-same, getD-set-other}
+use borrow.Author.Count.{below-more}
 use borrow.Author.Tests.{ne-eqb, eqb-false, lt-ltb, le-ltb, ltb-true, ltb-false, not-true}
 use Rattle.field.specs.Inverse.{inverse}
 use Rattle.laws.specs.Sum.{sum, all, keep, implies}
 use Rattle.laws.specs.Rules.{weight, live, differs, smallerTerm, smallerSum, separate, liveTerm, separated}
-use Rattle.laws.proofs.Sum.{and-left, and-right, and-both, by-test, true-or-false, false-by, implies-elim, implies-intro, keep-true, keep-false}
-use Rattle.laws.proofs.Sum.{keep-le, all-at, all-from, sum-cong, sum-mono, sum-last}
+use Rattle.laws.proofs.Sum.{and-left, and-right, and-both, by-test, true-or-false, true-by, false-by, implies-elim, implies-intro, keep-true, keep-false}
+use Rattle.laws.proofs.Sum.{and-true, keep-le, keep-mono, keep-zero, all-at, all-from, sum-cong, sum-mono}
 use Rattle.rules.specs.View.{coefIn}
-use Rattle.rules.specs.Weights.{scaled, Differ, Last, positive, smaller, smallerAt, exceeds}
-use Rattle.rules.proofs.SumLaws.{sum-grows, sum-short}
-use Rattle.rules.proofs.Ranks.{and-false, all-last, rank, rank-zero, rank-passed, rank-failed, rank-below, rank-grows, sum-rank}
+use Rattle.rules.specs.Rows.{rank}
+use Rattle.rules.specs.Weights.{scaled, positive, Gathered, smaller, smallerAt, exceeds}
+use Rattle.rules.proofs.SumLaws.{sum-grows, sum-on, sum-over}
+use Rattle.rules.proofs.Ranks.{all-last, rank-zero, rank-passed, rank-failed, rank-below, rank-grows, sum-rank}
+use Rattle.rules.proofs.RowLaws.{rank-onto, rank-distinct}
 use Rattle.rules.proofs.Few.{few}
-use Rattle.rules.proofs.WeightLaws.{lt-or-last, live-past}
+use Rattle.rules.proofs.ViewLaws.{coef-set-same, coef-set-other}
 
 -- A bounded test, index by index
 
@@ -56,15 +56,9 @@ unfolding smaller
 smaller-no a x w h = sym (keep-false _ _ (le-ltb a w h))
 
 module _ (W X : ℕ → ℕ) (w : ℕ) where
-  pub smaller-start : 0 ≡ sum 0 (smallerAt W X w)
-  unfolding sum
-  smaller-start = refl
-
   pub smaller-on : (j below y a x : ℕ) → below ≡ sum j (smallerAt W X w) → a ≡ W j → x ≡ X j → y ≡ smaller a x w → below + y ≡ sum (j + 1) (smallerAt W X w)
   unfolding smallerAt
-  smaller-on j below y a x e a-is x-is y-is =
-      let last : y ≡ smaller (W j) (X j) w = y-is ∙ rw (a-is, x-is) in
-      rw (add-one j) (omega (arith, sum-last j (smallerAt W X w)))
+  smaller-on j below y a x e a-is x-is y-is = sum-on (smallerAt W X w) j below y e (y-is ∙ rw (a-is, x-is))
 
   -- partial sums are at most the sum of all products
   pub smaller-room : (j count below y a x : ℕ) → j < count → below ≡ sum j (smallerAt W X w) → a ≡ W j → x ≡ X j → y ≡ smaller a x w → below + y ≤ sum count X
@@ -91,36 +85,38 @@ module _ (p : ℕ) (R : ℕ → ℕ) (m : ℕ → Bool) (k : ℕ) (W X : ℕ →
 
 -- The rule, by any weights
 
+-- weight times bound, added up over the indices that pass, and over those of them with a weight below x
+abbrev pub totalSum : ℕ → (ℕ → Bool) → (ℕ → ℕ) → (ℕ → ℕ) → ℕ
+totalSum n q w b = sum n (λ u. keep (q u) (w u * b u))
+
+abbrev pub lowSum : ℕ → (ℕ → Bool) → (ℕ → ℕ) → (ℕ → ℕ) → ℕ → ℕ
+lowSum n q w b x = sum n (λ u. keep (q u && ltb (w u) x) (w u * b u))
+
 -- as `separated`, over the test for unmarked signals and their weights
-separatedBy : ℕ → ℕ → (ℕ → Bool) → (ℕ → ℕ) → (ℕ → ℕ) → Bool
+pub separatedBy : ℕ → ℕ → (ℕ → Bool) → (ℕ → ℕ) → (ℕ → ℕ) → Bool
 separatedBy p n q w b =
     all n
-    (λ s.
-    implies (q s)
-    (all n (λ u. implies (q u && not (eqb s u)) (not (eqb (w s) (w u)))) && ltb (sum n (λ u. keep (q u && ltb (w u) (w s)) (w u * b u))) (w s)))
-    && ltb (sum n (λ u. keep (q u) (w u * b u))) p
+    (λ s. implies (q s) (all n (λ u. implies (q u && not (eqb s u)) (not (eqb (w s) (w u)))) && ltb (lowSum n q w b (w s)) (w s)))
+    && ltb (totalSum n q w b) p
 
-separated-by : (p n : ℕ) (R b : ℕ → ℕ) (m : ℕ → Bool) (r k : ℕ) → k ≡ inverse p (R r)
+pub separated-by : (p n : ℕ) (R b : ℕ → ℕ) (m : ℕ → Bool) (r k : ℕ) → k ≡ inverse p (R r)
     → separated p n R b m r ≡ separatedBy p (suc n) (live R m) (scaled p R k) b
 unfolding separated separate differs smallerSum smallerTerm liveTerm weight scaled separatedBy
 separated-by p n R b m r k e = rw e refl
 
-record Parts (p n : ℕ) (q : ℕ → Bool) (w b : ℕ → ℕ) : Type 0 where
-  differ : (s u : ℕ) → s < n → u < n → q s ≡ true → q u ≡ true → (s ≡ u → ⊥) → w s ≡ w u → ⊥
-  exceed : (s : ℕ) → s < n → q s ≡ true → sum n (λ u. keep (q u && ltb (w u) (w s)) (w u * b u)) < w s
-  total : sum n (λ u. keep (q u) (w u * b u)) < p
+pub record Parts (p n : ℕ) (q : ℕ → Bool) (w b : ℕ → ℕ) : Type 0 where
+  pub differ : (s u : ℕ) → s < n → u < n → q s ≡ true → q u ≡ true → (s ≡ u → ⊥) → w s ≡ w u → ⊥
+  pub exceed : (s : ℕ) → s < n → q s ≡ true → lowSum n q w b (w s) < w s
+  pub total : totalSum n q w b < p
 
 module _ (p n : ℕ) (q : ℕ → Bool) (w b : ℕ → ℕ) where
   abbrev unlike : ℕ → ℕ → Bool
   unlike s u = implies (q u && not (eqb s u)) (not (eqb (w s) (w u)))
 
-  abbrev lowSum : ℕ → ℕ
-  lowSum s = sum n (λ u. keep (q u && ltb (w u) (w s)) (w u * b u))
-
   abbrev apart : ℕ → Bool
-  apart s = implies (q s) (all n (unlike s) && ltb (lowSum s) (w s))
+  apart s = implies (q s) (all n (unlike s) && ltb (lowSum n q w b (w s)) (w s))
 
-  parts : separatedBy p n q w b ≡ true → Parts p n q w b
+  pub parts : separatedBy p n q w b ≡ true → Parts p n q w b
   unfolding separatedBy
   parts e =
       record {
@@ -133,7 +129,7 @@ module _ (p n : ℕ) (q : ℕ → Bool) (w b : ℕ → ℕ) where
         total = ltb-true _ p (and-right (all n apart) _ e);
       }
     where
-      one : (s : ℕ) → s < n → q s ≡ true → (all n (unlike s) && ltb (lowSum s) (w s)) ≡ true
+      one : (s : ℕ) → s < n → q s ≡ true → (all n (unlike s) && ltb (lowSum n q w b (w s)) (w s)) ≡ true
       one s l i = implies-elim (q s) _ (all-at n apart (and-left _ _ e) s l) i
 
   whole : Parts p n q w b → separatedBy p n q w b ≡ true
@@ -153,320 +149,232 @@ module _ (p n : ℕ) (q : ℕ → Bool) (w b : ℕ → ℕ) where
       (lt-ltb _ _ (P .exceed s l i)))))
       (lt-ltb _ p (P .total))
 
--- Only bounds above 0 add to a sum
+-- The rule over places
 
-abbrev some : (ℕ → Bool) → (ℕ → ℕ) → ℕ → Bool
-some q b u = q u && ltb 0 (b u)
+-- index s and place i have the same test, weight and bound
+pub record Alike (q q′ : ℕ → Bool) (w w′ b b′ : ℕ → ℕ) (s i : ℕ) : Type 0 where
+  pub test : q s ≡ q′ i
+  pub weight : w s ≡ w′ i
+  pub bound : b s ≡ b′ i
 
-keep-some : (a c : Bool) (w b : ℕ) → keep (a && c) (w * b) ≡ keep ((a && ltb 0 b) && c) (w * b)
-unfolding keep
-keep-some false c w b = refl
-keep-some true c w b =
-    by-test (ltb 0 b) (λ e. rw e refl) (λ e. rw e (let z : b ≡ 0 = omega (arith, ltb-false 0 b e) in rw z (nothing c)))
-  where
-    nothing : (d : Bool) → keep d (w * 0) ≡ 0
-    nothing true = omega arith
-    nothing false = refl
+-- the indices that stand have places by rank, and no other passes
+module _ (p n : ℕ) (on q q′ : ℕ → Bool) (w w′ b b′ : ℕ → ℕ)
+    (off : (s : ℕ) → s < n → on s ≡ false → q s ≡ false)
+    (alike : (s : ℕ) → s < n → on s ≡ true → Alike q q′ w w′ b b′ s (rank on s)) where
+  total-places : totalSum n q w b ≡ totalSum (rank on n) q′ w′ b′
+  total-places =
+      sum-rank on n _ _ (λ s l e. let A = alike s l e in rw (A .test, A .weight, A .bound)) (λ s l e. keep-false _ _ (off s l e))
 
-keep-all : (a : Bool) (w b : ℕ) → keep a (w * b) ≡ keep (a && ltb 0 b) (w * b)
-unfolding keep
-keep-all false w b = refl
-keep-all true w b = by-test (ltb 0 b) (λ e. rw e refl) (λ e. rw e (let z : b ≡ 0 = omega (arith, ltb-false 0 b e) in rw z (omega arith)))
+  low-places : (x : ℕ) → lowSum n q w b x ≡ lowSum (rank on n) q′ w′ b′ x
+  low-places x =
+      sum-rank on n _ _ (λ s l e. let A = alike s l e in rw (A .test, A .weight, A .bound)) (λ s l e. keep-false _ _ (rw (off s l e)))
+
+  stands-by : (s : ℕ) → s < n → q s ≡ true → on s ≡ true
+  stands-by s l e = true-by _ (λ g. true-or-false _ e (off s l g))
+
+  to-places : Parts p n q w b → Parts p (rank on n) q′ w′ b′
+  to-places P =
+      record {
+        differ = λ i j l h e g d same.
+            let S = rank-onto on n i l in
+            let U = rank-onto on n j h in
+            let A = rw (S .is) at (alike (S .index) (S .below) (S .passes)) in
+            let B = rw (U .is) at (alike (U .index) (U .below) (U .passes)) in
+            P .differ (S .index) (U .index) (S .below) (U .below) (A .test ∙ e) (B .test ∙ g)
+            (λ z. d (sym (S .is) ∙ ap (rank on) z ∙ U .is)) (A .weight ∙ same ∙ sym (B .weight));
+        exceed = λ i l e.
+            let S = rank-onto on n i l in
+            let A = rw (S .is) at (alike (S .index) (S .below) (S .passes)) in
+            rw (sym (low-places (w′ i)), sym (A .weight)) (P .exceed (S .index) (S .below) (A .test ∙ e));
+        total = rw total-places at (P .total);
+      }
+
+  from-places : Parts p (rank on n) q′ w′ b′ → Parts p n q w b
+  from-places P =
+      record {
+        differ = λ s u l h e g d same.
+            let i = stands-by s l e in
+            let j = stands-by u h g in
+            P .differ (rank on s) (rank on u) (rank-below on s n l i) (rank-below on u n h j) (sym (alike s l i .test) ∙ e) (sym (alike u h j .test) ∙ g)
+            (λ z. d (rank-distinct on s u i j z)) (sym (alike s l i .weight) ∙ same ∙ alike u h j .weight);
+        exceed = λ s l e.
+            let i = stands-by s l e in
+            rw (low-places (w s), alike s l i .weight) (P .exceed (rank on s) (rank-below on s n l i) (sym (alike s l i .test) ∙ e));
+        total = rw (sym total-places) at (P .total);
+      }
+
+  pub by-places : separatedBy p n q w b ≡ separatedBy p (rank on n) q′ w′ b′
+  by-places = both-ways _ _ (λ e. whole p _ q′ w′ b′ (to-places (parts p n q w b e))) (λ e. whole p n q w b (from-places (parts p _ q′ w′ b′ e)))
 
 -- Gathering
 
--- what a store leaves in a list, by index
-stored-same : (l : List ℕ) (i x : ℕ) → i < length l → coefIn (set l i x) i ≡ x
-unfolding coefIn
-stored-same l i x h = getD-set-same l i x 0 h
+pub positive-yes : (c : ℕ → ℕ) (s x : ℕ) → x ≡ c s → (x ≡ 0 → ⊥) → positive c s ≡ true
+unfolding positive
+positive-yes c s x x-is d = rw (sym x-is) (lt-ltb 0 x (pos-of-ne-zero d))
 
-stored-other : (l : List ℕ) (i j x : ℕ) → (j ≡ i → ⊥) → coefIn (set l i x) j ≡ coefIn l j
-unfolding coefIn
-stored-other l i j x d = getD-set-other l i j x 0 d
+pub positive-no : (c : ℕ → ℕ) (s x : ℕ) → x ≡ c s → x ≡ 0 → positive c s ≡ false
+unfolding positive
+positive-no c s x x-is z = rw (sym x-is ∙ z)
 
--- the gathered lists hold an index's weight and its weight times its bound, by rank
-pub record Held (q : ℕ → Bool) (w b : ℕ → ℕ) (weights products : List ℕ) (s : ℕ) : Type 0 where
-  pub weighs : coefIn weights (rank q s) ≡ w s
-  pub takes : coefIn products (rank q s) ≡ w s * b s
+module _ (q : ℕ → Bool) (f g : ℕ → ℕ) where
+  pub gathered-start : (xs ys : List ℕ) → Gathered q f g 0 xs ys 0
+  gathered-start xs ys = record { ranked = sym (rank-zero q); first = λ s l e. absurd (omega arith); second = λ s l e. absurd (omega arith) }
 
--- the indices below k that pass are gathered, and what they add is below p
-pub record Gathering (p : ℕ) (q : ℕ → Bool) (w b : ℕ → ℕ) (k : ℕ) (weights products : List ℕ) (count total : ℕ) : Type 0 where
-  pub ranked : count ≡ rank q k
-  pub below : total < p
-  pub totalled : total ≡ sum k (λ u. keep (q u) (w u * b u))
-  pub held : (s : ℕ) → s < k → q s ≡ true → Held q w b weights products s
-
-module _ (p : ℕ) (q : ℕ → Bool) (w b : ℕ → ℕ) where
-  abbrev term : ℕ → ℕ
-  term u = keep (q u) (w u * b u)
-
-  pub gather-start : (weights products : List ℕ) → 0 < p → Gathering p q w b 0 weights products 0 0
-  unfolding sum
-  gather-start weights products h =
-      record { ranked = sym (rank-zero q); below = h; totalled = refl; held = λ s l e. absurd (omega arith) }
-
-  module _ (k : ℕ) (weights products : List ℕ) (count total : ℕ) (G : Gathering p q w b k weights products count total) where
-    pub gather-skip : q k ≡ false → Gathering p q w b (k + 1) weights products count total
-    gather-skip e =
+  module _ (k : ℕ) (xs ys : List ℕ) (count : ℕ) (G : Gathered q f g k xs ys count) where
+    pub gathered-skip : q k ≡ false → Gathered q f g (k + 1) xs ys count
+    gathered-skip e =
         record {
           ranked = rw (add-one k) (G .ranked ∙ sym (rank-failed q k e));
-          below = G .below;
-          totalled = rw (add-one k) (omega (arith, G .totalled, sum-last k term, keep-false (q k) (w k * b k) e));
-          held = λ s l g. ⊎-elim (λ (i : s < k). G .held s i g) (λ (i : s ≡ k). true-or-false (q s) g (rw i e)) (lt-or-last s k l);
+          first = below-more _ k (G .first) (λ i. true-or-false _ i e);
+          second = below-more _ k (G .second) (λ i. true-or-false _ i e);
         }
 
-    module _ (e : q k ≡ true) (v c x : ℕ) (v-is : v ≡ w k) (c-is : c ≡ b k) (x-is : x ≡ v * c) where
-      pub gather-total : total + x ≡ sum (k + 1) term
-      gather-total =
-          let last : x ≡ w k * b k = x-is ∙ rw (v-is, c-is) in
-          rw (add-one k) (omega (arith, G .totalled, sum-last k term, keep-true (q k) (w k * b k) e))
+    pub gathered-on : q k ≡ true → (x y : ℕ) → x ≡ f k → y ≡ g k → count < length xs → count < length ys
+        → Gathered q f g (k + 1) (set xs count x) (set ys count y) (count + 1)
+    gathered-on e x y x-is y-is room-x room-y =
+        record {
+          ranked = rw (add-one k) (omega (arith, G .ranked, rank-passed q k e));
+          first = below-more _ k (λ s l i. coef-set-other xs count (rank q s) x (elsewhere s l i) ∙ G .first s l i)
+              (λ i. rw (sym (G .ranked)) (coef-set-same xs count x room-x ∙ x-is));
+          second = below-more _ k (λ s l i. coef-set-other ys count (rank q s) y (elsewhere s l i) ∙ G .second s l i)
+              (λ i. rw (sym (G .ranked)) (coef-set-same ys count y room-y ∙ y-is));
+        }
+      where
+        elsewhere : (s : ℕ) → s < k → q s ≡ true → rank q s ≡ count → ⊥
+        elsewhere s l i z = omega (arith, rank-below q s k l i, G .ranked)
 
-      pub gather-on : total + x < p → count < length weights → count < length products
-          → Gathering p q w b (k + 1) (set weights count v) (set products count x) (count + 1) (total + x)
-      gather-on h room-w room-x =
-          record {
-            ranked = rw (add-one k) (omega (arith, G .ranked, rank-passed q k e));
-            below = h;
-            totalled = gather-total;
-            held = λ s l g. ⊎-elim (λ (i : s < k). before s i g) (λ (i : s ≡ k). rw i last) (lt-or-last s k l);
-          }
-        where
-          at-count : rank q k ≡ count
-          at-count = sym (G .ranked)
+-- Weights and products of what was gathered
 
-          last : Held q w b (set weights count v) (set products count x) k
-          last =
-              record {
-                weighs = rw at-count (stored-same weights count v room-w ∙ v-is);
-                takes = rw at-count (stored-same products count x room-x ∙ x-is ∙ rw (v-is, c-is));
-              }
+unfoldable pub times : (ℕ → ℕ) → (ℕ → ℕ) → ℕ → ℕ
+times f g j = f j * g j
 
-          before : (s : ℕ) → s < k → q s ≡ true → Held q w b (set weights count v) (set products count x) s
-          before s l g =
-              record {
-                weighs = stored-other weights count (rank q s) v (elsewhere s l g) ∙ G .held s l g .weighs;
-                takes = stored-other products count (rank q s) x (elsewhere s l g) ∙ G .held s l g .takes;
-              }
-            where
-              elsewhere : (s : ℕ) → s < k → q s ≡ true → rank q s ≡ count → ⊥
-              elsewhere s l g i = omega (arith, rank-below q s k l g, G .ranked)
+pub record Weighed (p : ℕ) (W X : ℕ → ℕ) (j : ℕ) (weights products : List ℕ) (total : ℕ) : Type 0 where
+  pub weighs : (i : ℕ) → i < j → coefIn weights i ≡ W i
+  pub takes : (i : ℕ) → i < j → coefIn products i ≡ X i
+  pub totalled : total ≡ sum j X
+  pub below : total < p
 
-  -- the products add up to the total
-  pub gather-products : (k : ℕ) (weights products : List ℕ) (count total : ℕ) → Gathering p q w b k weights products count total
-      → sum count (coefIn products) < p
-  gather-products k weights products count total G =
-      omega (
-        arith,
-        G .below,
-        G .totalled,
-        sum-rank q k term (coefIn products) (λ u l e. keep-true _ _ e ∙ sym (G .held u l e .takes)) (λ u l e. keep-false _ _ e),
-        ap (λ (c : ℕ). sum c (coefIn products)) (G .ranked),
-      )
+module _ (p : ℕ) (W X : ℕ → ℕ) where
+  pub weighed-start : (weights products : List ℕ) → 0 < p → Weighed p W X 0 weights products 0
+  unfolding sum
+  weighed-start weights products h =
+      record { weighs = λ i l. absurd (omega arith); takes = λ i l. absurd (omega arith); totalled = refl; below = h }
+
+  module _ (j : ℕ) (weights products : List ℕ) (total : ℕ) (G : Weighed p W X j weights products total) where
+    pub weighed-on : (w x : ℕ) → w ≡ W j → x ≡ X j → total + x < p → j < length weights → j < length products
+        → Weighed p W X (j + 1) (set weights j w) (set products j x) (total + x)
+    weighed-on w x w-is x-is h room-w room-x =
+        record {
+          weighs = below-more _ j (λ i l. coef-set-other weights j i w (λ z. omega arith) ∙ G .weighs i l) (coef-set-same weights j w room-w ∙ w-is);
+          takes = below-more _ j (λ i l. coef-set-other products j i x (λ z. omega arith) ∙ G .takes i l) (coef-set-same products j x room-x ∙ x-is);
+          totalled = sum-on X j total x (G .totalled) x-is;
+          below = h;
+        }
+
+    pub weighed-products : sum j (coefIn products) < p
+    weighed-products = omega (arith, sum-cong j (coefIn products) X (G .takes), G .totalled, G .below)
+
+    weighed-smaller : (x : ℕ) → sum j (smallerAt (coefIn weights) (coefIn products) x) ≡ sum j (smallerAt W X x)
+    unfolding smallerAt
+    weighed-smaller x = sum-cong j _ _ (λ i l. rw (G .weighs i l, G .takes i l))
 
 -- The gathered test is the rule's
 
-module _ (p n end : ℕ) (q : ℕ → Bool) (w b : ℕ → ℕ) (low : end ≤ n) (past : (s : ℕ) → end ≤ s → s < n → q s ≡ false) where
-  abbrev positives : ℕ → Bool
-  positives = some q b
+module _ (p n : ℕ) (q : ℕ → Bool) (w b : ℕ → ℕ) where
+  abbrev bound : ℕ → ℕ
+  bound u = keep (q u) (b u)
 
-  abbrev product : ℕ → ℕ
-  product u = w u * b u
+  abbrev counts : ℕ → Bool
+  counts u = ltb 0 (bound u)
 
-  -- sums over all signals are sums over those with a bound above 0
-  total-some : sum n (λ u. keep (q u) (product u)) ≡ sum end (λ u. keep (positives u) (product u))
-  total-some =
-      sum-short end n _ low (λ s h l. keep-false _ _ (past s h l))
-      ∙ sum-cong end _ _ (λ u l. keep-all (q u) (w u) (b u))
+  counts-passes : (u : ℕ) → counts u ≡ true → q u ≡ true
+  counts-passes u e = true-by _ (λ g. absurd (omega (arith, ltb-true 0 (bound u) e, keep-false (q u) (b u) g)))
 
-  lower-some : (x : ℕ) → sum n (λ u. keep (q u && ltb (w u) x) (product u)) ≡ sum end (λ u. keep (positives u && ltb (w u) x) (product u))
-  lower-some x =
-      sum-short end n _ low (λ s h l. keep-false _ _ (rw (past s h l)))
-      ∙ sum-cong end _ _ (λ u l. keep-some (q u) (ltb (w u) x) (w u) (b u))
+  pub counts-bound : (u : ℕ) → counts u ≡ true → bound u ≡ b u
+  counts-bound u e = keep-true _ _ (counts-passes u e)
 
-  live-before : (s : ℕ) → s < n → q s ≡ true → s < end
-  live-before s l e = go (decLe (suc s) end)
-    where
-      go : Dec (suc s ≤ end) → s < end
-      go (yes h) = h
-      go (no h) = true-or-false _ e (past s (omega arith) l)
+  -- only bounds above 0 add to a sum
+  counts-none : (u : ℕ) (t : Bool) → counts u ≡ false → keep (q u && t) (w u * b u) ≡ 0
+  counts-none u t e =
+      by-test (q u) (λ g. let z : b u ≡ 0 = omega (arith, ltb-false 0 (bound u) e, keep-true (q u) (b u) g) in rw (z, mul-zero) (keep-zero _))
+      (λ g. keep-false _ _ (rw g))
 
-  -- the sum over all reaches p
-  some-over : (k total : ℕ) → k < end → total ≡ sum (k + 1) (λ u. keep (positives u) (product u)) → p ≤ total → separatedBy p n q w b ≡ false
-  some-over k total h e over =
-      false-by _
-      (λ i. absurd (omega (arith, parts p n q w b i .total, total-some, sum-grows (k + 1) end (λ u. keep (positives u) (product u)) (omega arith))))
+  counts-same : (u : ℕ) (t : Bool) → keep (q u && t) (w u * b u) ≡ keep (counts u && t) (w u * b u)
+  counts-same u t =
+      by-test (counts u) (λ e. ap (λ (a : Bool). keep (a && t) (w u * b u)) (counts-passes u e ∙ sym e))
+      (λ e. counts-none u t e ∙ sym (keep-false (counts u && t) _ (rw e)))
+
+  pub total-over : p ≤ totalSum n q w b → separatedBy p n q w b ≡ false
+  total-over h = false-by _ (λ e. absurd (omega (arith, parts p n q w b e .total)))
+
+  -- weights are at least 1
+  pub bounds-over : ((u : ℕ) → u < n → q u ≡ true → 1 ≤ w u) → p ≤ sum n bound → separatedBy p n q w b ≡ false
+  bounds-over some h =
+      total-over
+      (omega (
+        arith,
+        h,
+        sum-mono n bound (λ u. keep (q u) (w u * b u))
+            (λ u l. keep-mono (q u) (q u) (b u) (w u * b u) (λ e. e) (λ e. omega (arith, mul-le-mul-right (b u) (some u l e)))),
+      ))
 
   -- 32 have a bound above 0
-  some-many : (k : ℕ) → k ≤ end → p < 4294967296 → ((s : ℕ) → w s < p) → 32 ≤ rank positives k → separatedBy p n q w b ≡ false
-  some-many k h fits below many =
+  pub many-over : (k : ℕ) → k ≤ n → p < 4294967296 → ((s : ℕ) → w s < p) → 32 ≤ rank counts k → separatedBy p n q w b ≡ false
+  many-over k h fits below many =
       false-by _
       (λ i.
       let P = parts p n q w b i in
       absurd (omega (
         arith,
-        rank-grows positives k end h,
-        few end positives w
-            (λ s u l m e f d. P .differ s u (omega arith) (omega arith) (and-left (q s) _ e) (and-left (q u) _ f) d)
+        rank-grows counts k n h,
+        few n counts w
+            (λ s u l m e f. P .differ s u l m (counts-passes s e) (counts-passes u f))
             b
-            (λ s l e. rw (sym (lower-some (w s))) (P .exceed s (omega arith) (and-left (q s) _ e)))
-            (λ s e. ltb-true 0 (b s) (and-right (q s) _ e))
+            (λ s l e. rw (sym (sum-cong n _ _ (λ u a. counts-same u (ltb (w u) (w s))))) (P .exceed s l (counts-passes s e)))
+            (λ s e. omega (arith, ltb-true 0 (bound s) e, counts-bound s e))
             p
             fits
             below
-            (rw (sym total-some) (P .total)),
+            (rw (sym (sum-cong n _ _ (λ u a. all-same u))) (P .total)),
       )))
+    where
+      all-same : (u : ℕ) → keep (q u) (w u * b u) ≡ keep (counts u) (w u * b u)
+      all-same u = ap (λ (t : Bool). keep t (w u * b u)) (sym (and-true (q u))) ∙ counts-same u true ∙ ap (λ (t : Bool). keep t (w u * b u)) (and-true _)
 
-  module _ (weights products : List ℕ) (count total : ℕ) (G : Gathering p positives w b end weights products count total) where
-    lower-held : (x : ℕ) → sum n (λ u. keep (q u && ltb (w u) x) (product u)) ≡ sum count (smallerAt (coefIn weights) (coefIn products) x)
+  -- W and X hold weights and products by rank
+  module _ (W X : ℕ → ℕ) (weighs : (s : ℕ) → s < n → counts s ≡ true → W (rank counts s) ≡ w s)
+      (takes : (s : ℕ) → s < n → counts s ≡ true → X (rank counts s) ≡ w s * b s) where
+    total-held : totalSum n q w b ≡ sum (rank counts n) X
+    total-held =
+        sum-rank counts n _ X (λ u l e. keep-true _ _ (counts-passes u e) ∙ sym (takes u l e))
+        (λ u l e. ap (λ (t : Bool). keep t (w u * b u)) (sym (and-true (q u))) ∙ counts-none u true e)
+
+    low-held : (x : ℕ) → lowSum n q w b x ≡ sum (rank counts n) (smallerAt W X x)
     unfolding smallerAt smaller
-    lower-held x =
-        lower-some x
-        ∙ sum-rank positives end _ (smallerAt (coefIn weights) (coefIn products) x)
-        (λ u l e. rw (e, G .held u l e .weighs, G .held u l e .takes))
-        (λ u l e. keep-false _ _ (rw e))
-        ∙ ap (λ (c : ℕ). sum c (smallerAt (coefIn weights) (coefIn products) x)) (sym (G .ranked))
+    low-held x =
+        sum-rank counts n _ (smallerAt W X x) (λ u l e. rw (counts-passes u e, weighs u l e, takes u l e)) (λ u l e. counts-none u _ e)
 
-    abbrev outstanding : ℕ → Bool
-    outstanding s = implies (q s) (ltb (sum count (smallerAt (coefIn weights) (coefIn products) (w s))) (w s))
+    pub held-over : (j total x : ℕ) → j < rank counts n → total ≡ sum j X → x ≡ X j → p ≤ total + x → separatedBy p n q w b ≡ false
+    held-over j total x h e x-is over = total-over (rw total-held (sum-over X j (rank counts n) total x p e x-is h over))
 
-    some-end : ((s u : ℕ) → s < n → u < n → q s ≡ true → q u ≡ true → (s ≡ u → ⊥) → w s ≡ w u → ⊥)
-        → all end outstanding ≡ separatedBy p n q w b
-    some-end differ =
-        both-ways _ _
-        (λ e.
-        whole p n q w b
-        (record {
-          differ = differ;
-          exceed = λ s l i. rw (lower-held (w s)) (ltb-true _ _ (implies-elim (q s) _ (all-at end outstanding e s (live-before s l i)) i));
-          total = rw total-some (omega (arith, G .below, G .totalled));
-        }))
-        (λ e.
-        all-from end outstanding
-        (λ s l.
-        implies-intro (q s) _
-        (λ i.
-        lt-ltb (sum count (smallerAt (coefIn weights) (coefIn products) (w s))) (w s)
-        (rw (sym (lower-held (w s))) (parts p n q w b e .exceed s (omega arith) i)))))
+    module _ (weights products : List ℕ) (total : ℕ) (G : Weighed p W X (rank counts n) weights products total) where
+      abbrev outstanding : ℕ → Bool
+      outstanding s = implies (q s) (ltb (sum (rank counts n) (smallerAt (coefIn weights) (coefIn products) (w s))) (w s))
 
--- What the code has shown where it ends
+      low-here : (x : ℕ) → lowSum n q w b x ≡ sum (rank counts n) (smallerAt (coefIn weights) (coefIn products) x)
+      low-here x = low-held x ∙ sym (weighed-smaller p W X _ weights products total G x)
 
-pub separated-none : (p n : ℕ) (R B : ℕ → ℕ) (M : ℕ → Bool) (r : ℕ) → p ≡ 0 → false ≡ separated p n R B M r
-unfolding separated
-separated-none p n R B M r e =
-    sym
-    (ap (λ (b : Bool). all (suc n) (separate p n R B M r) && b) (le-ltb (sum (suc n) (liveTerm p R B M r)) p (omega arith))
-    ∙ and-false (all (suc n) (separate p n R B M r)))
-
-pub scaled-below : (p : ℕ) (R : ℕ → ℕ) (k s : ℕ) → 0 < p → scaled p R k s < p
-unfolding scaled
-scaled-below p R k s h = mod-lt _ h
-
-pub positive-dead : (R b : ℕ → ℕ) (m : ℕ → Bool) (s : ℕ) → live R m s ≡ false → false ≡ positive R b m s
-unfolding positive
-positive-dead R b m s e = sym (rw e)
-
-pub positive-live : (R b : ℕ → ℕ) (m : ℕ → Bool) (s x : ℕ) → live R m s ≡ true → x ≡ b s → not (eqb x 0) ≡ positive R b m s
-unfolding positive
-positive-live R b m s x e x-is = rw (x-is, e) (above (b s))
-  where
-    above : (y : ℕ) → not (eqb y 0) ≡ ltb 0 y
-    above zero = refl
-    above (suc y) = ap not (ne-eqb (suc y) 0 (λ (i : suc y ≡ 0). omega arith)) ∙ sym (lt-ltb 0 (suc y) (omega arith))
-
--- The rule up to the last unmarked signal
-
-module _ (R : ℕ → ℕ) (m : ℕ → Bool) (n : ℕ) where
-  pub last-start : Last R m n n
-  last-start = record { within = omega arith; above = λ s h l. absurd (omega arith) }
-
-  pub last-down : (k : ℕ) → Last R m n k → 0 < k → live R m k ≡ false → Last R m n (k - 1)
-  last-down k L pos dead = record { within = omega (arith, L .within); above = λ s h l. go s l (decLe (suc k) s) (omega arith) }
-    where
-      go : (s : ℕ) → s ≤ n → Dec (suc k ≤ s) → k ≤ s → live R m s ≡ false
-      go s l (yes g) h = L .above s g l
-      go s l (no g) h =
-          let same : s ≡ k = omega arith in
-          rw same dead
-
-module _ (p n end : ℕ) (q : ℕ → Bool) (w b : ℕ → ℕ) (low : end ≤ n) (past : (s : ℕ) → end ≤ s → s < n → q s ≡ false) where
-  total-short : sum n (λ u. keep (q u) (w u * b u)) ≡ sum end (λ u. keep (q u) (w u * b u))
-  total-short = sum-short end n _ low (λ s h l. keep-false _ _ (past s h l))
-
-  lower-short : (x : ℕ) → sum n (λ u. keep (q u && ltb (w u) x) (w u * b u)) ≡ sum end (λ u. keep (q u && ltb (w u) x) (w u * b u))
-  lower-short x = sum-short end n _ low (λ s h l. keep-false _ _ (rw (past s h l)))
-
-  separated-short : separatedBy p end q w b ≡ separatedBy p n q w b
-  separated-short =
-      both-ways _ _
-      (λ e.
-      let P = parts p end q w b e in
-      whole p n q w b
-      (record {
-        differ = λ s u l h i j. P .differ s u (live-before p n end q w b low past s l i) (live-before p n end q w b low past u h j) i j;
-        exceed = λ s l i. rw (lower-short (w s)) (P .exceed s (live-before p n end q w b low past s l i) i);
-        total = rw total-short (P .total);
-      }))
-      (λ e.
-      let P = parts p n q w b e in
-      whole p end q w b
-      (record {
-        differ = λ s u l h. P .differ s u (omega arith) (omega arith);
-        exceed = λ s l i. rw (sym (lower-short (w s))) (P .exceed s (omega arith) i);
-        total = rw (sym total-short) (P .total);
-      }))
-
-pub separated-last : (p n k : ℕ) (R B : ℕ → ℕ) (M : ℕ → Bool) (r : ℕ) → Last R M n k → separated p k R B M r ≡ separated p n R B M r
-separated-last p n k R B M r L =
-    separated-by p k R B M r _ refl
-    ∙ separated-short p (suc n) (suc k) (live R M) (scaled p R (inverse p (R r))) B (omega (arith, L .within)) (λ s h l. L .above s h (omega arith))
-    ∙ sym (separated-by p n R B M r _ refl)
-
--- where the rule is met, weights differ
-pub differ-by : (p n : ℕ) (R B : ℕ → ℕ) (M : ℕ → Bool) (r k : ℕ) → k ≡ inverse p (R r) → separated p n R B M r ≡ true → Differ p n R M k
-differ-by p n R B M r k k-is e =
-    let P = parts p (suc n) (live R M) (scaled p R k) B (sym (separated-by p n R B M r k k-is) ∙ e) in
-    record {
-      alone = λ s l i.
-          record { apart = λ u h j g. P .differ u s (omega arith) (omega arith) j i (λ (q : u ≡ s). omega arith) g };
-    }
-
-module _ (p n end k r : ℕ) (form : List ℕ) (B : ℕ → ℕ) (M : ℕ → Bool)
-    (end-is : end ≡ min (n + 1) (length form)) (k-is : k ≡ inverse p (coefIn form r)) where
-  abbrev R : ℕ → ℕ
-  R = coefIn form
-
-  past-end : (s : ℕ) → end ≤ s → s < suc n → live R M s ≡ false
-  past-end s h l = live-past form M s (omega arith)
-
-  apart-signals : Differ p n R M k → (s u : ℕ) → s < suc n → u < suc n → live R M s ≡ true → live R M u ≡ true → (s ≡ u → ⊥)
-      → scaled p R k s ≡ scaled p R k u → ⊥
-  apart-signals D s u l h i j d e = go (decLe (suc s) u)
-    where
-      go : Dec (suc s ≤ u) → ⊥
-      go (yes g) = D .alone u (omega arith) j .apart s g i e
-      go (no g) = D .alone s (omega arith) i .apart u (below (decLe (suc u) s)) j (sym e)
-        where
-          below : Dec (suc u ≤ s) → u < s
-          below (yes x) = x
-          below (no x) = absurd (d (omega arith))
-
-  pub code-over : (s total : ℕ) → s < end → total ≡ sum (s + 1) (λ u. keep (positive R B M u) (scaled p R k u * B u)) → p ≤ total
-      → false ≡ separated p n R B M r
-  unfolding positive
-  code-over s total h e over =
-      sym (separated-by p n R B M r k k-is ∙ some-over p (suc n) end (live R M) (scaled p R k) B (omega arith) past-end s total h e over)
-
-  pub code-many : (s : ℕ) → s ≤ end → p < 4294967296 → 0 < p → 32 ≤ rank (positive R B M) s → false ≡ separated p n R B M r
-  unfolding positive
-  code-many s h fits pos many =
-      sym
-      (separated-by p n R B M r k k-is
-      ∙ some-many p (suc n) end (live R M) (scaled p R k) B (omega arith) past-end s h fits (λ u. scaled-below p R k u pos) many)
-
-  pub code-end : (weights products : List ℕ) (count total : ℕ) → Gathering p (positive R B M) (scaled p R k) B end weights products count total
-      → Differ p n R M k → (b : Bool) → b ≡ all end (exceeds p R M k (coefIn weights) (coefIn products) count) → b ≡ separated p n R B M r
-  unfolding positive exceeds
-  code-end weights products count total G D b b-is =
-      b-is
-      ∙ some-end p (suc n) end (live R M) (scaled p R k) B (omega arith) past-end weights products count total G (apart-signals D)
-      ∙ sym (separated-by p n R B M r k k-is)
+      pub held-end : ((s u : ℕ) → s < n → u < n → q s ≡ true → q u ≡ true → (s ≡ u → ⊥) → w s ≡ w u → ⊥)
+          → all n outstanding ≡ separatedBy p n q w b
+      held-end differ =
+          both-ways _ _
+          (λ e.
+          whole p n q w b
+          (record {
+            differ = differ;
+            exceed = λ s l i. rw (low-here (w s)) (ltb-true _ _ (implies-elim (q s) _ (all-at n outstanding e s l) i));
+            total = rw total-held (omega (arith, G .below, G .totalled));
+          }))
+          (λ e.
+          all-from n outstanding
+          (λ s l. implies-intro (q s) _ (λ i. lt-ltb _ (w s) (rw (sym (low-here (w s))) (parts p n q w b e .exceed s l i)))))

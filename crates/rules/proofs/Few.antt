@@ -1,29 +1,24 @@
 -- Few signals have a bound above 0: where weights differ and each exceeds the sum of weight times bound over the smaller ones, k of them make
 -- the whole sum at least 2^k - 1.
 use Prim.Native.Nat.{ℕ, zero, suc, _+_, _-_, _*_, _≤_, _<_}
-use mathlib.Core.Path.{_≡_, refl, sym, ap, _∙_}
-use mathlib.Core.Logic.{_⊎_, inl, inr}
-use mathlib.Core.Bool.{Bool, true, false, not, _&&_}
+use mathlib.Core.Path.{_≡_, sym, ap, _∙_}
+use mathlib.Core.Logic.{⊎-elim}
+use mathlib.Core.Bool.{Bool, true, false, not, _&&_, and-true}
 use native.Mathlib.Nat.{mul-le-mul-left, zero-add}
-use native.Mathlib.Decide.{decLe, ℕ-discrete}
 use native.Mathlib.Omega.{arith}
 use lib.Dec.{ltb, eqb}
 use borrow.Author.Tests.{lt-ltb, le-ltb, ltb-true, eq-eqb, ne-eqb, eqb-true}
 use Rattle.laws.specs.Sum.{sum, keep}
-use Rattle.laws.proofs.Sum.{and-left, and-right, and-both, by-test, true-or-false, false-by, keep-true, keep-false, sum-cong, sum-out, sum-zeros}
-use Rattle.laws.proofs.Digits.{Found, find-below}
-use Rattle.rules.proofs.Ranks.{rank, one}
+use Rattle.laws.proofs.Sum.{and-left, and-right, and-both, by-test, by-equal, by-order, true-or-false, false-by, keep-true, keep-false}
+use Rattle.laws.proofs.Sum.{sum-cong, sum-out, sum-zeros}
+use Rattle.laws.proofs.Digits.{find-below}
+use Rattle.rules.specs.Rows.{rank, one}
 
 -- Powers of two
 
 power : ℕ → ℕ
 power zero = 1
 power (suc k) = 2 * power k
-
-power-more : (k : ℕ) → 1 ≤ power k
-unfolding power
-power-more zero = omega arith
-power-more (suc k) = omega (arith, power-more k)
 
 power-next : (a k : ℕ) → a ≡ suc k → power a ≡ 2 * power k
 unfolding power
@@ -36,10 +31,7 @@ power-grows k (suc d) = omega (arith, power-next (suc d + k) (d + k) (omega arit
 
 power-large : (k : ℕ) → 32 ≤ k → 4294967296 ≤ power k
 unfolding power
-power-large k h = go (k - 32) (omega arith)
-  where
-    go : (d : ℕ) → k ≡ d + 32 → 4294967296 ≤ power k
-    go d e = rw e (power-grows 32 d)
+power-large k h = let e : k ≡ k - 32 + 32 = omega arith in rw e (power-grows 32 (k - 32))
 
 -- Sums over the indices that pass a test and have a weight below x
 
@@ -49,16 +41,12 @@ module _ (n : ℕ) (q : ℕ → Bool) (w : ℕ → ℕ) where
 
   -- an index whose weight isn't x stands below x + 1 exactly if it stands below x
   test-same : (x u : ℕ) → (q u ≡ true → w u ≡ x → ⊥) → (q u && ltb (w u) (suc x)) ≡ (q u && ltb (w u) x)
-  test-same x u d = by-test (q u) (λ e. ap (λ (b : Bool). q u && b) (test e (decLe (suc (w u)) x) (ℕ-discrete (w u) x))) (λ e. rw e)
+  test-same x u d = by-test (q u) (λ e. ap (λ (b : Bool). q u && b) (test e)) (λ e. rw e)
     where
-      test : q u ≡ true → Dec (suc (w u) ≤ x) → Dec (w u ≡ x) → ltb (w u) (suc x) ≡ ltb (w u) x
-      test e (yes l) i = lt-ltb (w u) (suc x) (omega arith) ∙ sym (lt-ltb (w u) x l)
-      test e (no l) (yes i) = absurd (d e i)
-      test e (no l) (no i) = le-ltb (w u) (suc x) (above (decLe (w u) x)) ∙ sym (le-ltb (w u) x (omega arith))
-        where
-          above : Dec (w u ≤ x) → suc x ≤ w u
-          above (yes h) = absurd (i (omega arith))
-          above (no h) = omega arith
+      test : q u ≡ true → ltb (w u) (suc x) ≡ ltb (w u) x
+      test e =
+          by-order (w u) x (λ l. lt-ltb (w u) (suc x) (omega arith) ∙ sym (lt-ltb (w u) x l))
+          (λ l. by-equal (w u) x (λ i. absurd (d e i)) (λ i. le-ltb (w u) (suc x) (omega arith) ∙ sym (le-ltb (w u) x l)))
 
   part-none : (f : ℕ → ℕ) (x : ℕ) → ((u : ℕ) → u < n → (q u && eqb (w u) x) ≡ false) → part f (suc x) ≡ part f x
   part-none f x h =
@@ -74,15 +62,13 @@ module _ (n : ℕ) (q : ℕ → Bool) (w : ℕ → ℕ) where
         (ap (λ (y : ℕ). f j + y) (sum-cong n _ _ rest))
       where
         rest : (s : ℕ) → s < n → keep (not (eqb s j)) (keep (q s && ltb (w s) (suc x)) (f s)) ≡ keep (q s && ltb (w s) x) (f s)
-        rest s l = go (ℕ-discrete s j)
-          where
-            go : Dec (s ≡ j) → keep (not (eqb s j)) (keep (q s && ltb (w s) (suc x)) (f s)) ≡ keep (q s && ltb (w s) x) (f s)
-            go (yes i) =
-                keep-false _ _ (ap not (eq-eqb s j i))
-                ∙ sym (keep-false _ _ (false-by _ (λ k. absurd (omega (arith, ltb-true (w s) x (and-right (q s) _ k), ap w i)))))
-            go (no d) =
-                keep-true _ _ (ap not (ne-eqb s j d))
-                ∙ ap (λ (b : Bool). keep b (f s)) (test-same x s (λ k i. differ s j l h k e d (i ∙ sym g)))
+        rest s l =
+            by-equal s j
+            (λ i.
+            keep-false _ _ (ap not (eq-eqb s j i))
+            ∙ sym (keep-false _ _ (false-by _ (λ k. absurd (omega (arith, ltb-true (w s) x (and-right (q s) _ k), ap w i))))))
+            (λ d.
+            keep-true _ _ (ap not (ne-eqb s j d)) ∙ ap (λ (b : Bool). keep b (f s)) (test-same x s (λ k i. differ s j l h k e d (i ∙ sym g))))
 
     module _ (b : ℕ → ℕ) (exceed : (s : ℕ) → s < n → q s ≡ true → part (λ u. w u * b u) (w s) < w s) (some : (s : ℕ) → q s ≡ true → 1 ≤ b s) where
       few-start : power (part (λ u. 1) 0) ≤ suc (part (λ u. w u * b u) 0)
@@ -101,36 +87,27 @@ module _ (n : ℕ) (q : ℕ → Bool) (w : ℕ → ℕ) where
 
       few-below : (x : ℕ) → power (part (λ u. 1) x) ≤ suc (part (λ u. w u * b u) x)
       few-below zero = few-start
-      few-below (suc x) = go (few-below x) (find-below n (λ u. q u && eqb (w u) x))
-        where
-          go : power (part (λ u. 1) x) ≤ suc (part (λ u. w u * b u) x)
-              → Found n (λ u. q u && eqb (w u) x) ⊎ ((u : ℕ) → u < n → (q u && eqb (w u) x) ≡ false)
-              → power (part (λ u. 1) (suc x)) ≤ suc (part (λ u. w u * b u) (suc x))
-          go lower (inl f) =
-              few-one (f .index) x (f .below) (and-left _ _ (f .holds)) (eqb-true (w (f .index)) x (and-right (q (f .index)) _ (f .holds))) lower
-          go lower (inr f) = rw (part-none (λ u. 1) x f, part-none (λ u. w u * b u) x f) lower
+      few-below (suc x) =
+          let lower = few-below x in
+          ⊎-elim
+          (λ f. few-one (f .index) x (f .below) (and-left _ _ (f .holds)) (eqb-true (w (f .index)) x (and-right (q (f .index)) _ (f .holds))) lower)
+          (λ f. rw (part-none (λ u. 1) x f, part-none (λ u. w u * b u) x f) lower)
+          (find-below n (λ u. q u && eqb (w u) x))
 
       -- the whole sum is below p, and so is each weight: fewer than 32 indices where p is a 32-bit number
       pub few : (p : ℕ) → p < 4294967296 → ((s : ℕ) → w s < p) → sum n (λ u. keep (q u) (w u * b u)) < p → rank q n < 32
       unfolding rank one
       few p fits below total =
-          go (decLe (suc (sum n (λ u. keep (q u) 1))) 32)
+          by-order (sum n (λ u. keep (q u) 1)) 32 (λ l. l)
+          (λ l.
+          absurd (omega (
+            arith,
+            power-large (sum n (λ u. keep (q u) 1)) l,
+            few-below p,
+            whole (λ u. w u * b u),
+            ap power (whole (λ u. 1)),
+            total,
+          )))
         where
-          and-is : (a c : Bool) → c ≡ true → (a && c) ≡ a
-          and-is true c e = e
-          and-is false c e = refl
-
           whole : (f : ℕ → ℕ) → part f p ≡ sum n (λ u. keep (q u) (f u))
-          whole f = sum-cong n _ _ (λ u l. ap (λ (t : Bool). keep t (f u)) (and-is (q u) _ (lt-ltb (w u) p (below u))))
-
-          go : Dec (suc (sum n (λ u. keep (q u) 1)) ≤ 32) → sum n (λ u. keep (q u) 1) < 32
-          go (yes l) = l
-          go (no l) =
-              absurd (omega (
-                arith,
-                power-large (sum n (λ u. keep (q u) 1)) (omega arith),
-                few-below p,
-                whole (λ u. w u * b u),
-                ap power (whole (λ u. 1)),
-                total,
-              ))
+          whole f = sum-cong n _ _ (λ u l. rw (lt-ltb (w u) p (below u), and-true (q u)))

@@ -1,10 +1,9 @@
 -- Tests on the forms of a constraint as the code asks them: what a form names, linear, root and product, and the roots.
-use Prim.Native.Nat.{ℕ, suc, _+_, _-_, _*_, _%_, _≤_, _<_, max}
+use Prim.Native.Nat.{ℕ, _+_, _-_, _*_, _%_, _≤_, _<_, max}
 use mathlib.Core.Path.{_≡_, refl, sym, ap, _∙_}
-use mathlib.Core.Bool.{Bool, true, false, not, _&&_, _||_}
+use mathlib.Core.Bool.{Bool, true, false, not, _&&_, _||_, and-false, and-comm, or-self}
 use mathlib.Core.List.{List, [], _∷_}
 use native.Mathlib.Nat.{zero-add, zero-mod, mul-zero, mod-mod}
-use native.Mathlib.Decide.{decLe}
 use native.Mathlib.Omega.{arith}
 use lib.Dec.{eqb}
 use lib.ListN.{replicate}
@@ -15,32 +14,22 @@ use Rattle.field.proofs.Euclid.{inverse-small}
 use Rattle.circuit.specs.Circuit.{Form, coef, names}
 use Rattle.circuit.specs.Reader.{afterForm, formIn, constraintIn}
 use Rattle.laws.specs.Rules.{namesNone, linear, isZero, namesOnly, rootMet, root, rootBound, othersMarked, productMet}
-use Rattle.laws.proofs.Sum.{and-left, and-right, and-both, true-or-false, false-by}
+use Rattle.laws.proofs.Sum.{and-left, and-right, and-both, and-true, or-false, true-or-false, false-by}
 use Rattle.laws.proofs.ProductRule.{ProductMet, product-met}
 use Rattle.rules.specs.View.{markIn}
 use Rattle.rules.proofs.ViewLaws.{mark-none}
-use Rattle.rules.proofs.Ranks.{and-true, and-false}
-
-or-twice : (a : Bool) → (a || a) ≡ a
-or-twice true = refl
-or-twice false = refl
-
-or-last : (a b : Bool) → (a || b || false) ≡ (a || b)
-or-last true b = refl
-or-last false true = refl
-or-last false false = refl
 
 -- where nothing is marked, the signals but t are marked if none but t is named
 pub unmarked-only : (m : ℕ → Bool) (t : ℕ) (f : Form) → ((s : ℕ) → m s ≡ false) → othersMarked m t f ≡ namesOnly t f
 unfolding othersMarked namesOnly
 unmarked-only m t [] h = refl
 unmarked-only m t (x ∷ f) h =
-    rw (h (x .signal), or-last (eqb (x .signal) 0) (eqb (x .signal) t), unmarked-only m t f h)
+    rw (h (x .signal), or-false (eqb (x .signal) 0 || eqb (x .signal) t), unmarked-only m t f h)
 
 pub only-none : (f : Form) → namesOnly 0 f ≡ namesNone f
 unfolding namesOnly namesNone
 only-none [] = refl
-only-none (x ∷ f) = rw (or-twice (eqb (x .signal) 0), only-none f)
+only-none (x ∷ f) = rw (or-self (eqb (x .signal) 0), only-none f)
 
 -- a form has no terms if it names neither a signal nor the constant
 pub zero-names : (f : Form) → isZero f ≡ (namesNone f && not (names f 0))
@@ -66,30 +55,16 @@ found-just k t f r found = found ∙ ap (λ (b : Bool). names f t && b) (unmarke
 
 pub found-zero : (k : ℕ) (f : Form) (r : Bool) → r ≡ (not (names f 0) && othersMarked (markIn (replicate k false)) 0 f) → r ≡ isZero f
 found-zero k f r found =
-    found ∙ ap (λ (b : Bool). not (names f 0) && b) (unmarked-only _ 0 f (mark-none k) ∙ only-none f) ∙ swap (not (names f 0)) (namesNone f)
+    found ∙ ap (λ (b : Bool). not (names f 0) && b) (unmarked-only _ 0 f (mark-none k) ∙ only-none f) ∙ and-comm (not (names f 0)) (namesNone f)
     ∙ sym (zero-names f)
-  where
-    swap : (a b : Bool) → (a && b) ≡ (b && a)
-    swap true true = refl
-    swap true false = refl
-    swap false true = refl
-    swap false false = refl
 
--- what one walk has found, of a form that it went through
-module _
-    (f : Form) (m : ℕ → Bool) (t : ℕ) (others named : Bool)
-    (others-is : others ≡ othersMarked m t f) (named-is : others ≡ true → named ≡ names f t) where
-  pub survey-in-no : others ≡ false → false ≡ (names f t && othersMarked m t f)
-  survey-in-no e = sym (ap (λ (b : Bool). names f t && b) (sym others-is ∙ e) ∙ and-false (names f t))
+-- what one walk has found: whether the others are marked, and x where they are
+module _ (x others marked r : Bool) (others-is : others ≡ marked) (r-is : others ≡ true → r ≡ x) where
+  pub survey-no : others ≡ false → false ≡ (x && marked)
+  survey-no e = sym (ap (λ (b : Bool). x && b) (sym others-is ∙ e) ∙ and-false x)
 
-  pub survey-in : others ≡ true → named ≡ (names f t && othersMarked m t f)
-  survey-in e = named-is e ∙ sym (ap (λ (b : Bool). names f t && b) (sym others-is ∙ e) ∙ and-true (names f t))
-
-  pub survey-out-no : others ≡ false → false ≡ (not (names f t) && othersMarked m t f)
-  survey-out-no e = sym (ap (λ (b : Bool). not (names f t) && b) (sym others-is ∙ e) ∙ and-false (not (names f t)))
-
-  pub survey-out : others ≡ true → not named ≡ (not (names f t) && othersMarked m t f)
-  survey-out e = ap not (named-is e) ∙ sym (ap (λ (b : Bool). not (names f t) && b) (sym others-is ∙ e) ∙ and-true (not (names f t)))
+  pub survey-yes : others ≡ true → r ≡ (x && marked)
+  survey-yes e = r-is e ∙ sym (ap (λ (b : Bool). x && b) (sym others-is ∙ e) ∙ and-true x)
 
 -- What the tests on a constraint say, as far as each was asked.
 module _ (s b c : List ℕ) (b-is : b ≡ afterForm s) (c-is : c ≡ afterForm b) where
@@ -183,11 +158,3 @@ module _ (p t a c : ℕ) (s b : List ℕ) (b-is : b ≡ afterForm s) (a-is : a �
 
   pub larger-first : c ≤ a → a ≡ rootBound p (constraintIn s) t
   larger-first h = omega (arith, larger)
-
--- a test that fails for every signal above 256
-pub low-by : (b : Bool) (t : ℕ) → b ≡ true → (256 < t → b ≡ false) → t < 257
-low-by b t e h = go (decLe (suc t) 257)
-  where
-    go : Dec (suc t ≤ 257) → t < 257
-    go (yes l) = l
-    go (no d) = true-or-false b e (h (omega arith))

@@ -1,11 +1,15 @@
 pub mod Products
 pub mod FormTests
 pub mod SumLaws
+pub mod SumPlaces
 pub mod Ranks
+pub mod RowLaws
+pub mod RoomLaws
+pub mod MakingLaws
 pub mod Few
 pub mod WeightLaws
 pub mod DigitsLaws
-pub mod LinearRules
+pub mod RowDigits
 pub mod Outcomes
 pub mod ReducedForm
 pub mod ViewLaws

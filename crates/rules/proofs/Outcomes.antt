@@ -1,41 +1,33 @@
--- What a method of the standing has shown where it ends: the rule is met or not, and the arrays are the next standing.
+-- What a step has shown where it ends: the rule is met or not, and the arrays are the next standing.
 use Prim.Native.Nat.{ℕ, zero, suc, _+_, _-_, _≤_, _<_, min}
 use mathlib.Core.Path.{_≡_, refl, sym, ap, _∙_, fun-ext}
-use mathlib.Core.Bool.{Bool, true, false, cond, _&&_, _||_}
+use mathlib.Core.Bool.{Bool, true, false, _&&_, _||_}
 use mathlib.Core.List.{List}
 use native.Mathlib.Decide.{ℕ-discrete, decLe}
 use native.Mathlib.Omega.{arith}
 use lib.Dec.{leb, eqb}
 use lib.ListN.{length, getD, set, replicate}
 use borrow.Author.Tests.{eq-eqb, ne-eqb, le-leb, lt-leb}
-use Rattle.circuit.specs.Reader.{afterForm, constraintIn}
 use Rattle.laws.specs.Problem.{largest}
 use Rattle.laws.specs.Standing.{add, lower, isInput}
 use Rattle.laws.specs.Standing as laws
-use Rattle.laws.specs.Rules.{rootMet, zeroMet, productMet}
 use Rattle.laws.specs.Step.{Rule}
 use Rattle.rules.specs.View.{boundIn, markIn, viewOf}
 use Rattle.rules.specs.Promise.{view, Gives}
 use Rattle.rules.specs.declared.standing.Standing.{Standing}
 use Rattle.rules.specs.declared.standing.Outcome.{Outcome}
-use Rattle.rules.proofs.ViewLaws.{bound-past, bound-within, bound-largest, mark-none, mark-set, view-lower}
-use Rattle.rules.proofs.FormTests.{low-by}
-use Rattle.rules.proofs.Walk.{form-names-beyond}
+use Rattle.rules.proofs.ViewLaws.{bound-within, bound-largest, mark-none, mark-set, view-lower}
 use Rattle.rules.proofs.Ranks.{and-false}
 
 -- Outcomes
 
-module _ (p : ℕ) (before : Standing) (o : Outcome) (t : ℕ) (x : Rule) where
-  pub gives-no : (o .met ≡ false) × (o .next ≡ before) → x .met ≡ false → Gives p before o t x
-  gives-no e g =
-      record {
-        told = e .0 ∙ sym g;
-        next = ap (view p) (e .1) ∙ sym (ap (λ (b : Bool). cond b (laws.apply (x .change) (view p before) t) (view p before)) g);
-      }
+module _ {p : ℕ} {before : Standing} {o : Outcome} {t : ℕ} {x : Rule} where
+  pub gives-no : o .met ≡ false → o .next ≡ before → x .met ≡ false → Gives p before o t x
+  gives-no told same e = record { told = told ∙ sym e; next = ap (view p) same ∙ rw e }
 
-  pub gives-yes : o .met ≡ true → view p (o .next) ≡ laws.apply (x .change) (view p before) t → x .met ≡ true → Gives p before o t x
-  gives-yes e h g =
-      record { told = e ∙ sym g; next = h ∙ sym (ap (λ (b : Bool). cond b (laws.apply (x .change) (view p before) t) (view p before)) g) }
+  pub gives-yes : {change : laws.Change} → o .met ≡ true → view p (o .next) ≡ laws.apply change (view p before) t
+      → (x .met ≡ true) × (x .change ≡ change) → Gives p before o t x
+  gives-yes told same e = record { told = told ∙ sym (e .0); next = same ∙ rw (e .0, e .1) }
 
 -- Stores
 
@@ -78,29 +70,3 @@ unfolding viewOf
 start-view p n k i bounds marks bounds-is k-is e =
     ap (λ (f : ℕ → ℕ). record { bound = f; marked = markIn marks }) (ap (boundIn p) bounds-is ∙ bound-largest p n)
     ∙ ap (λ (m : ℕ → Bool). record { bound = largest p; marked = m }) (e ∙ ap isInput k-is)
-
--- Targets are among the signals of the arrays.
-
-pub root-low : (s : List ℕ) (t : ℕ) → rootMet (constraintIn s) t ≡ true → t < 257
-unfolding rootMet constraintIn
-root-low s t e = low-by (rootMet (constraintIn s) t) t e (λ h. rw (form-names-beyond s t h, and-false))
-
-pub product-low : (s : List ℕ) (m : ℕ → Bool) (t : ℕ) → productMet (constraintIn s) m t ≡ true → t < 257
-unfolding productMet constraintIn
-product-low s m t e =
-    low-by (productMet (constraintIn s) m t) t e (λ h. rw (form-names-beyond (afterForm (afterForm s)) t h, and-false))
-
--- Zero
-
-module _ (p : ℕ) (bounds : List ℕ) (t : ℕ) where
-  pub zero-past : 1 < p → length bounds ≤ t → zeroMet (boundIn p bounds) t ≡ false
-  unfolding zeroMet
-  zero-past h l = ne-eqb _ _ (λ (e : boundIn p bounds t ≡ 0). omega (arith, bound-past p bounds t l))
-
-  pub zero-no : t < length bounds → (getD bounds t 0 ≡ 0 → ⊥) → zeroMet (boundIn p bounds) t ≡ false
-  unfolding zeroMet
-  zero-no h d = ne-eqb _ _ (λ (e : boundIn p bounds t ≡ 0). d (bound-within p bounds t h ∙ e))
-
-  pub zero-yes : t < length bounds → getD bounds t 0 ≡ 0 → zeroMet (boundIn p bounds) t ≡ true
-  unfolding zeroMet
-  zero-yes h e = eq-eqb _ _ (sym (bound-within p bounds t h) ∙ e)

@@ -1,39 +1,22 @@
 -- Indices that pass a test, gathered in their order: the rank of an index, and sums over the gathered ones.
 use Prim.Native.Nat.{ℕ, zero, suc, _≤_, _<_}
 use mathlib.Core.Path.{_≡_, refl, sym, ap, _∙_}
-use mathlib.Core.Bool.{Bool, true, false, _&&_}
+use mathlib.Core.Bool.{Bool, true, false, _&&_, and-assoc}
+pub use mathlib.Core.Bool.{and-false}
 use native.Mathlib.Omega.{arith}
-use Rattle.laws.specs.Sum.{sum, all, keep}
-use Rattle.laws.proofs.Sum.{sum-last, keep-true, keep-false, by-test}
+use Rattle.laws.specs.Sum.{sum, all}
+use Rattle.rules.specs.Rows.{one, rank}
+use Rattle.laws.proofs.Sum.{sum-last, keep-true, keep-false, by-test, and-true}
 use Rattle.rules.proofs.SumLaws.{sum-grows}
 
 -- Bounded tests
 
-pub and-true : (a : Bool) → (a && true) ≡ a
-and-true true = refl
-and-true false = refl
-
-pub and-false : (a : Bool) → (a && false) ≡ false
-and-false true = refl
-and-false false = refl
-
 pub all-last : (n : ℕ) (q : ℕ → Bool) → all (suc n) q ≡ (all n q && q n)
 unfolding all
 all-last zero q = and-true (q 0)
-all-last (suc n) q = ap (λ (b : Bool). q 0 && b) (all-last n (λ s. q (suc s))) ∙ regroup (q 0) _ _
-  where
-    regroup : (a b c : Bool) → (a && (b && c)) ≡ ((a && b) && c)
-    regroup true b c = refl
-    regroup false b c = refl
+all-last (suc n) q = ap (λ (b : Bool). q 0 && b) (all-last n (λ s. q (suc s))) ∙ sym (and-assoc (q 0) _ _)
 
 -- Ranks
-
-unfoldable pub one : (ℕ → Bool) → ℕ → ℕ
-one q s = keep (q s) 1
-
--- how many indices below s pass
-unfoldable pub rank : (ℕ → Bool) → ℕ → ℕ
-rank q s = sum s (one q)
 
 module _ (q : ℕ → Bool) where
   pub rank-zero : rank q 0 ≡ 0
@@ -51,11 +34,6 @@ module _ (q : ℕ → Bool) where
   pub rank-grows : (s k : ℕ) → s ≤ k → rank q s ≤ rank q k
   unfolding rank
   rank-grows s k h = sum-grows s k (one q) h
-
-  pub rank-most : (s : ℕ) → rank q s ≤ s
-  rank-most zero = omega (arith, rank-zero)
-  rank-most (suc s) =
-      by-test (q s) (λ e. omega (arith, rank-passed s e, rank-most s)) (λ e. omega (arith, rank-failed s e, rank-most s))
 
   pub rank-below : (s k : ℕ) → s < k → q s ≡ true → rank q s < rank q k
   rank-below s k h e = omega (arith, rank-passed s e, rank-grows (suc s) k h)

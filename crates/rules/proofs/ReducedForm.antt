@@ -2,12 +2,11 @@
 use Prim.Native.Nat.{ℕ, zero, suc, _+_, _-_, _*_, _%_, _≤_, _<_}
 use mathlib.Core.Path.{_≡_, refl, sym, ap, _∙_}
 use mathlib.Core.List.{List, [], _∷_}
-use native.Mathlib.Nat.{mod-lt, mod-mod, mod-add-mod, mod-eq-of-lt, zero-mod, mul-zero, add-zero}
-use native.Mathlib.Decide.{ℕ-discrete, decLe}
+use native.Mathlib.Nat.{mod-lt, mod-mod, mod-add-mod, mod-eq-of-lt, zero-mod, mul-zero, add-zero, zero-add}
 use native.Mathlib.Omega.{arith}
 use lib.Dec.{ltb}
 use lib.ListN.{length, set, length-set}
-use lib.Seq.{getD-set-same, getD-set-other}
+use borrow.Author.Count.{below-more}
 use borrow.Author.Tests.{eq-eqb, ne-eqb, lt-ltb, le-ltb}
 use Rattle.field.specs.Residue.{Congruent, opposite}
 use Rattle.field.proofs.Residue.{congruent-multiples, congruent-refl, congruent-sym, congruent-trans, congruent-plus, congruent-times}
@@ -16,40 +15,21 @@ use Rattle.circuit.specs.Circuit.{Term, Form, coef}
 use Rattle.circuit.specs.Reader.{signalsMost, afterForm, formIn, constraintIn}
 use Rattle.laws.specs.Sum.{keep}
 use Rattle.laws.specs.Rules.{constant, reduced}
-use Rattle.laws.proofs.Sum.{keep-true, keep-false}
+use Rattle.laws.proofs.Sum.{by-equal, by-order, keep-true, keep-false}
 use Rattle.rules.specs.View.{coefIn}
 use Rattle.rules.specs.Steps.{added}
-use Rattle.rules.proofs.ViewLaws.{coef-past}
+use Rattle.rules.proofs.ViewLaws.{coef-past, coef-set-same, coef-set-other}
 use Rattle.rules.proofs.Walk.{form-coef-beyond}
-
-coef-set-same : (acc : List ℕ) (s x : ℕ) → s < length acc → coefIn (set acc s x) s ≡ x
-unfolding coefIn
-coef-set-same acc s x h = getD-set-same acc s x 0 h
-
-coef-set-other : (acc : List ℕ) (t s x : ℕ) → (s ≡ t → ⊥) → coefIn (set acc t x) s ≡ coefIn acc s
-unfolding coefIn
-coef-set-other acc t s x d = getD-set-other acc t s x 0 d
 
 -- A form cleared
 
 pub cleared-on : (form : List ℕ) (s : ℕ) → s < length form → ((u : ℕ) → u < s → coefIn form u ≡ 0)
     → (u : ℕ) → u < s + 1 → coefIn (set form s 0) u ≡ 0
-cleared-on form s h before u l = go (ℕ-discrete u s)
-  where
-    go : Dec (u ≡ s) → coefIn (set form s 0) u ≡ 0
-    go (yes e) = rw e (coef-set-same form s 0 h)
-    go (no d) = coef-set-other form s u 0 d ∙ before u (below (decLe (suc u) s))
-      where
-        below : Dec (suc u ≤ s) → u < s
-        below (yes b) = b
-        below (no b) = absurd (d (omega arith))
+cleared-on form s h before =
+    below-more _ s (λ u l. coef-set-other form s u 0 (λ (e : u ≡ s). omega arith) ∙ before u l) (coef-set-same form s 0 h)
 
 pub cleared-end : (form : List ℕ) (s : ℕ) → length form ≤ s → ((u : ℕ) → u < s → coefIn form u ≡ 0) → (u : ℕ) → coefIn form u ≡ 0
-cleared-end form s h before u = go (decLe (suc u) s)
-  where
-    go : Dec (suc u ≤ s) → coefIn form u ≡ 0
-    go (yes l) = before u l
-    go (no l) = coef-past form u (omega arith)
+cleared-end form s h before u = by-order u s (before u) (λ l. coef-past form u (omega arith))
 
 -- A form added
 
@@ -58,14 +38,6 @@ unfolding added
 added-length p k [] acc = refl
 added-length p k (x ∷ f) acc = added-length p k f _ ∙ length-set acc (x .signal) _
 
-coef-first : (x : Term) (f : Form) (s : ℕ) → x .signal ≡ s → coef (x ∷ f) s ≡ x .coefficient + coef f s
-unfolding coef
-coef-first x f s e = rw (eq-eqb (x .signal) s e)
-
-coef-later : (x : Term) (f : Form) (s : ℕ) → (x .signal ≡ s → ⊥) → coef (x ∷ f) s ≡ coef f s
-unfolding coef
-coef-later x f s d = rw (ne-eqb (x .signal) s d) (omega arith)
-
 -- one term added: the coefficient stays below p, and what is left to add gives the same
 module _ (p k : ℕ) (x : Term) (f : Form) (acc : List ℕ) (s : ℕ) (h : s < length acc) (l : coefIn acc s < p) where
   one : List ℕ
@@ -73,35 +45,28 @@ module _ (p k : ℕ) (x : Term) (f : Form) (acc : List ℕ) (s : ℕ) (h : s < l
 
   one-below : coefIn one s < p
   unfolding one
-  one-below = go (ℕ-discrete (x .signal) s)
-    where
-      go : Dec (x .signal ≡ s) → coefIn one s < p
-      go (yes e) = rw e (rw (coef-set-same acc s ((coefIn acc s + k * x .coefficient) % p) h) (mod-lt _ (omega arith)))
-      go (no d) = rw (coef-set-other acc (x .signal) s ((coefIn acc (x .signal) + k * x .coefficient) % p) (λ (e : s ≡ x .signal). d (sym e))) l
+  one-below =
+      by-equal s (x .signal)
+      (λ e. rw (← e) (rw (coef-set-same acc s ((coefIn acc s + k * x .coefficient) % p) h) (mod-lt _ (omega arith))))
+      (λ d. rw (coef-set-other acc (x .signal) s ((coefIn acc (x .signal) + k * x .coefficient) % p) d) l)
 
   one-rest : (coefIn one s + k * coef f s) % p ≡ (coefIn acc s + k * coef (x ∷ f) s) % p
-  unfolding one
-  one-rest = go (ℕ-discrete (x .signal) s)
-    where
-      go : Dec (x .signal ≡ s) → (coefIn one s + k * coef f s) % p ≡ (coefIn acc s + k * coef (x ∷ f) s) % p
-      go (yes e) =
-          ap (λ (n : ℕ). (n + k * coef f s) % p)
-          (ap (λ (i : ℕ). coefIn (set acc i ((coefIn acc i + k * x .coefficient) % p)) s) e ∙ coef-set-same acc s _ h)
-          ∙ mod-add-mod (coefIn acc s + k * x .coefficient) p (k * coef f s)
-          ∙ ap (λ (n : ℕ). n % p) (omega (arith, ap (λ (n : ℕ). k * n) (coef-first x f s e)))
-      go (no d) =
-          ap (λ (n : ℕ). (n + k * coef f s) % p) (coef-set-other acc (x .signal) s _ (λ (e : s ≡ x .signal). d (sym e)))
-          ∙ ap (λ (n : ℕ). (coefIn acc s + k * n) % p) (sym (coef-later x f s d))
-
-coef-empty : (s : ℕ) → coef [] s ≡ 0
-unfolding coef
-coef-empty s = refl
+  unfolding one coef
+  one-rest =
+      by-equal (x .signal) s
+      (λ e.
+      ap (λ (n : ℕ). (n + k * coef f s) % p)
+      (ap (λ (i : ℕ). coefIn (set acc i ((coefIn acc i + k * x .coefficient) % p)) s) e ∙ coef-set-same acc s _ h)
+      ∙ mod-add-mod (coefIn acc s + k * x .coefficient) p (k * coef f s)
+      ∙ rw (eq-eqb (x .signal) s e) (ap (λ (n : ℕ). n % p) (omega arith)))
+      (λ d.
+      ap (λ (n : ℕ). (n + k * coef f s) % p) (coef-set-other acc (x .signal) s _ (λ (e : s ≡ x .signal). d (sym e)))
+      ∙ rw (ne-eqb (x .signal) s d, zero-add))
 
 pub added-at : (p k : ℕ) (f : Form) (acc : List ℕ) (s : ℕ) → s < length acc → coefIn acc s < p
     → coefIn (added p k f acc) s ≡ (coefIn acc s + k * coef f s) % p
-unfolding added one
-added-at p k [] acc s h l =
-    sym (ap (λ (n : ℕ). n % p) (omega (arith, ap (λ (n : ℕ). k * n) (coef-empty s))) ∙ mod-eq-of-lt l)
+unfolding added one coef
+added-at p k [] acc s h l = sym (ap (λ (n : ℕ). n % p) (omega arith) ∙ mod-eq-of-lt l)
 added-at p k (x ∷ f) acc s h l =
     added-at p k f (one p k x f acc s h l) s (rw (length-set acc (x .signal) ((coefIn acc (x .signal) + k * x .coefficient) % p)) h)
     (one-below p k x f acc s h l)
@@ -225,12 +190,10 @@ reduced-small p s form h t e = e ∙ sym (keep-false (ltb 1 p) _ (le-ltb 1 p h))
 pub reduced-whole : (p : ℕ) (s form : List ℕ) → signalsMost < length form
     → ((t : ℕ) → t < length form → coefIn form t ≡ keep (ltb 1 p) (reduced p (constraintIn s) t))
     → (t : ℕ) → coefIn form t ≡ keep (ltb 1 p) (reduced p (constraintIn s) t)
-reduced-whole p s form wide within t = go (decLe (suc t) (length form))
-  where
-    none : signalsMost < t → Dec (2 ≤ p) → keep (ltb 1 p) (reduced p (constraintIn s) t) ≡ 0
-    none l (yes h) = keep-true (ltb 1 p) _ (lt-ltb 1 p h) ∙ reduced-past p s h t l
-    none l (no h) = keep-false (ltb 1 p) _ (le-ltb 1 p (omega arith))
-
-    go : Dec (suc t ≤ length form) → coefIn form t ≡ keep (ltb 1 p) (reduced p (constraintIn s) t)
-    go (yes l) = within t l
-    go (no l) = coef-past form t (omega arith) ∙ sym (none (omega arith) (decLe 2 p))
+reduced-whole p s form wide within t =
+    by-order t (length form) (within t)
+    (λ l.
+    let none : signalsMost < t = omega arith in
+    coef-past form t l
+    ∙ by-order 1 p (λ h. sym (keep-true (ltb 1 p) _ (lt-ltb 1 p h) ∙ reduced-past p s h t none))
+    (λ h. sym (keep-false (ltb 1 p) _ (le-ltb 1 p h))))

@@ -1,32 +1,22 @@
--- Sums that end early, and the terms of the sum rule as the code makes them.
-use Prim.Native.Nat.{ℕ, zero, suc, _+_, _-_, _*_, _%_, _≤_, _<_, min}
+-- Sums that end early; the terms of the sum rule as the code makes them, over coefficients R and bounds b by place; the highest bound.
+use Prim.Native.Nat.{ℕ, zero, suc, _+_, _*_, _%_, _≤_, _<_}
 use mathlib.Core.Path.{_≡_, refl, sym, ap, _∙_}
-use mathlib.Core.Bool.{Bool, not}
-use mathlib.Core.List.{List}
-use native.Mathlib.Nat.{zero-mod, zero-add, sub-zero, mul-mod-right, mul-one}
-use mathlib.Core.Logic.{_⊎_, inl, inr, ⊎-elim}
-use native.Mathlib.Decide.{decLe}
+use mathlib.Core.Bool.{not}
+use native.Mathlib.Nat.{mod-lt, zero-mod, zero-add, sub-zero, mul-mod-right, mul-one, mul-comm}
+use native.Mathlib.Decide.{ℕ-discrete}
 use native.Mathlib.Numerals.{add-one}
 use native.Mathlib.Omega.{arith}
 use lib.Dec.{eqb}
-use lib.ListN.{length}
 use borrow.Author.Tests.{eq-eqb, ne-eqb}
 use Rattle.field.specs.Residue.{opposite}
 use Rattle.field.specs.Inverse.{inverse}
+use Rattle.field.proofs.Residue.{opposite-times}
 use Rattle.laws.specs.Sum.{sum, keep}
-use Rattle.laws.specs.Rules.{sumWeight, ceiling, sumTerm, sumBound}
-use Rattle.laws.proofs.Sum.{sum-last, keep-true, keep-false, keep-zero, none-times}
-use Rattle.rules.specs.View.{coefIn, boundIn}
-use Rattle.rules.proofs.ViewLaws.{coef-past}
+use Rattle.laws.specs.Rules.{sumWeight, ceiling, sumTerm}
+use Rattle.laws.proofs.Sum.{by-order, sum-last, keep-true, keep-false, keep-zero, none-times}
+use Rattle.rules.specs.Steps.{Target, Highest, Scale, Summed}
 
 -- Sums
-
-pub le-or-end : (k n : ℕ) → k ≤ suc n → (k ≤ n) ⊎ (k ≡ suc n)
-le-or-end k n h = go (decLe k n)
-  where
-    go : Dec (k ≤ n) → (k ≤ n) ⊎ (k ≡ suc n)
-    go (yes e) = inl e
-    go (no d) = inr (omega arith)
 
 sum-at-end : (k n : ℕ) (f : ℕ → ℕ) → k ≡ n → sum k f ≡ sum n f
 sum-at-end k n f e = ap (λ (m : ℕ). sum m f) e
@@ -35,95 +25,125 @@ sum-at-end k n f e = ap (λ (m : ℕ). sum m f) e
 pub sum-grows : (k n : ℕ) (f : ℕ → ℕ) → k ≤ n → sum k f ≤ sum n f
 sum-grows k zero f h = omega (arith, sum-at-end k 0 f (omega arith))
 sum-grows k (suc n) f h =
-    ⊎-elim (λ (e : k ≤ n). omega (arith, sum-grows k n f e, sum-last n f)) (λ (e : k ≡ suc n). omega (arith, sum-at-end k (suc n) f e))
-    (le-or-end k n h)
+    by-order n k (λ l. omega (arith, sum-at-end k (suc n) f (omega arith))) (λ l. omega (arith, sum-grows k n f l, sum-last n f))
 
--- and the same where they are 0
-pub sum-short : (k n : ℕ) (f : ℕ → ℕ) → k ≤ n → ((s : ℕ) → k ≤ s → s < n → f s ≡ 0) → sum n f ≡ sum k f
-sum-short k zero f h z = sym (sum-at-end k 0 f (omega arith))
-sum-short k (suc n) f h z =
-    ⊎-elim (λ (e : k ≤ n). omega (arith, sum-short k n f e (λ s g l. z s g (omega arith)), sum-last n f, z n e (omega arith)))
-    (λ (e : k ≡ suc n). sym (sum-at-end k (suc n) f e))
-    (le-or-end k n h)
+-- index by index
+pub sum-start : (f : ℕ → ℕ) → 0 ≡ sum 0 f
+unfolding sum
+sum-start f = refl
+
+pub sum-on : (f : ℕ → ℕ) (k total x : ℕ) → total ≡ sum k f → x ≡ f k → total + x ≡ sum (k + 1) f
+sum-on f k total x e g = rw (add-one k) (omega (arith, sum-last k f))
+
+pub sum-over : (f : ℕ → ℕ) (k n total x limit : ℕ) → total ≡ sum k f → x ≡ f k → k < n → limit ≤ total + x → limit ≤ sum n f
+sum-over f k n total x limit e x-is h over = omega (arith, sum-on f k total x e x-is, sum-grows (k + 1) n f (omega arith))
 
 -- A term
 
-weight-none : (p : ℕ) (R : ℕ → ℕ) (t s : ℕ) → R s ≡ 0 → sumWeight p R t s ≡ 0
+pub scale-made : {p : ℕ} {R : ℕ → ℕ} {count e scale : ℕ} → 0 < p → Target R count e → scale ≡ opposite p (inverse p (R e))
+    → ((scale ≡ 0 → ⊥) → Scale p R count e scale) × (scale ≡ 0 → 0 < p → Target R count e → ⊥)
+unfolding opposite
+scale-made {p} {R} {count} {e} h T s-is =
+    (λ d. record { modulus = h; target = T; is = s-is }, λ z l T. omega (arith, mod-lt (inverse p (R e)) h))
+
+pub weight-none : (p : ℕ) (R : ℕ → ℕ) (t s : ℕ) → R s ≡ 0 → sumWeight p R t s ≡ 0
 unfolding sumWeight opposite
 weight-none p R t s e = rw (e, zero-mod p, sub-zero) (mul-mod-right p (inverse p (R t)))
 
-ceiling-signal : (p : ℕ) (bounds : List ℕ) (s : ℕ) → (s ≡ 0 → ⊥) → ceiling (boundIn p bounds) s ≡ boundIn p bounds s
+pub ceiling-signal : (b : ℕ → ℕ) (s : ℕ) → (s ≡ 0 → ⊥) → ceiling b s ≡ b s
 unfolding ceiling
-ceiling-signal p bounds zero d = absurd (d refl)
-ceiling-signal p bounds (suc s) d = refl
+ceiling-signal b zero d = absurd (d refl)
+ceiling-signal b (suc s) d = refl
 
-module _ (p : ℕ) (form bounds : List ℕ) (t s : ℕ) where
-  pub term-target : s ≡ t → 0 ≡ sumTerm p (coefIn form) (boundIn p bounds) t s
+module _ (p : ℕ) (R b : ℕ → ℕ) (t s : ℕ) where
+  pub term-target : s ≡ t → 0 ≡ sumTerm p R b t s
   unfolding sumTerm
   term-target e = sym (keep-false _ _ (ap not (eq-eqb s t e)))
 
-  module _ (c : ℕ) (c-is : c ≡ coefIn form s) (other : s ≡ t → ⊥) where
-    term-other : sumTerm p (coefIn form) (boundIn p bounds) t s ≡ sumWeight p (coefIn form) t s * ceiling (boundIn p bounds) s
-    unfolding sumTerm
-    term-other = keep-true _ _ (ap not (ne-eqb s t other))
-
-    pub term-none : c ≡ 0 → 0 ≡ sumTerm p (coefIn form) (boundIn p bounds) t s
-    term-none e = sym (term-other ∙ none-times _ _ (weight-none p (coefIn form) t s (sym c-is ∙ e)))
-
-    module _ (scale w : ℕ) (scale-is : scale ≡ inverse p (coefIn form t)) (w-is : w ≡ (0 + (p - c % p) * scale) % p) where
-      weight-is : w ≡ sumWeight p (coefIn form) t s
-      unfolding sumWeight opposite
-      weight-is = w-is ∙ rw (c-is, scale-is, zero-add)
-
-      pub term-constant : s ≡ 0 → w ≡ sumTerm p (coefIn form) (boundIn p bounds) t s
-      unfolding ceiling
-      term-constant e =
-          sym (term-other ∙ ap (λ (x : ℕ). sumWeight p (coefIn form) t s * ceiling (boundIn p bounds) x) e ∙ mul-one _ ∙ sym weight-is)
-
-      pub term-signal : (s ≡ 0 → ⊥) → (b r : ℕ) → b ≡ boundIn p bounds s → r ≡ w * b → r ≡ sumTerm p (coefIn form) (boundIn p bounds) t s
-      term-signal d b r b-is r-is =
-          r-is ∙ rw (weight-is, b-is) (sym (term-other ∙ ap (λ (x : ℕ). sumWeight p (coefIn form) t s * x) (ceiling-signal p bounds s d)))
-
--- The whole number
-
--- The total over the signals below k, as the code goes through them.
-module _ (p t : ℕ) (form bounds : List ℕ) where
-  abbrev pub upTo : ℕ → ℕ
-  upTo k = sum k (sumTerm p (coefIn form) (boundIn p bounds) t)
-
-  term-past : (s : ℕ) → length form ≤ s → sumTerm p (coefIn form) (boundIn p bounds) t s ≡ 0
+  pub term-absent : R s ≡ 0 → sumTerm p R b t s ≡ 0
   unfolding sumTerm
-  term-past s h =
-      ap (λ (x : ℕ). keep (not (eqb s t)) (x * ceiling (boundIn p bounds) s)) (weight-none p (coefIn form) t s (coef-past form s h))
-      ∙ keep-zero-times (not (eqb s t)) (ceiling (boundIn p bounds) s)
+  term-absent e = ap (keep (not (eqb s t))) (none-times _ _ (weight-none p R t s e)) ∙ keep-zero (not (eqb s t))
+
+  module _ {count scale : ℕ} (S : Scale p R count t scale) (other : s ≡ t → ⊥) (w : ℕ) (w-is : w ≡ (0 + R s * scale) % p) where
+    -- the target's sign is as good as the signal's
+    weight-is : w ≡ sumWeight p R t s
+    unfolding sumWeight
+    weight-is =
+        let i = inverse p (R t) in
+        w-is
+        ∙ rw (S .is, zero-add, mul-comm (R s) (opposite p i))
+        (opposite-times i (R s) (S .modulus) .is ∙ rw (mul-comm i (R s)) (sym (opposite-times (R s) i (S .modulus) .is)))
+
+    term-other : sumTerm p R b t s ≡ w * ceiling b s
+    unfolding sumTerm
+    term-other = keep-true _ _ (ap not (ne-eqb s t other)) ∙ ap (λ (x : ℕ). x * ceiling b s) (sym weight-is)
+
+    pub term-constant : s ≡ 0 → w ≡ sumTerm p R b t s
+    unfolding ceiling
+    term-constant e = sym (term-other ∙ ap (λ (x : ℕ). w * ceiling b x) e ∙ mul-one _)
+
+    pub term-signal : (s ≡ 0 → ⊥) → (r : ℕ) → r ≡ w * b s → r ≡ sumTerm p R b t s
+    term-signal d r r-is = r-is ∙ sym (term-other ∙ ap (λ (x : ℕ). w * x) (ceiling-signal b s d))
+
+-- The sum as far as a limit
+
+module _ {p : ℕ} {R : ℕ → ℕ} (b : ℕ → ℕ) {count e : ℕ} (limit : ℕ) where
+  pub summed-none : (0 < p → Target R count e → ⊥) → Summed p R b count e limit limit
+  summed-none d = record { most = omega arith; target = λ h. absurd (omega arith); is = λ h T. absurd (d h T) }
+
+  module _ {scale : ℕ} (S : Scale p R count e scale) (k total : ℕ) (total-is : total ≡ sum k (sumTerm p R b e)) where
+    pub summed-over : k < count → (x : ℕ) → x ≡ sumTerm p R b e k → limit ≤ total + x → Summed p R b count e limit limit
+    summed-over h x x-is over =
+        record { most = omega arith; target = λ l. S .target; is = λ l T. omega (arith, sum-over (sumTerm p R b e) k count total x limit total-is x-is h over) }
+
+    pub summed-whole : k ≡ count → total ≤ limit → Summed p R b count e limit total
+    summed-whole end h =
+        record { most = h; target = λ l. S .target; is = λ l T. omega (arith, sum-at-end k count (sumTerm p R b e) end) }
+
+-- The highest bound
+
+-- the place e with the highest bound is not among those below i, or found
+pub data Sought (b : ℕ → ℕ) (i found top e : ℕ) : Type 0 where
+  ahead : i ≤ e → top < b e → Sought b i found top e
+  behind : e < i → found ≡ e → top ≡ b e → Sought b i found top e
+
+pub record Seen (R b : ℕ → ℕ) (count i found top : ℕ) : Type 0 where
+  pub each : (e : ℕ) → Highest R b count e → Sought b i found top e
+
+module _ {R b : ℕ → ℕ} {count : ℕ} where
+  pub seen-start : Seen R b count 1 0 0
+  seen-start = record { each = λ e H. ahead (H .target .least) (H .positive) }
+
+  pub seen-end : {i found top : ℕ} → Seen R b count i found top → count ≤ i → (e : ℕ) → Highest R b count e → found ≡ e
+  seen-end {i} {found} {top} F h e H = go (F .each e H)
     where
-      keep-zero-times : (b : Bool) (x : ℕ) → keep b (0 * x) ≡ 0
-      keep-zero-times b x = rw (none-times 0 x refl) (keep-zero b)
+      go : Sought b i found top e → found ≡ e
+      go (ahead l t) = absurd (omega (arith, H .target .before))
+      go (behind l f t) = f
 
-  pub total-none : (n : ℕ) → p ≡ 0
-      → 0 ≡ min p (sumBound p n (coefIn form) (boundIn p bounds) t)
-  total-none n e = omega arith
+  module _ {i found top : ℕ} (F : Seen R b count i found top) where
+    pub seen-same : ((R i ≡ 0 → ⊥) → b i < top) → Seen R b count (i + 1) found top
+    seen-same low = record { each = λ e H. go e H (F .each e H) (ℕ-discrete i e) }
+      where
+        go : (e : ℕ) → Highest R b count e → Sought b i found top e → Dec (i ≡ e) → Sought b (i + 1) found top e
+        go e H (ahead l t) (yes q) = absurd (omega (arith, low (rw q (H .target .present)), ap b q))
+        go e H (ahead l t) (no d) = ahead (omega arith) t
+        go e H (behind l f t) d = behind (omega arith) f t
 
-  pub total-on : (k total x : ℕ) → total ≡ upTo k → x ≡ sumTerm p (coefIn form) (boundIn p bounds) t k → total + x ≡ upTo (k + 1)
-  total-on k total x e g = rw (add-one k) (omega (arith, sum-last k (sumTerm p (coefIn form) (boundIn p bounds) t)))
+    module _ (T : Target R count i) where
+      pub seen-new : top < b i → Seen R b count (i + 1) i (b i)
+      seen-new high = record { each = λ e H. go e H (F .each e H) (ℕ-discrete i e) }
+        where
+          go : (e : ℕ) → Highest R b count e → Sought b i found top e → Dec (i ≡ e) → Sought b (i + 1) i (b i) e
+          go e H s (yes q) = behind (omega arith) q (ap b q)
+          go e H (ahead l t) (no d) = ahead (omega arith) (H .above i T d)
+          go e H (behind l f t) (no d) = absurd (omega (arith, H .above i T d))
 
-  -- the total reaches p
-  pub total-over : (n k end total : ℕ) → end ≡ min (n + 1) (length form) → k < end → total ≡ upTo (k + 1) → p ≤ total
-      → p ≡ min p (sumBound p n (coefIn form) (boundIn p bounds) t)
-  unfolding sumBound
-  total-over n k end total end-is h e over =
-      omega (
-        arith,
-        sum-grows (k + 1) (suc n) (sumTerm p (coefIn form) (boundIn p bounds) t) (omega arith),
-      )
-
-  -- the total is whole, below p
-  pub total-end : (n k end total : ℕ) → end ≡ min (n + 1) (length form) → k ≡ end → total ≡ upTo k → total < p
-      → total ≡ min p (sumBound p n (coefIn form) (boundIn p bounds) t)
-  unfolding sumBound
-  total-end n k end total end-is h e below =
-      omega (arith, whole (decLe (suc n) (length form)))
-    where
-      whole : Dec (suc n ≤ length form) → upTo (suc n) ≡ upTo k
-      whole (yes l) = ap upTo (omega arith)
-      whole (no l) = sum-short k (suc n) _ (omega arith) (λ s g l. term-past s (omega arith))
+      pub seen-tied : b i ≡ top → Seen R b count (i + 1) 0 top
+      seen-tied tied = record { each = λ e H. go e H (F .each e H) (ℕ-discrete i e) }
+        where
+          go : (e : ℕ) → Highest R b count e → Sought b i found top e → Dec (i ≡ e) → Sought b (i + 1) 0 top e
+          go e H (ahead l t) (yes q) = absurd (omega (arith, ap b q))
+          go e H (ahead l t) (no d) = ahead (omega arith) t
+          go e H (behind l f t) (yes q) = absurd (omega arith)
+          go e H (behind l f t) (no d) = absurd (omega (arith, H .above i T d))

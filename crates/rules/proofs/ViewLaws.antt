@@ -4,11 +4,11 @@ use mathlib.Core.Path.{_≡_, refl, sym, ap, _∙_, fun-ext}
 use mathlib.Core.Bool.{Bool, true, false}
 use mathlib.Core.List.{List, [], _∷_}
 use native.Mathlib.Omega.{arith}
-use native.Mathlib.Decide.{ℕ-discrete, decLe}
 use lib.ListN.{length, getD, set, replicate, List·getD-eq-default, length-replicate, getD-replicate}
 use lib.Seq.{getD-set-same, getD-set-other}
 use Rattle.laws.specs.Problem.{largest}
 use Rattle.laws.specs.Standing.{put, add, lower, mark}
+use Rattle.laws.proofs.Sum.{by-equal, by-order}
 use Rattle.laws.proofs.Order.{put-same, put-other, add-same, add-other}
 use Rattle.rules.specs.View.{coefIn, boundIn, markIn, viewOf}
 
@@ -39,15 +39,8 @@ bound-within p bounds s h = getD-within bounds s 0 (p - 1) h
 -- one element repeated
 
 pub getD-repeated : {A : Type 0} (n i : ℕ) (a : A) → getD (replicate n a) i a ≡ a
-getD-repeated n i a = go (decLe (suc i) n)
-  where
-    go : Dec (suc i ≤ n) → getD (replicate n a) i a ≡ a
-    go (yes h) = getD-replicate n i a a h
-    go (no h) = List·getD-eq-default (replicate n a) a (rw (length-replicate n a) (omega arith))
-
-pub coef-none : (n s : ℕ) → coefIn (replicate n 0) s ≡ 0
-unfolding coefIn
-coef-none n s = getD-repeated n s 0
+getD-repeated n i a =
+    by-order i n (λ h. getD-replicate n i a a h) (λ h. List·getD-eq-default (replicate n a) a (rw (length-replicate n a) h))
 
 pub mark-none : (n s : ℕ) → markIn (replicate n false) s ≡ false
 unfolding markIn
@@ -59,21 +52,27 @@ bound-largest p n = fun-ext (λ s. getD-repeated n s (p - 1))
 
 -- a store
 
+pub coef-set-same : (form : List ℕ) (s x : ℕ) → s < length form → coefIn (set form s x) s ≡ x
+unfolding coefIn
+coef-set-same form s x h = getD-set-same form s x 0 h
+
+pub coef-set-other : (form : List ℕ) (t s x : ℕ) → (s ≡ t → ⊥) → coefIn (set form t x) s ≡ coefIn form s
+unfolding coefIn
+coef-set-other form t s x d = getD-set-other form t s x 0 d
+
 pub bound-set : (p : ℕ) (bounds : List ℕ) (t x : ℕ) → t < length bounds → boundIn p (set bounds t x) ≡ put (boundIn p bounds) t x
 unfolding boundIn
-bound-set p bounds t x h = fun-ext (λ s. go s (ℕ-discrete s t))
-  where
-    go : (s : ℕ) → Dec (s ≡ t) → getD (set bounds t x) s (p - 1) ≡ put (boundIn p bounds) t x s
-    go s (yes e) = rw e (getD-set-same bounds t x (p - 1) h ∙ sym (put-same _ t x))
-    go s (no d) = getD-set-other bounds t s x (p - 1) d ∙ sym (put-other _ t x s d)
+bound-set p bounds t x h =
+    fun-ext (λ s.
+    by-equal s t (λ e. rw e (getD-set-same bounds t x (p - 1) h ∙ sym (put-same _ t x)))
+    (λ d. getD-set-other bounds t s x (p - 1) d ∙ sym (put-other _ t x s d)))
 
 pub mark-set : (marks : List Bool) (t : ℕ) → t < length marks → markIn (set marks t true) ≡ add (markIn marks) t
 unfolding markIn
-mark-set marks t h = fun-ext (λ s. go s (ℕ-discrete s t))
-  where
-    go : (s : ℕ) → Dec (s ≡ t) → getD (set marks t true) s false ≡ add (markIn marks) t s
-    go s (yes e) = rw e (getD-set-same marks t true false h ∙ sym (add-same _ t))
-    go s (no d) = getD-set-other marks t s true false d ∙ sym (add-other _ t s d)
+mark-set marks t h =
+    fun-ext (λ s.
+    by-equal s t (λ e. rw e (getD-set-same marks t true false h ∙ sym (add-same _ t)))
+    (λ d. getD-set-other marks t s true false d ∙ sym (add-other _ t s d)))
 
 pub view-lower : (p : ℕ) (bounds : List ℕ) (marks : List Bool) (t x : ℕ) → t < length bounds
     → viewOf p (set bounds t (min (boundIn p bounds t) x)) marks ≡ lower (viewOf p bounds marks) t x

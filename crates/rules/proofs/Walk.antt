@@ -2,7 +2,7 @@
 use Prim.Native.Nat.{ℕ, zero, suc, _+_, _-_, _*_, _%_, _≤_, _<_}
 use mathlib.Core.Path.{_≡_, refl, sym, ap, _∙_}
 use mathlib.Core.Logic.{_⊎_, inl, inr, ⊎-elim}
-use mathlib.Core.Bool.{Bool, true, false, cond, not, _&&_, _||_}
+use mathlib.Core.Bool.{Bool, true, false, cond, _&&_, _||_, or-true}
 use mathlib.Core.List.{List, []}
 use native.Mathlib.Nat.{add-zero, zero-add}
 use native.Mathlib.Omega.{arith}
@@ -11,80 +11,37 @@ use lib.ListN.{length, drop, set}
 use lib.Seq.{drop-drop, set-out}
 use borrow.Author.Tests.{eq-eqb, ne-eqb, leb-true, leb-false, ltb-false}
 use Rattle.circuit.specs.Bytes.{byteAt, u16At, u32At}
-use Rattle.circuit.specs.Circuit.{Term, Form, coef, names}
+use Rattle.circuit.specs.Circuit.{Form, coef, names}
 use Rattle.circuit.specs.Reader.{signalsMost, termKept, termsIn, formIn}
 use Rattle.circuit.proofs.ByteLaws.{u16-drop, u32-drop}
 use Rattle.circuit.proofs.ReaderLaws.{one-more}
 use Rattle.laws.specs.Rules.{othersMarked}
-use Rattle.laws.proofs.Sum.{by-test}
+use Rattle.laws.proofs.Sum.{by-test, and-left, or-false}
 use Rattle.laws.proofs.Forms.{unnamed-coef}
 use Rattle.rules.specs.View.{coefIn}
 use Rattle.rules.specs.Steps.{allowed, placeOf, added}
-
-or-true : (a : Bool) → (a || true) ≡ true
-or-true true = refl
-or-true false = refl
-
-or-false : (a : Bool) → (a || false) ≡ a
-or-false true = refl
-or-false false = refl
 
 -- the terms that are left from an offset on
 unfoldable pub termsFrom : List ℕ → ℕ → ℕ → Form
 termsFrom s left at = termsIn left (drop at s)
 
-pub form-terms : (s : List ℕ) → formIn s ≡ termsFrom s (byteAt s 0) 1
-unfolding formIn termsFrom
-form-terms s = refl
-
-pub terms-none : (s : List ℕ) (at : ℕ) → termsFrom s 0 at ≡ []
-unfolding termsFrom termsIn
-terms-none s at = refl
-
-abbrev pub termFrom : List ℕ → ℕ → Term
-termFrom s at = record { signal = u16At s at; coefficient = u32At s (at + 2) }
-
-terms-turn : (s : List ℕ) (left at : ℕ) → termsFrom s (suc left) at ≡ termKept (leb (u16At s at) signalsMost) (termFrom s at) (termsFrom s left (at + 6))
+terms-turn : (s : List ℕ) (left at : ℕ)
+    → termsFrom s (suc left) at
+    ≡ termKept (leb (u16At s at) signalsMost) (record { signal = u16At s at; coefficient = u32At s (at + 2) }) (termsFrom s left (at + 6))
 unfolding termsFrom termsIn
 terms-turn s left at = simp (u16-drop, u32-drop, drop-drop, add-zero)
-
--- what a walk finds at a term, kept or passed over
-
-kept-names : (b : Bool) (x : Term) (f : Form) (t : ℕ) → names (termKept b x f) t ≡ ((b && eqb (x .signal) t) || names f t)
-unfolding names
-kept-names true x f t = refl
-kept-names false x f t = refl
-
-kept-others : (b : Bool) (x : Term) (f : Form) (m : ℕ → Bool) (t : ℕ)
-    → othersMarked m t (termKept b x f) ≡ ((not b || (eqb (x .signal) 0 || eqb (x .signal) t || m (x .signal))) && othersMarked m t f)
-unfolding othersMarked
-kept-others true x f m t = refl
-kept-others false x f m t = refl
-
-kept-coef : (b : Bool) (x : Term) (f : Form) (t : ℕ) → (b ≡ false → eqb (x .signal) t ≡ false)
-    → coef (termKept b x f) t ≡ cond (eqb (x .signal) t) (x .coefficient) 0 + coef f t
-unfolding coef
-kept-coef true x f t h = refl
-kept-coef false x f t h = rw (h refl, zero-add)
 
 -- the place of a signal in an array: its own, or the width where it is passed over or too large
 place-within : (x width : ℕ) → placeOf x width < width → (leb x signalsMost ≡ true) × (placeOf x width ≡ x)
 unfolding placeOf
-place-within x width = go (leb x signalsMost) refl (ltb x width) refl
-  where
-    go : (a : Bool) → leb x signalsMost ≡ a → (b : Bool) → ltb x width ≡ b → cond (a && b) x width < width → (a ≡ true) × (cond (a && b) x width ≡ x)
-    go true e true g h = (refl, refl)
-    go true e false g h = absurd (omega arith)
-    go false e b g h = absurd (omega arith)
+place-within x width h =
+    by-test (leb x signalsMost && ltb x width) (λ e. (and-left _ _ e, rw e)) (λ e. absurd (omega (arith, rw e at h)))
 
 place-beyond : (x width : ℕ) → width ≤ placeOf x width → (leb x signalsMost ≡ false) ⊎ (width ≤ x)
 unfolding placeOf
-place-beyond x width = go (leb x signalsMost) refl (ltb x width) refl
-  where
-    go : (a : Bool) → leb x signalsMost ≡ a → (b : Bool) → ltb x width ≡ b → width ≤ cond (a && b) x width → (a ≡ false) ⊎ (width ≤ x)
-    go true e true g h = inr h
-    go true e false g h = inr (ltb-false x width g)
-    go false e b g h = inl refl
+place-beyond x width h =
+    by-test (leb x signalsMost && ltb x width) (λ e. inr (rw e at h))
+    (λ e. by-test (leb x signalsMost) (λ g. inr (ltb-false x width (rw g at e))) inl)
 
 -- A turn of each walk at an offset where terms are left.
 module _ (s : List ℕ) (left at : ℕ) (some : 0 < left) (signal : ℕ) (known : signal ≡ u16At s at) where
@@ -92,44 +49,45 @@ module _ (s : List ℕ) (left at : ℕ) (some : 0 < left) (signal : ℕ) (known 
       ≡ termKept (leb signal signalsMost) (record { signal = signal; coefficient = u32At s (at + 2) }) (termsFrom s (left - 1) (at + 6))
   turn = ap (λ (k : ℕ). termsFrom s k at) (one-more some) ∙ terms-turn s (left - 1) at ∙ rw known
 
-  high : (t : ℕ) → t ≤ signalsMost → leb signal signalsMost ≡ false → eqb signal t ≡ false
-  high t h e = ne-eqb signal t λ (g : signal ≡ t). omega (arith, leb-false signal signalsMost e)
-
   pub names-turn : (t : ℕ) → names (termsFrom s left at) t ≡ ((leb signal signalsMost && eqb signal t) || names (termsFrom s (left - 1) (at + 6)) t)
-  names-turn t = rw turn (kept-names (leb signal signalsMost) _ _ t)
+  unfolding names
+  names-turn t = rw turn (by-test (leb signal signalsMost) (λ e. rw e) (λ e. rw e))
 
   pub others-turn : (m : ℕ → Bool) (t : ℕ) → othersMarked m t (termsFrom s left at) ≡ (allowed m t signal && othersMarked m t (termsFrom s (left - 1) (at + 6)))
-  unfolding allowed
-  others-turn m t = rw turn (kept-others (leb signal signalsMost) _ _ m t)
+  unfolding allowed othersMarked
+  others-turn m t = rw turn (by-test (leb signal signalsMost) (λ e. rw e) (λ e. rw e))
 
   pub coef-turn : (t : ℕ) → t ≤ signalsMost
       → coef (termsFrom s left at) t ≡ cond (eqb signal t) (u32At s (at + 2)) 0 + coef (termsFrom s (left - 1) (at + 6)) t
-  coef-turn t h = rw turn (kept-coef (leb signal signalsMost) _ _ t (high t h))
+  unfolding coef
+  coef-turn t h =
+      rw turn
+      (by-test (leb signal signalsMost) (λ e. rw e)
+      (λ e. rw (e, ne-eqb signal t (λ (g : signal ≡ t). omega (arith, leb-false signal signalsMost e)), zero-add)))
 
--- The steps of each walk, from what is known where it stands on to what the code does there.
-module _ (s : List ℕ) (left at : ℕ) (some : 0 < left) (signal : ℕ) (known : signal ≡ u16At s at) where
+  -- The steps of each walk, from what is known where it stands on to what the code does there.
   module _ (t : ℕ) (z found b : Bool) (inv : z ≡ (found || names (termsFrom s left at) t)) (told : b ≡ (leb signal signalsMost && eqb signal t)) where
     pub names-hit : b ≡ true → z ≡ (true || names (termsFrom s (left - 1) (at + 6)) t)
-    names-hit e = inv ∙ rw (names-turn s left at some signal known t, sym told ∙ e) (or-true found)
+    names-hit e = inv ∙ rw (names-turn t, sym told ∙ e) (or-true found)
 
     pub names-on : b ≡ false → z ≡ (found || names (termsFrom s (left - 1) (at + 6)) t)
-    names-on e = inv ∙ rw (names-turn s left at some signal known t, sym told ∙ e)
+    names-on e = inv ∙ rw (names-turn t, sym told ∙ e)
 
   module _
       (m : ℕ → Bool) (t : ℕ) (z : Bool) (inv : z ≡ othersMarked m t (termsFrom s left at)) (b : Bool)
       (found : b ≡ allowed m t signal) where
     pub others-stop : b ≡ false → z ≡ false
-    others-stop e = inv ∙ others-turn s left at some signal known m t ∙ rw (sym found ∙ e)
+    others-stop e = inv ∙ others-turn m t ∙ rw (sym found ∙ e)
 
     pub others-on : b ≡ true → z ≡ othersMarked m t (termsFrom s (left - 1) (at + 6))
-    others-on e = inv ∙ others-turn s left at some signal known m t ∙ rw (sym found ∙ e)
+    others-on e = inv ∙ others-turn m t ∙ rw (sym found ∙ e)
 
   module _ (t : ℕ) (low : t ≤ signalsMost) (z total : ℕ) (inv : z ≡ total + coef (termsFrom s left at) t) where
     pub coef-hit : signal ≡ t → (x : ℕ) → x ≡ u32At s (at + 2) → z ≡ total + x + coef (termsFrom s (left - 1) (at + 6)) t
     coef-hit e x known-x =
         omega (
           arith,
-          coef-turn s left at some signal known t low,
+          coef-turn t low,
           ap (λ (b : Bool). cond b (u32At s (at + 2)) 0) (eq-eqb signal t e),
         )
 
@@ -137,7 +95,7 @@ module _ (s : List ℕ) (left at : ℕ) (some : 0 < left) (signal : ℕ) (known 
     coef-on d =
         omega (
           arith,
-          coef-turn s left at some signal known t low,
+          coef-turn t low,
           ap (λ (b : Bool). cond b (u32At s (at + 2)) 0) (ne-eqb signal t d),
         )
 
@@ -150,10 +108,10 @@ module _ (s : List ℕ) (left at : ℕ) (some : 0 < left) (signal : ℕ) (known 
 
     added-kept : leb signal signalsMost ≡ true → z ≡ added p k rest (here signal)
     unfolding added
-    added-kept e = inv ∙ rw (turn s left at some signal known, e)
+    added-kept e = inv ∙ rw (turn, e)
 
     added-passed : leb signal signalsMost ≡ false → z ≡ added p k rest acc
-    added-passed e = inv ∙ rw (turn s left at some signal known, e)
+    added-passed e = inv ∙ rw (turn, e)
 
     pub added-hit : place < length acc → (x r : ℕ) → x ≡ u32At s (at + 2) → r ≡ (coefIn acc place + k * x) % p → z ≡ added p k rest (set acc place r)
     added-hit h x r known-x e =
@@ -173,12 +131,14 @@ module _ (s : List ℕ) (left at : ℕ) (some : 0 < left) (signal : ℕ) (known 
 -- the start of each walk, by the count byte
 module _ (s : List ℕ) (count : ℕ) (known : count ≡ byteAt s 0) where
   pub form-start : formIn s ≡ termsFrom s count 1
-  form-start = form-terms s ∙ ap (λ (k : ℕ). termsFrom s k 1) (sym known)
+  unfolding formIn termsFrom
+  form-start = rw known
 
 -- and its end, where no terms are left
 module _ (s : List ℕ) (left at : ℕ) (none : left ≤ 0) where
   pub terms-end : termsFrom s left at ≡ []
-  terms-end = ap (λ (k : ℕ). termsFrom s k at) (omega arith) ∙ terms-none s at
+  unfolding termsFrom termsIn
+  terms-end = let z : left ≡ 0 = omega arith in rw z
 
   pub names-end : (t : ℕ) (z found : Bool) → z ≡ (found || names (termsFrom s left at) t) → z ≡ found
   unfolding names

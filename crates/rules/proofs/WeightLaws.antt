@@ -1,38 +1,21 @@
--- Whether the weights of the unmarked signals differ: by the coefficients where a scale keeps them apart, else one against the other.
+-- Coefficients of the unmarked entries: which entries are unmarked, whether coefficients differ, and that weights modulo a prime tell them apart.
 use Prim.Native.Nat.{ℕ, zero, suc, _+_, _*_, _%_, _≤_, _<_, min, max}
 use mathlib.Core.Path.{_≡_, refl, sym, _∙_}
-use mathlib.Core.Logic.{_⊎_, inl, inr, ⊎-elim}
-use mathlib.Core.Bool.{Bool, true, false, not, _&&_}
-use mathlib.Core.List.{List}
-use native.Mathlib.Nat.{mod-eq-of-lt, zero-add}
-use native.Mathlib.Decide.{decLe}
+use mathlib.Core.Bool.{Bool, true, false, not}
+use native.Mathlib.Nat.{zero-mul, zero-mod, pos-of-ne-zero}
 use native.Mathlib.Omega.{arith}
-use lib.Dec.{eqb}
-use lib.ListN.{length}
-use borrow.Author.Tests.{eq-eqb, ne-eqb, eqb-true}
+use borrow.Author.Tests.{eq-eqb, ne-eqb}
+use borrow.Author.Count.{below-more}
 use Rattle.field.specs.Residue.{Congruent}
 use Rattle.field.specs.Prime.{Prime}
 use Rattle.field.specs.Inverse.{inverse}
 use Rattle.field.proofs.Residue.{congruent-refl, congruent-sym, congruent-plus, congruent-times, congruent-shift, congruent-below}
 use Rattle.field.proofs.Inverse.{inverse-is}
 use Rattle.laws.specs.Rules.{occurs, live}
-use Rattle.laws.proofs.Sum.{and-left, and-right, and-both, true-or-false}
-use Rattle.rules.specs.View.{coefIn}
-use Rattle.rules.specs.Weights.{scaled, Exact, Alone, AtMost, Differ}
-use Rattle.rules.proofs.ViewLaws.{coef-past}
+use Rattle.laws.proofs.Sum.{true-or-false, by-order}
+use Rattle.rules.specs.Weights.{Unlike, Differ, Between}
 
-pub lt-or-last : (s k : ℕ) → s < k + 1 → (s < k) ⊎ (s ≡ k)
-lt-or-last s k h = go (decLe (suc s) k)
-  where
-    go : Dec (suc s ≤ k) → (s < k) ⊎ (s ≡ k)
-    go (yes e) = inl e
-    go (no d) = inr (omega arith)
-
--- what holds of the indices below k and of k
-pub one-more : {A : ℕ → Type 0} (k : ℕ) → ((u : ℕ) → u < k → A u) → A k → (u : ℕ) → u < k + 1 → A u
-one-more {A} k before here u l = ⊎-elim (λ (b : u < k). before u b) (λ (b : u ≡ k). rw b here) (lt-or-last u k l)
-
--- Live signals
+-- Unmarked entries
 
 pub live-none : (R : ℕ → ℕ) (m : ℕ → Bool) (s : ℕ) → s ≡ 0 → live R m s ≡ false
 unfolding live
@@ -49,21 +32,22 @@ unfolding live occurs
 live-marked R m zero d e = absurd (d refl)
 live-marked R m (suc s) d e = rw (ne-eqb (R (suc s)) 0 e)
 
-pub live-past : (form : List ℕ) (m : ℕ → Bool) (s : ℕ) → length form ≤ s → live (coefIn form) m s ≡ false
-live-past form m s h = live-absent (coefIn form) m s (coef-past form s h)
+pub live-some : (R : ℕ → ℕ) (m : ℕ → Bool) (s : ℕ) → live R m s ≡ true → R s ≡ 0 → ⊥
+live-some R m s e z = true-or-false _ e (live-absent R m s z)
 
-pub live-within : (form : List ℕ) (m : ℕ → Bool) (s : ℕ) → live (coefIn form) m s ≡ true → s < length form
-live-within form m s e = go (decLe (suc s) (length form))
-  where
-    go : Dec (suc s ≤ length form) → s < length form
-    go (yes h) = h
-    go (no h) = true-or-false _ e (live-past form m s (omega arith))
+pub live-least : (R : ℕ → ℕ) (m : ℕ → Bool) (s : ℕ) → live R m s ≡ true → 1 ≤ s
+live-least R m zero e = true-or-false _ e (live-none R m 0 refl)
+live-least R m (suc s) e = omega arith
 
--- A scale that has an inverse keeps coefficients apart
+-- two entries, of two forms, that agree
+pub live-alike : (R R′ : ℕ → ℕ) (m m′ : ℕ → Bool) (s i : ℕ) → (s ≡ 0 → i ≡ 0) → (i ≡ 0 → s ≡ 0) → R s ≡ R′ i → m s ≡ m′ i → live R m s ≡ live R′ m′ i
+unfolding live occurs
+live-alike R R′ m m′ zero zero f g e h = refl
+live-alike R R′ m m′ zero (suc i) f g e h = absurd (omega (arith, f refl))
+live-alike R R′ m m′ (suc s) zero f g e h = absurd (omega (arith, g refl))
+live-alike R R′ m m′ (suc s) (suc i) f g e h = rw (e, h)
 
-pub scaled-made : (p : ℕ) (R : ℕ → ℕ) (k s c w : ℕ) → c ≡ R s → w ≡ (0 + c * k) % p → w ≡ scaled p R k s
-unfolding scaled
-scaled-made p R k s c w c-is w-is = w-is ∙ rw (zero-add, c-is)
+-- Modulo a prime
 
 -- from a·k ≈ b·k and c·k ≈ 1 follows a ≈ b
 cancel : {p : ℕ} (a b c k : ℕ) → Congruent p (a * k) (b * k) → Congruent p (c * k) 1 → Congruent p a b
@@ -73,90 +57,60 @@ cancel {p} a b c k h g =
     (congruent-plus (congruent-times (congruent-refl p b) g) (congruent-sym (congruent-times (congruent-refl p a) g))))
     (omega arith)
 
-pub exact-by : (p : ℕ) (R : ℕ → ℕ) (k c : ℕ) → Congruent p (c * k) 1 → ((s : ℕ) → R s < p) → Exact p R k
-unfolding scaled
-exact-by p R k c unit below =
-    record { back = λ s u e. congruent-below (below s) (below u) (cancel (R s) (R u) c k (record { is = e }) unit) }
+-- equal weights have equal coefficients
+pub weight-back : (p c a b : ℕ) → Prime p → (c % p ≡ 0 → ⊥) → a < p → b < p → a * inverse p c % p ≡ b * inverse p c % p → a ≡ b
+weight-back p c a b P d h g e = congruent-below h g (cancel a b c (inverse p c) (record { is = e }) (inverse-is c P d .one))
 
-pub exact-made : (p r k : ℕ) (form : List ℕ) (w : ℕ) → w ≡ scaled p (coefIn form) k r → w < p → w ≡ 1
-    → ((s : ℕ) → s < length form → coefIn form s < p) → Exact p (coefIn form) k
-unfolding scaled
-exact-made p r k form w w-is h one below =
-    exact-by p (coefIn form) k (coefIn form r) (record { is = sym w-is ∙ one ∙ sym (mod-eq-of-lt (omega arith)) }) (λ s. go s (decLe (suc s) (length form)))
-  where
-    go : (s : ℕ) → Dec (suc s ≤ length form) → coefIn form s < p
-    go s (yes l) = below s l
-    go s (no l) = omega (arith, coef-past form s (omega arith))
+pub weight-some : (p c a : ℕ) → Prime p → (c % p ≡ 0 → ⊥) → a < p → (a ≡ 0 → ⊥) → 1 ≤ a * inverse p c % p
+weight-some p c a P d h some =
+    pos-of-ne-zero (λ e. some (weight-back p c a 0 P d h (omega (arith, P .above)) (e ∙ sym (rw (zero-mul) (zero-mod p)))))
 
--- where p is a prime, the inverse of a coefficient does
-pub exact-prime : (p : ℕ) (R : ℕ → ℕ) (r : ℕ) → Prime p → (R r % p ≡ 0 → ⊥) → ((s : ℕ) → R s < p) → Exact p R (inverse p (R r))
-exact-prime p R r P d below = exact-by p R (inverse p (R r)) (R r) (inverse-is (R r) P d .one) below
-
--- and so do different coefficients
-pub differ-coefficients : (p n : ℕ) (R : ℕ → ℕ) (m : ℕ → Bool) (k : ℕ) → Exact p R k
-    → ((s u : ℕ) → s ≤ n → u < s → live R m s ≡ true → live R m u ≡ true → R u ≡ R s → ⊥) → Differ p n R m k
-differ-coefficients p n R m k E h =
-    record { alone = λ s l e. record { apart = λ u g i j. h s u l g e i (E .back u s j) } }
-
--- One signal against those below
-
-module _ (p : ℕ) (R : ℕ → ℕ) (m : ℕ → Bool) (k s : ℕ) where
-  pub alone-unlike : (c : ℕ) → c ≡ R s → Exact p R k → ((u : ℕ) → u < s → R u ≡ c → ⊥) → Alone p R m k s s
-  alone-unlike c c-is E h = record { apart = λ u l e g. h u l (E .back u s g ∙ sym c-is) }
-
-  pub alone-larger : (c most : ℕ) → c ≡ R s → Exact p R k → AtMost R m s most → most < c → Alone p R m k s s
-  alone-larger c most c-is E A h = record { apart = λ u l e g. omega (arith, A .bounded u l e, E .back u s g) }
-
-  pub alone-start : Alone p R m k s 0
-  alone-start = record { apart = λ u l e g. omega arith }
-
-  module _ (u : ℕ) (A : Alone p R m k s u) where
-    pub alone-on : (w : ℕ) → w ≡ scaled p R k s → (b : Bool) → b ≡ (live R m u && eqb (scaled p R k u) w) → b ≡ false → Alone p R m k s (u + 1)
-    alone-on w w-is b b-is d =
-        record {
-          apart = one-more u (A .apart) (λ i g. true-or-false _ (and-both (live R m u) _ i (eq-eqb _ w (g ∙ sym w-is))) (sym b-is ∙ d));
-        }
-
-  pub alone-clash : (u w : ℕ) → u < s → w ≡ scaled p R k s → (b : Bool) → b ≡ (live R m u && eqb (scaled p R k u) w) → b ≡ true
-      → Alone p R m k s s → ⊥
-  alone-clash u w l w-is b b-is e A =
-      A .apart u l (and-left (live R m u) _ (sym b-is ∙ e)) (eqb-true _ w (and-right (live R m u) _ (sym b-is ∙ e)) ∙ w-is)
-
-  pub alone-end : (u : ℕ) → s ≤ u → Alone p R m k s u → Alone p R m k s s
-  alone-end u h A = record { apart = λ v l. A .apart v (omega arith) }
-
--- The largest coefficient so far
+-- One coefficient against those of the unmarked entries before
 
 module _ (R : ℕ → ℕ) (m : ℕ → Bool) where
-  pub most-start : AtMost R m 0 0
-  most-start = record { bounded = λ u l e. absurd (omega arith) }
+  pub unlike-start : (x : ℕ) → Unlike R m 0 x
+  unlike-start x = record { apart = λ u l e g. omega arith }
 
-  pub most-on : (s most c x : ℕ) → AtMost R m s most → c ≡ R s → x ≡ max most c → AtMost R m (s + 1) x
-  most-on s most c x A c-is x-is =
-      record { bounded = one-more s (λ u l e. omega (arith, A .bounded u l e)) (λ e. omega arith) }
+  pub unlike-on : (u x : ℕ) → Unlike R m u x → (live R m u ≡ true → R u ≡ x → ⊥) → Unlike R m (u + 1) x
+  unlike-on u x U d = record { apart = below-more _ u (U .apart) d }
 
-  pub most-skip : (s most : ℕ) → AtMost R m s most → live R m s ≡ false → AtMost R m (s + 1) most
-  most-skip s most A e = record { bounded = one-more s (A .bounded) (λ i. true-or-false _ i e) }
+  pub unlike-above : (k x least most : ℕ) → Between R m k least most → most < x → Unlike R m k x
+  unlike-above k x least most B h = record { apart = λ u l e g. omega (arith, B .high u l e) }
 
--- All signals below the end
+  pub unlike-below : (k x least most : ℕ) → Between R m k least most → x < least → Unlike R m k x
+  unlike-below k x least most B h = record { apart = λ u l e g. omega (arith, B .low u l e) }
 
-pub record Passed (p : ℕ) (R : ℕ → ℕ) (m : ℕ → Bool) (k end : ℕ) : Type 0 where
-  pub alone : (s : ℕ) → s < end → live R m s ≡ true → Alone p R m k s s
+  pub between-start : (least most : ℕ) → Between R m 0 least most
+  between-start least most = record { low = λ u l e. absurd (omega arith); high = λ u l e. absurd (omega arith) }
 
-module _ (p : ℕ) (R : ℕ → ℕ) (m : ℕ → Bool) (k : ℕ) where
-  pub passed-start : Passed p R m k 0
-  passed-start = record { alone = λ s l. absurd (omega arith) }
+  module _ (k least most : ℕ) (B : Between R m k least most) where
+    pub between-skip : live R m k ≡ false → Between R m (k + 1) least most
+    between-skip e =
+        record { low = below-more _ k (B .low) (λ i. true-or-false _ i e); high = below-more _ k (B .high) (λ i. true-or-false _ i e) }
 
-  pub passed-skip : (s : ℕ) → Passed p R m k s → live R m s ≡ false → Passed p R m k (s + 1)
-  passed-skip s P e =
-      record { alone = one-more s (P .alone) (λ i. true-or-false _ i e) }
+    pub between-on : (c x y : ℕ) → c ≡ R k → x ≡ min least c → y ≡ max most c → Between R m (k + 1) x y
+    between-on c x y c-is x-is y-is =
+        record {
+          low = below-more _ k (λ u l e. omega (arith, B .low u l e)) (λ e. omega arith);
+          high = below-more _ k (λ u l e. omega (arith, B .high u l e)) (λ e. omega arith);
+        }
 
-  pub passed-on : (s : ℕ) → Passed p R m k s → Alone p R m k s s → Passed p R m k (s + 1)
-  passed-on s P A = record { alone = one-more s (P .alone) (λ i. A) }
+  -- all entries
+  pub differ-start : Differ R m 0
+  differ-start = record { alone = λ s l. absurd (omega arith) }
 
-module _ (p n end k : ℕ) (form : List ℕ) (m : ℕ → Bool) (end-is : end ≡ min (n + 1) (length form)) where
-  pub passed-end : (s : ℕ) → end ≤ s → Passed p (coefIn form) m k s → Differ p n (coefIn form) m k
-  passed-end s h P = record { alone = λ v l e. P .alone v (omega (arith, live-within form m v e)) e }
+  module _ (k : ℕ) (D : Differ R m k) where
+    pub differ-skip : live R m k ≡ false → Differ R m (k + 1)
+    differ-skip e = record { alone = below-more _ k (D .alone) (λ i. true-or-false _ i e) }
 
-  pub passed-clash : (s : ℕ) → s < end → live (coefIn form) m s ≡ true → (Alone p (coefIn form) m k s s → ⊥) → Differ p n (coefIn form) m k → ⊥
-  passed-clash s l e d D = d (D .alone s (omega arith) e)
+    pub differ-on : (c : ℕ) → c ≡ R k → Unlike R m k c → Differ R m (k + 1)
+    differ-on c c-is U = record { alone = below-more _ k (D .alone) (λ i. rw (sym c-is) U) }
+
+  pub differ-clash : (k n c : ℕ) → k < n → c ≡ R k → live R m k ≡ true → (Unlike R m k c → ⊥) → Differ R m n → ⊥
+  differ-clash k n c h c-is e d D = d (rw c-is (D .alone k h e))
+
+  -- either of two comes before the other
+  pub differ-two : (n s u : ℕ) → Differ R m n → s < n → u < n → live R m s ≡ true → live R m u ≡ true → (s ≡ u → ⊥) → R s ≡ R u → ⊥
+  differ-two n s u D l h e g d same =
+      by-order s u (λ a. D .alone u h g .apart s a e same)
+      (λ a. by-order u s (λ b. D .alone s l e .apart u b g (sym same)) (λ b. d (omega arith)))

@@ -2,6 +2,7 @@
 
 ghost use mathlib.Core.Path.{_≡_};
 ghost use Prim.Native.Nat.{_+_, _*_, _%_, _≤_, _<_, min, max};
+ghost use Rattle.field.specs.Residue as field;
 
 // v modulo p, without a division where v is below p, as it often is.
 fn residue(v: u64, p: u32) -> u32
@@ -12,6 +13,14 @@ fn residue(v: u64, p: u32) -> u32
         return v as u32;
     }
     (v % p as u64) as u32
+}
+
+// -x modulo p, from 1 to p.
+pub(crate) fn opposite(x: u32, p: u32) -> u32
+    requires { ⌜ 0 < p ⌝ }
+    ensures { λ r. ⌜ r ≡ field.opposite p x ⌝ }
+{
+    p - residue(x as u64, p)
 }
 
 // x + a·b modulo p.

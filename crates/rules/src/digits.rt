@@ -1,167 +1,237 @@
-// The digits rule: whether the weights of the unmarked signals of a form separate their values, as those of a mixed-radix numeral do.
-// Equal weights are sought among the coefficients, whatever the reference. Sums run over the signals with a bound above 0, of which a
-// form that passes has fewer than 32, since 2 to their number is at most p.
+// The digits rule over a row: whether the weights of its unmarked signals separate their values, as those of a mixed-radix numeral do.
+// What doesn't turn on the reference is tested once: modulo a prime weights differ exactly if coefficients do. Sums run over the entries with
+// a bound above 0, of which a row that passes has fewer than 32, since 2 to their number is at most p.
 
 use crate::arith::larger;
+use crate::arith::lesser;
 use crate::arith::multiply_add;
 use crate::arith::product;
 use crate::constraint::is_linear;
-use crate::form::reduced_form;
 use crate::view::bound_at;
-use crate::view::coef_at;
 use crate::view::mark_at;
-use crate::view::signals_end;
 use field::modular::inverse;
 ghost use mathlib.Core.Path.{_≡_};
-ghost use mathlib.Core.Bool.{true, false, _&&_};
-ghost use Prim.Native.Nat.{ℕ, _≤_, _<_};
-ghost use lib.Dec.{eqb};
-ghost use lib.ListN.{length};
-ghost use Rattle.field.specs.Inverse as field;
+ghost use mathlib.Core.Bool.{true, false};
+ghost use mathlib.Core.List.{List};
+ghost use Prim.Native.Nat.{ℕ, _*_, _%_, _≤_, _<_};
+ghost use Rattle.field.specs.Prime.{Prime};
+ghost use Rattle.circuit.specs.Circuit.{Constraint};
 ghost use Rattle.circuit.specs.Reader.{constraintIn};
 ghost use Rattle.laws.specs.Sum.{sum, all};
-ghost use Rattle.laws.specs.Rules.{live};
+ghost use Rattle.laws.specs.Rules.{live, reduced, occurs};
 ghost use Rattle.laws.specs.Rules as specs;
 ghost use Rattle.rules.specs.View.{coefIn, boundIn, markIn};
-ghost use Rattle.rules.specs.Weights.{scaled, Exact, Alone, Sought, Differ, Last, positive, smaller, smallerAt, exceeds};
+ghost use Rattle.rules.specs.Rows.{entries, Row, signalOn, coefOn, markOn};
+ghost use Rattle.rules.specs.Weights.{boundsOn, Unlike, Differ, Between, Gathers, Ready, Prepared};
+ghost use Rattle.rules.specs.Weights.{smaller, smallerAt, exceeds, Tells, FirstLive};
 
-// Whether s is an unmarked signal of the form.
-fn is_live(form: &[u32], marks: &[bool], s: usize) -> bool
-    ensures { λ r. ⌜ r ≡ live (coefIn (now (form .entry))) (markIn (now (marks .entry))) s ⌝ }
-{
-    if s == 0 {
-        return false;
-    }
-    if coef_at(form, s) == 0 {
-        return false;
-    }
-    !mark_at(marks, s)
+// Coefficients and bounds of the unmarked entries with a bound above 0, fewer than 32 of them. With a count of 32 no reference separates.
+pub struct Few {
+    pub coefs: [u32; 32],
+    pub bounds: [u32; 32],
+    pub count: usize,
 }
 
-// The weight of signal s, where the scale is the inverse of the reference's coefficient.
-fn weight_at(form: &[u32], s: usize, p: u32, scale: u32) -> u32
-    requires { ⌜ 0 < p ⌝ }
-    ensures { λ r. ⌜ (r ≡ scaled p (coefIn (now (form .entry))) scale s) × (r < p) ⌝ }
+// The signal of entry i.
+fn signal_on(row: &[u32], i: usize) -> u32
+    requires { ⌜ i < entries (now row) ⌝ }
+    ensures { λ r. ⌜ r ≡ signalOn (now (row .entry)) i ⌝ }
 {
-    multiply_add(0, coef_at(form, s), scale, p)
+    row[2 * i]
 }
 
-// Whether all coefficients are below p. No early end, so that the loop takes several at once.
-fn all_below(form: &[u32], p: u32) -> bool
-    ensures { λ r. ⌜ (r ≡ true → (s : ℕ) → s < length (now (form .entry)) → coefIn (now (form .entry)) s < p) ⌝ }
+// The coefficient of entry i.
+fn coef_on(row: &[u32], i: usize) -> u32
+    requires { ⌜ i < entries (now row) ⌝ }
+    ensures { λ r. ⌜ r ≡ coefOn (now (row .entry)) i ⌝ }
 {
-    let mut below = true;
-    let mut s: usize = 0;
-    while s < form.len() {
-        if p <= form[s] {
-            below = false;
+    row[2 * i + 1]
+}
+
+// Whether entry i is an unmarked signal with a coefficient.
+fn is_live(row: &[u32], marks: &[bool], i: usize) -> bool
+    requires { ⌜ i < entries (now row) ⌝ }
+    ensures { λ r. ⌜ r ≡ live (coefOn (now (row .entry))) (markOn (now (marks .entry)) (now (row .entry))) i ⌝ }
+{
+    if i == 0 {
+        return false;
+    }
+    if coef_on(row, i) == 0 {
+        return false;
+    }
+    !mark_at(marks, signal_on(row, i) as usize)
+}
+
+// The bound of entry i if it is one, else 0.
+fn live_bound<'a>(row: &[u32], bounds: &'a [u32], marks: &'a [bool], i: usize, p: u32) -> u32
+    requires { ⌜ i < entries (now row) ⌝ }
+    ensures { λ r. ⌜ r ≡ boundsOn p (now (bounds .entry)) (now (marks .entry)) (now (row .entry)) i ⌝ }
+{
+    if !is_live(row, marks, i) {
+        return 0;
+    }
+    bound_at(bounds, signal_on(row, i) as usize, p)
+}
+
+// The lowest unmarked signal of the row with a coefficient, 0 where there is none.
+pub fn first_live(row: &[u32], marks: &[bool]) -> u32
+    ensures { λ r. ⌜ ((p n : ℕ) (K : Constraint) → 0 < p → Row p n K (now (row .entry))
+        → FirstLive n (reduced p K) (markIn (now (marks .entry))) r) ⌝ }
+{
+    let end = row.len() / 2;
+    let mut i: usize = 0;
+    while i < end {
+        if is_live(row, marks, i) {
+            return signal_on(row, i);
         }
-        s = s + 1;
+        i = i + 1;
     }
-    below
+    0
 }
 
-// Whether different coefficients have different weights, as where p is a prime.
-fn is_exact(form: &[u32], p: u32, r: u32, scale: u32) -> bool
-    requires { ⌜ 0 < p ⌝ }
-    ensures { λ b. ⌜ (b ≡ true → Exact p (coefIn (now (form .entry))) scale) ⌝ }
+// Whether the bounds of the unmarked entries add up to p or more. So do they with weights, which are at least 1.
+fn is_crowded<'a>(row: &[u32], bounds: &'a [u32], marks: &'a [bool], p: u32) -> bool
+    ensures { λ r. ⌜ (r ≡ true → p ≤ sum (entries (now (row .entry))) (boundsOn p (now (bounds .entry)) (now (marks .entry)) (now (row .entry)))) ⌝ }
 {
-    if weight_at(form, r as usize, p, scale) != 1 {
-        return false;
+    let end = row.len() / 2;
+    let mut reach: u64 = 0;
+    let mut i: usize = 0;
+    while i < end {
+        reach = reach + live_bound(row, bounds, marks, i, p) as u64;
+        if p as u64 <= reach {
+            return true;
+        }
+        i = i + 1;
     }
-    all_below(form, p)
+    false
 }
 
-// Whether x is among the first coefficients. No early end, as above.
-fn is_among(form: &[u32], count: usize, x: u32) -> bool
-    requires { ⌜ count ≤ length (now form) ⌝ }
-    ensures { λ r. ⌜ (r ≡ false → (s : ℕ) → s < count → coefIn (now (form .entry)) s ≡ x → ⊥) ⌝ }
+// Whether x is among the first coefficients. No early end, so that the loop takes several at once.
+fn is_among(row: &[u32], count: usize, x: u32) -> bool
+    requires { ⌜ count ≤ entries (now row) ⌝ }
+    ensures { λ r. ⌜ (r ≡ false → (u : ℕ) → u < count → coefOn (now (row .entry)) u ≡ x → ⊥) ⌝ }
 {
     let mut found = false;
-    let mut s: usize = 0;
-    while s < count {
-        if form[s] == x {
+    let mut u: usize = 0;
+    while u < count {
+        if coef_on(row, u) == x {
             found = true;
         }
-        s = s + 1;
+        u = u + 1;
     }
     found
 }
 
-// Whether u is an unmarked signal of that weight.
-fn has_weight(form: &[u32], marks: &[bool], u: usize, p: u32, scale: u32, weight: u32) -> bool
-    requires { ⌜ 0 < p ⌝ }
-    ensures { λ r. ⌜ r ≡ (live (coefIn (now (form .entry))) (markIn (now (marks .entry))) u
-        && eqb (scaled p (coefIn (now (form .entry))) scale u) weight) ⌝ }
+// Whether x is among the coefficients of the first unmarked entries, which are `least` to `most`: outside of that range no search is needed.
+fn is_taken(row: &[u32], marks: &[bool], count: usize, x: u32, least: u32, most: u32) -> bool
+    requires { ⌜ (count ≤ entries (now row)) × Between (coefOn (now row)) (markOn (now marks) (now row)) count least most ⌝ }
+    ensures { λ r. ⌜ (r ≡ false → Unlike (coefOn (now (row .entry))) (markOn (now (marks .entry)) (now (row .entry))) count x)
+        × (r ≡ true → Unlike (coefOn (now (row .entry))) (markOn (now (marks .entry)) (now (row .entry))) count x → ⊥) ⌝ }
 {
-    if !is_live(form, marks, u) {
+    if most < x {
         return false;
     }
-    weight_at(form, u, p, scale) == weight
-}
-
-// Whether no unmarked signal below s has the weight of s.
-fn weighs_alone(form: &[u32], marks: &[bool], s: usize, p: u32, scale: u32) -> bool
-    requires { ⌜ 0 < p ⌝ }
-    ensures { λ r. ⌜ (r ≡ true → Alone p (coefIn (now (form .entry))) (markIn (now (marks .entry))) scale s s)
-        × (r ≡ false → Alone p (coefIn (now (form .entry))) (markIn (now (marks .entry))) scale s s → ⊥) ⌝ }
-{
-    let weight = weight_at(form, s, p, scale);
+    if x < least {
+        return false;
+    }
+    if !is_among(row, count, x) {
+        return false;
+    }
     let mut u: usize = 0;
-    while u < s {
-        if has_weight(form, marks, u, p, scale, weight) {
-            return false;
+    while u < count {
+        if coef_on(row, u) == x {
+            if is_live(row, marks, u) {
+                return true;
+            }
         }
         u = u + 1;
     }
-    true
+    false
 }
 
-// The same, by weights only where they are not exact or the coefficient may have come before: `most` is the largest so far.
-fn is_alone(
-    form: &[u32],
-    marks: &[bool],
-    s: usize,
-    p: u32,
-    scale: u32,
-    exact: bool,
-    most: u32,
-) -> bool
-    requires { ⌜ Sought p (now form) (markIn (now marks)) s scale exact most ⌝ }
-    ensures { λ r. ⌜ (r ≡ true → Alone p (coefIn (now (form .entry))) (markIn (now (marks .entry))) scale s s)
-        × (r ≡ false → Alone p (coefIn (now (form .entry))) (markIn (now (marks .entry))) scale s s → ⊥) ⌝ }
+// Whether the coefficients of the unmarked entries differ.
+fn coefs_differ(row: &[u32], marks: &[bool]) -> bool
+    ensures { λ r. ⌜ (r ≡ true → Differ (coefOn (now (row .entry))) (markOn (now (marks .entry)) (now (row .entry))) (entries (now (row .entry))))
+        × (r ≡ false → Differ (coefOn (now (row .entry))) (markOn (now (marks .entry)) (now (row .entry))) (entries (now (row .entry))) → ⊥) ⌝ }
 {
-    if exact {
-        let coef = coef_at(form, s);
-        if most < coef {
-            return true;
-        }
-        if !is_among(form, s, coef) {
-            return true;
-        }
-    }
-    weighs_alone(form, marks, s, p, scale)
-}
-
-// Whether the weights of the unmarked signals 1 to n differ. Coefficients that rise need no search.
-fn weights_differ(form: &[u32], marks: &[bool], n: u32, p: u32, scale: u32, exact: bool) -> bool
-    requires { ⌜ (0 < p) × (exact ≡ true → Exact p (coefIn (now form)) scale) ⌝ }
-    ensures { λ r. ⌜ (r ≡ true → Differ p n (coefIn (now (form .entry))) (markIn (now (marks .entry))) scale)
-        × (r ≡ false → Differ p n (coefIn (now (form .entry))) (markIn (now (marks .entry))) scale → ⊥) ⌝ }
-{
-    let end = signals_end(form, n);
+    let end = row.len() / 2;
+    let mut least: u32 = 4294967295;
     let mut most: u32 = 0;
-    let mut s: usize = 0;
-    while s < end {
-        if is_live(form, marks, s) {
-            if !is_alone(form, marks, s, p, scale, exact, most) {
+    let mut i: usize = 0;
+    while i < end {
+        if is_live(row, marks, i) {
+            let coef = coef_on(row, i);
+            if is_taken(row, marks, i, coef, least, most) {
                 return false;
             }
-            most = larger(most, coef_at(form, s));
+            least = lesser(least, coef);
+            most = larger(most, coef);
         }
-        s = s + 1;
+        i = i + 1;
     }
     true
+}
+
+// Gathers the unmarked entries with a bound above 0.
+fn gather<'a>(row: &[u32], bounds: &'a [u32], marks: &'a [bool], p: u32) -> Few
+    ensures { λ r. ⌜ Gathers p (now (row .entry)) (now (bounds .entry)) (now (marks .entry)) r ⌝ }
+{
+    let end = row.len() / 2;
+    let mut coefs = [0u32; 32];
+    let mut ceilings = [0u32; 32];
+    let mut count: usize = 0;
+    let mut i: usize = 0;
+    while i < end {
+        let bound = live_bound(row, bounds, marks, i, p);
+        if bound != 0 {
+            if 32 <= count {
+                break;
+            }
+            coefs[count] = coef_on(row, i);
+            ceilings[count] = bound;
+            count = count + 1;
+        }
+        i = i + 1;
+    }
+    Few {
+        coefs,
+        bounds: ceilings,
+        count,
+    }
+}
+
+// Where no reference separates.
+fn hopeless() -> Few
+    ensures { λ r. ⌜ r .count ≡ 32 ⌝ }
+{
+    let coefs = [0u32; 32];
+    let bounds = [0u32; 32];
+    Few {
+        coefs,
+        bounds,
+        count: 32,
+    }
+}
+
+// All that is tested once for all references.
+pub fn prepare<'a>(row: &[u32], bounds: &'a [u32], marks: &'a [bool], p: u32) -> Few
+    ensures { λ r. ⌜ Prepared p (now (row .entry)) (now (bounds .entry)) (now (marks .entry)) r ⌝ }
+{
+    if is_crowded(row, bounds, marks, p) {
+        return hopeless();
+    }
+    if !coefs_differ(row, marks) {
+        return hopeless();
+    }
+    gather(row, bounds, marks, p)
+}
+
+// The weight of a coefficient, where the scale is the inverse of the reference's.
+fn weight_of(coef: u32, scale: u32, p: u32) -> u32
+    requires { ⌜ 0 < p ⌝ }
+    ensures { λ r. ⌜ (r ≡ coef * scale % p) × (r < p) ⌝ }
+{
+    multiply_add(0, coef, scale, p)
 }
 
 // The product if its weight is below w, else 0.
@@ -185,33 +255,32 @@ fn smaller_sum(weights: &[u32; 32], products: &[u32; 32], count: usize, w: u32) 
     below
 }
 
-// Whether s is marked, or its weight exceeds the sum of the products of smaller weights.
+// Whether entry i is marked, or its weight exceeds the sum of the products of smaller weights.
 fn stands_out<'a>(
-    form: &[u32],
+    row: &[u32],
     marks: &[bool],
-    s: usize,
+    i: usize,
     p: u32,
     scale: u32,
     weights: &'a [u32; 32],
     products: &'a [u32; 32],
     count: usize,
 ) -> bool
-    requires { ⌜ (0 < p) × (count ≤ 32) × (sum count (coefIn (now products)) < 4294967296) ⌝ }
-    ensures { λ r. ⌜ r ≡ exceeds p (coefIn (now (form .entry))) (markIn (now (marks .entry))) scale
-        (coefIn (now (weights .entry))) (coefIn (now (products .entry))) count s ⌝ }
+    requires { ⌜ (i < entries (now row)) × (0 < p) × (count ≤ 32) × (sum count (coefIn (now products)) < 4294967296) ⌝ }
+    ensures { λ r. ⌜ r ≡ exceeds p (coefOn (now (row .entry))) (markOn (now (marks .entry)) (now (row .entry))) scale
+        (coefIn (now (weights .entry))) (coefIn (now (products .entry))) count i ⌝ }
 {
-    if !is_live(form, marks, s) {
+    if !is_live(row, marks, i) {
         return true;
     }
-    let w = weight_at(form, s, p, scale);
+    let w = weight_of(coef_on(row, i), scale, p);
     smaller_sum(weights, products, count, w) < w
 }
 
-// Whether this holds of all signals below the end.
+// Whether this holds of all entries.
 fn all_stand_out<'a>(
-    form: &[u32],
+    row: &[u32],
     marks: &[bool],
-    end: usize,
     p: u32,
     scale: u32,
     weights: &'a [u32; 32],
@@ -219,126 +288,123 @@ fn all_stand_out<'a>(
     count: usize,
 ) -> bool
     requires { ⌜ (0 < p) × (count ≤ 32) × (sum count (coefIn (now products)) < 4294967296) ⌝ }
-    ensures { λ r. ⌜ r ≡ all end (exceeds p (coefIn (now (form .entry))) (markIn (now (marks .entry))) scale
+    ensures { λ r. ⌜ r ≡ all (entries (now (row .entry))) (exceeds p (coefOn (now (row .entry))) (markOn (now (marks .entry)) (now (row .entry))) scale
         (coefIn (now (weights .entry))) (coefIn (now (products .entry))) count) ⌝ }
 {
-    let mut s: usize = 0;
-    while s < end {
-        if !stands_out(form, marks, s, p, scale, weights, products, count) {
+    let end = row.len() / 2;
+    let mut i: usize = 0;
+    while i < end {
+        if !stands_out(row, marks, i, p, scale, weights, products, count) {
             return false;
         }
-        s = s + 1;
+        i = i + 1;
     }
     true
 }
 
-// Whether s is an unmarked signal of the form with a bound above 0.
-fn is_positive<'a>(form: &[u32], bounds: &'a [u32], marks: &'a [bool], s: usize, p: u32) -> bool
-    ensures { λ r. ⌜ r ≡ positive (coefIn (now (form .entry))) (boundIn p (now (bounds .entry))) (markIn (now (marks .entry))) s ⌝ }
-{
-    if !is_live(form, marks, s) {
-        return false;
-    }
-    bound_at(bounds, s, p) != 0
-}
-
-// Where weights are known to differ: whether each exceeds the sum of weight times bound over the smaller ones, and the sum over all is
-// below p. The scale is the inverse of the reference's coefficient.
-fn in_order<'a>(
-    form: &[u32],
-    bounds: &'a [u32],
-    marks: &'a [bool],
-    n: u32,
+// Whether the reference with this coefficient separates the unmarked signals of the row, of which those with a bound above 0 are gathered: the sum of
+// weight times bound over all is below p, and each weight exceeds the sum over the smaller ones.
+fn separates<'a>(
+    row: &[u32],
+    marks: &[bool],
+    coefs: &'a [u32; 32],
+    ceilings: &'a [u32; 32],
+    count: usize,
     p: u32,
-    scale: u32,
+    coef: u32,
 ) -> bool
-    ensures { λ b. ⌜ ((r : ℕ) → scale ≡ field.inverse p (coefIn (now (form .entry)) r)
-        → Differ p n (coefIn (now (form .entry))) (markIn (now (marks .entry))) scale
-        → b ≡ specs.separated p n (coefIn (now (form .entry))) (boundIn p (now (bounds .entry))) (markIn (now (marks .entry))) r) ⌝ }
+    requires { ⌜ (count ≤ 32) × (0 < p) ⌝ }
+    ensures { λ x. ⌜ ((bounds : List ℕ) (n : ℕ) (K : Constraint) (r : ℕ) → Prime p → Row p n K (now (row .entry))
+        → Ready p (now (row .entry)) bounds (now (marks .entry)) (now (coefs .entry)) (now (ceilings .entry)) count
+        → coef ≡ reduced p K r → occurs (reduced p K) r ≡ true
+        → x ≡ specs.separated p n (reduced p K) (boundIn p bounds) (markIn (now (marks .entry))) r) ⌝ }
 {
-    if p == 0 {
-        return false;
-    }
-    let end = signals_end(form, n);
+    let scale = inverse(p, coef);
     let mut weights = [0u32; 32];
     let mut products = [0u32; 32];
-    let mut count: usize = 0;
     let mut total: u64 = 0;
-    let mut s: usize = 0;
-    while s < end {
-        if is_positive(form, bounds, marks, s, p) {
-            let weight = weight_at(form, s, p, scale);
-            let term = product(weight, bound_at(bounds, s, p));
-            total = total + term;
-            if p as u64 <= total {
-                return false;
-            }
-            if 32 <= count {
-                return false;
-            }
-            weights[count] = weight;
-            products[count] = term as u32;
-            count = count + 1;
+    let mut j: usize = 0;
+    while j < count {
+        let weight = weight_of(coefs[j], scale, p);
+        let term = product(weight, ceilings[j]);
+        total = total + term;
+        if p as u64 <= total {
+            return false;
         }
-        s = s + 1;
+        weights[j] = weight;
+        products[j] = term as u32;
+        j = j + 1;
     }
-    all_stand_out(form, marks, end, p, scale, &weights, &products, count)
+    all_stand_out(row, marks, p, scale, &weights, &products, count)
 }
 
-// The last unmarked signal of the form up to n, or 0: no walk has to go further.
-fn last_live(form: &[u32], marks: &[bool], n: u32) -> u32
-    ensures { λ r. ⌜ Last (coefIn (now (form .entry))) (markIn (now (marks .entry))) n r ⌝ }
-{
-    let mut last = n;
-    while 0 < last {
-        if is_live(form, marks, last as usize) {
-            return last;
-        }
-        last = last - 1;
-    }
-    last
-}
-
-// Rule 4.7: whether the weights of the unmarked signals, scaled so that r has weight 1, differ, each exceeds the sum of weight times bound over the
-// smaller ones, and the sum over all is below p.
-fn separated<'a>(form: &[u32], bounds: &'a [u32], marks: &'a [bool], n: u32, p: u32, r: u32) -> bool
-    ensures { λ b. ⌜ b
-        ≡ specs.separated p n (coefIn (now (form .entry))) (boundIn p (now (bounds .entry))) (markIn (now (marks .entry))) r ⌝ }
+// Whether the reference at entry i separates the unmarked signals of the row.
+pub fn separates_at(row: &[u32], marks: &[bool], few: Few, p: u32, i: usize) -> bool
+    ensures { λ x. ⌜ ((bounds : List ℕ) → Prepared p (now (row .entry)) bounds (now (marks .entry)) few → i < entries (now (row .entry))
+        → Tells p (now (row .entry)) bounds (now (marks .entry)) i x) ⌝ }
 {
     if p == 0 {
         return false;
     }
-    let scale = inverse(p, coef_at(form, r as usize));
-    let exact = is_exact(form, p, r, scale);
-    let last = last_live(form, marks, n);
-    if !weights_differ(form, marks, last, p, scale, exact) {
+    let count = few.count;
+    if 32 <= count {
         return false;
     }
-    in_order(form, bounds, marks, last, p, scale)
+    if row.len() / 2 <= i {
+        return false;
+    }
+    let coef = coef_on(row, i);
+    if coef == 0 {
+        return false;
+    }
+    separates(row, marks, &few.coefs, &few.bounds, count, p, coef)
 }
 
-// Rule 4.7: whether the digits rule is met for target t with reference r.
+// The coefficient of signal s, 0 where it has none.
+fn coef_of(row: &[u32], s: u32) -> u32
+    ensures { λ r. ⌜ ((p n : ℕ) (K : Constraint) → 0 < p → Row p n K (now (row .entry)) → 1 ≤ s → s ≤ n → r ≡ reduced p K s) ⌝ }
+{
+    let end = row.len() / 2;
+    let mut i: usize = 0;
+    while i < end {
+        if signal_on(row, i) == s {
+            return coef_on(row, i);
+        }
+        i = i + 1;
+    }
+    0
+}
+
+// Rule 4.7 by a row: whether the digits rule is met for target t with reference r.
 pub(crate) fn digits_met<'a>(
     part: &[u8],
+    row: &[u32],
     bounds: &'a [u32],
     marks: &'a [bool],
-    n: u32,
     p: u32,
     t: u32,
     r: u32,
 ) -> bool
-    ensures { λ result. ⌜ result
-        ≡ specs.digitsMet p n (constraintIn (now (part .entry))) (boundIn p (now (bounds .entry))) (markIn (now (marks .entry))) t r ⌝ }
+    ensures { λ x. ⌜ ((n : ℕ) → Prime p → Row p n (constraintIn (now (part .entry))) (now (row .entry)) → 1 ≤ t → t ≤ n → 1 ≤ r → r ≤ n
+        → x ≡ specs.digitsMet p n (constraintIn (now (part .entry))) (boundIn p (now (bounds .entry))) (markIn (now (marks .entry))) t r) ⌝ }
 {
+    if p == 0 {
+        return false;
+    }
     if !is_linear(part) {
         return false;
     }
-    let form = reduced_form(part, p);
-    if coef_at(&form, t as usize) == 0 {
+    if coef_of(row, t) == 0 {
         return false;
     }
-    if coef_at(&form, r as usize) == 0 {
+    let coef = coef_of(row, r);
+    if coef == 0 {
         return false;
     }
-    separated(&form, bounds, marks, n, p, r)
+    let few = prepare(row, bounds, marks, p);
+    let count = few.count;
+    if 32 <= count {
+        return false;
+    }
+    separates(row, marks, &few.coefs, &few.bounds, count, p, coef)
 }

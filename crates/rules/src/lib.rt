@@ -2,8 +2,9 @@
 
 mod arith;
 pub mod constraint;
-mod digits;
+pub mod digits;
 pub mod form;
+pub mod rows;
 pub mod standing;
-mod sums;
+pub mod sums;
 pub mod view;

@@ -6,15 +6,17 @@ use crate::constraint::root_bound;
 use crate::constraint::root_met;
 use crate::digits::digits_met;
 use crate::sums::sum_step;
+use crate::view::bound_at;
 ghost use mathlib.Core.Path.{_≡_};
-ghost use mathlib.Core.Bool.{true, false};
-ghost use mathlib.Core.List.{[]};
-ghost use Prim.Native.Nat.{ℕ, _<_, min};
+ghost use mathlib.Core.List.{List, []};
+ghost use Prim.Native.Nat.{ℕ, _≤_, min};
+ghost use Rattle.circuit.specs.Reader.{signalsMost};
 ghost use Rattle.laws.specs.Problem.{largest};
-ghost use Rattle.laws.specs.Standing.{isInput, lower, mark};
+ghost use Rattle.laws.specs.Standing.{isInput};
 ghost use Rattle.laws.specs.Step as laws;
-ghost use Rattle.laws.specs.Step.{rule};
-ghost use Rattle.rules.specs.Promise.{view, subjectIn, Gives, kindOf};
+ghost use Rattle.laws.specs.Step.{Rule, rule};
+ghost use Rattle.rules.specs.View.{viewOf};
+ghost use Rattle.rules.specs.Promise.{view, subjectIn, Gives, Says, kindOf, reduces, Asked};
 
 // Rule 3.1. Signal 0 is the constant one; bounds and marks of signals above 256 are those of the start.
 pub struct Standing {
@@ -28,6 +30,13 @@ pub struct Outcome {
     pub met: bool,
 }
 
+// What a rule says of a step: not met, or met, and what its target then gets.
+enum Verdict {
+    Unmet,
+    AtMost { bound: u32 },
+    Fixed,
+}
+
 // Rule 2.2: the kinds of steps.
 pub enum Kind {
     Root,
@@ -35,6 +44,71 @@ pub enum Kind {
     Zero,
     Product,
     Digits,
+}
+
+// What each rule says of a target, by its row in the table of rules. What the rule does not look at is 0 or nothing there.
+
+// Rule 4.3.
+fn root_verdict(part: &[u8], p: u32, t: u32) -> Verdict
+    ensures { λ v. ⌜ Says v (rule laws.Root (subjectIn p 0 (now (part .entry))) (viewOf p [] []) t 0) ⌝ }
+{
+    if !root_met(part, t) {
+        return Verdict::Unmet;
+    }
+    Verdict::AtMost {
+        bound: root_bound(part, p, t),
+    }
+}
+
+// Rule 4.4.
+fn sum_verdict(part: &[u8], row: &[u32], bounds: &[u32], p: u32, t: u32) -> Verdict
+    ensures { λ v. ⌜ ((n r : ℕ) → Asked laws.Sum p n (now (part .entry)) (now (row .entry)) t r
+        → Says v (rule laws.Sum (subjectIn p n (now (part .entry))) (viewOf p (now (bounds .entry)) []) t r)) ⌝ }
+{
+    let bound = sum_step(part, row, bounds, p, t);
+    if p <= bound {
+        return Verdict::Unmet;
+    }
+    Verdict::AtMost { bound }
+}
+
+// Rule 4.5.
+fn zero_verdict(bounds: &[u32], p: u32, t: u32) -> Verdict
+    ensures { λ v. ⌜ Says v (rule laws.Zero (subjectIn p 0 []) (viewOf p (now (bounds .entry)) []) t 0) ⌝ }
+{
+    if bound_at(bounds, t as usize, p) != 0 {
+        return Verdict::Unmet;
+    }
+    Verdict::Fixed
+}
+
+// Rule 4.6.
+fn product_verdict(part: &[u8], marks: &[bool], t: u32) -> Verdict
+    ensures { λ v. ⌜ Says v (rule laws.Product (subjectIn 0 0 (now (part .entry))) (viewOf 0 [] (now (marks .entry))) t 0) ⌝ }
+{
+    if !product_met(part, marks, t) {
+        return Verdict::Unmet;
+    }
+    Verdict::Fixed
+}
+
+// Rule 4.7.
+fn digits_verdict<'a>(
+    part: &[u8],
+    row: &[u32],
+    bounds: &'a [u32],
+    marks: &'a [bool],
+    p: u32,
+    t: u32,
+    r: u32,
+) -> Verdict
+    ensures { λ v. ⌜ ((n : ℕ) → Asked laws.Digits p n (now (part .entry)) (now (row .entry)) t r
+        → Says v (rule laws.Digits (subjectIn p n (now (part .entry))) (viewOf p (now (bounds .entry)) (now (marks .entry))) t r)) ⌝ }
+{
+    if !digits_met(part, row, bounds, marks, p, t, r) {
+        return Verdict::Unmet;
+    }
+    Verdict::Fixed
 }
 
 impl Standing {
@@ -56,108 +130,109 @@ impl Standing {
         Standing { bounds, marks }
     }
 
-    fn unmet(self) -> Outcome
-        ensures { λ r. ⌜ (r .met ≡ false) × (r .next ≡ self) ⌝ }
-    {
-        Outcome {
-            next: self,
-            met: false,
-        }
-    }
-
-    // Rule 3.3: the target's bound becomes at most x.
-    fn lowered(mut self, t: u32, x: u32) -> Outcome
-        requires { ⌜ t < 257 ⌝ }
-        ensures { λ r. ⌜ (r .met ≡ true) × ((p : ℕ) → view p (r .next) ≡ lower (view p self) t x) ⌝ }
-    {
-        let at = t as usize;
-        self.bounds[at] = lesser(self.bounds[at], x);
-        Outcome {
-            next: self,
-            met: true,
-        }
-    }
-
-    // Rule 3.3: the target becomes marked.
-    fn marked(mut self, t: u32) -> Outcome
-        requires { ⌜ t < 257 ⌝ }
-        ensures { λ r. ⌜ (r .met ≡ true) × ((p : ℕ) → view p (r .next) ≡ mark (view p self) t) ⌝ }
-    {
-        let at = t as usize;
-        self.marks[at] = true;
-        Outcome {
-            next: self,
-            met: true,
-        }
-    }
-
-    // A method for each kind, by its row in the table of rules; what the kind does not look at is 0 there.
-
-    // Rule 4.3.
-    fn root(self, part: &[u8], p: u32, t: u32) -> Outcome
-        ensures { λ o. ⌜ Gives p self o t (rule laws.Root (subjectIn p 0 (now (part .entry))) (view p self) t 0) ⌝ }
-    {
-        if !root_met(part, t) {
-            return self.unmet();
-        }
-        self.lowered(t, root_bound(part, p, t))
-    }
-
-    // Rule 4.4.
-    fn sum(self, part: &[u8], n: u32, p: u32, t: u32) -> Outcome
-        ensures { λ o. ⌜ Gives p self o t (rule laws.Sum (subjectIn p n (now (part .entry))) (view p self) t 0) ⌝ }
-    {
-        let bound = sum_step(part, &self.bounds, n, p, t);
-        if p as u64 <= bound {
-            return self.unmet();
-        }
-        self.lowered(t, bound as u32)
-    }
-
-    // Rule 4.5.
-    fn zero(self, t: u32) -> Outcome
-        ensures { λ o. ⌜ ((p : ℕ) → 1 < p → Gives p self o t (rule laws.Zero (subjectIn p 0 []) (view p self) t 0)) ⌝ }
+    // Rule 3.3: the target has what the verdict gives it. No target in range is above 256.
+    fn given(self, t: u32, verdict: Verdict) -> Outcome
+        ensures { λ o. ⌜ ((p : ℕ) (x : Rule) → t ≤ signalsMost → Says verdict x → Gives p self o t x) ⌝ }
     {
         if 256 < t {
-            return self.unmet();
+            return Outcome {
+                next: self,
+                met: false,
+            };
         }
         let at = t as usize;
-        if self.bounds[at] != 0 {
-            return self.unmet();
+        match verdict {
+            Verdict::Unmet => Outcome {
+                next: self,
+                met: false,
+            },
+            Verdict::AtMost { bound } => {
+                let mut bounds = self.bounds;
+                let marks = self.marks;
+                bounds[at] = lesser(bounds[at], bound);
+                Outcome {
+                    next: Standing { bounds, marks },
+                    met: true,
+                }
+            }
+            Verdict::Fixed => {
+                let bounds = self.bounds;
+                let mut marks = self.marks;
+                marks[at] = true;
+                Outcome {
+                    next: Standing { bounds, marks },
+                    met: true,
+                }
+            }
         }
-        self.marked(t)
     }
 
-    // Rule 4.6.
+    // A method for each kind, by its row in the table of rules.
+
+    fn root(self, part: &[u8], p: u32, t: u32) -> Outcome
+        ensures { λ o. ⌜ ((n r : ℕ) (row : List ℕ) → Asked laws.Root p n (now (part .entry)) row t r
+            → Gives p self o t (rule laws.Root (subjectIn p n (now (part .entry))) (view p self) t r)) ⌝ }
+    {
+        let verdict = root_verdict(part, p, t);
+        self.given(t, verdict)
+    }
+
+    fn sum(self, part: &[u8], row: &[u32], p: u32, t: u32) -> Outcome
+        ensures { λ o. ⌜ ((n r : ℕ) → Asked laws.Sum p n (now (part .entry)) (now (row .entry)) t r
+            → Gives p self o t (rule laws.Sum (subjectIn p n (now (part .entry))) (view p self) t r)) ⌝ }
+    {
+        let verdict = sum_verdict(part, row, &self.bounds, p, t);
+        self.given(t, verdict)
+    }
+
+    fn zero(self, p: u32, t: u32) -> Outcome
+        ensures { λ o. ⌜ ((n r : ℕ) (part row : List ℕ) → Asked laws.Zero p n part row t r
+            → Gives p self o t (rule laws.Zero (subjectIn p n part) (view p self) t r)) ⌝ }
+    {
+        let verdict = zero_verdict(&self.bounds, p, t);
+        self.given(t, verdict)
+    }
+
     fn product(self, part: &[u8], t: u32) -> Outcome
-        ensures { λ o. ⌜ ((p : ℕ) → Gives p self o t (rule laws.Product (subjectIn p 0 (now (part .entry))) (view p self) t 0)) ⌝ }
+        ensures { λ o. ⌜ ((p n r : ℕ) (row : List ℕ) → Asked laws.Product p n (now (part .entry)) row t r
+            → Gives p self o t (rule laws.Product (subjectIn p n (now (part .entry))) (view p self) t r)) ⌝ }
     {
-        if !product_met(part, &self.marks, t) {
-            return self.unmet();
-        }
-        self.marked(t)
+        let verdict = product_verdict(part, &self.marks, t);
+        self.given(t, verdict)
     }
 
-    // Rule 4.7.
-    fn digits(self, part: &[u8], n: u32, p: u32, t: u32, r: u32) -> Outcome
-        ensures { λ o. ⌜ Gives p self o t (rule laws.Digits (subjectIn p n (now (part .entry))) (view p self) t r) ⌝ }
+    fn digits(self, part: &[u8], row: &[u32], p: u32, t: u32, r: u32) -> Outcome
+        ensures { λ o. ⌜ ((n : ℕ) → Asked laws.Digits p n (now (part .entry)) (now (row .entry)) t r
+            → Gives p self o t (rule laws.Digits (subjectIn p n (now (part .entry))) (view p self) t r)) ⌝ }
     {
-        if !digits_met(part, &self.bounds, &self.marks, n, p, t, r) {
-            return self.unmet();
-        }
-        self.marked(t)
+        let verdict = digits_verdict(part, row, &self.bounds, &self.marks, p, t, r);
+        self.given(t, verdict)
     }
 
-    // A step of any kind, by the constraint at the start of the part.
-    pub fn step(self, kind: Kind, part: &[u8], n: u32, p: u32, t: u32, r: u32) -> Outcome
-        ensures { λ o. ⌜ (1 < p → Gives p self o t (rule (kindOf kind) (subjectIn p n (now (part .entry))) (view p self) t r)) ⌝ }
+    // A step of any kind, by the constraint at the start of the part and its row, at which only some rules look.
+    pub fn step(self, kind: Kind, part: &[u8], row: &[u32], p: u32, t: u32, r: u32) -> Outcome
+        ensures { λ o. ⌜ ((n : ℕ) → Asked (kindOf kind) p n (now (part .entry)) (now (row .entry)) t r
+            → Gives p self o t (rule (kindOf kind) (subjectIn p n (now (part .entry))) (view p self) t r)) ⌝ }
     {
         match kind {
             Kind::Root => self.root(part, p, t),
-            Kind::Sum => self.sum(part, n, p, t),
-            Kind::Zero => self.zero(t),
+            Kind::Sum => self.sum(part, row, p, t),
+            Kind::Zero => self.zero(p, t),
             Kind::Product => self.product(part, t),
-            Kind::Digits => self.digits(part, n, p, t, r),
+            Kind::Digits => self.digits(part, row, p, t, r),
         }
+    }
+}
+
+// Whether the rule of this kind looks at the row.
+pub fn reads_row(kind: Kind) -> bool
+    ensures { λ r. ⌜ r ≡ reduces (kindOf kind) ⌝ }
+{
+    match kind {
+        Kind::Root => false,
+        Kind::Sum => true,
+        Kind::Zero => false,
+        Kind::Product => false,
+        Kind::Digits => true,
     }
 }

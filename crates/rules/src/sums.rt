@@ -1,72 +1,156 @@
-// The sum rule: the constant weight plus the sum of weight times bound, and the bound that it gives.
+// The sum rule by a row: the constant weight plus the sum of weight times bound, and the one sum that lowers a bound.
 
+use crate::arith::lesser;
 use crate::arith::multiply_add;
+use crate::arith::opposite;
 use crate::arith::product;
 use crate::constraint::is_linear;
-use crate::form::reduced_form;
 use crate::view::bound_at;
+use crate::view::bound_on;
 use crate::view::coef_at;
-use crate::view::signals_end;
 use field::modular::inverse;
 ghost use mathlib.Core.Path.{_≡_};
-ghost use Prim.Native.Nat.{_≤_, _<_, min};
-ghost use Rattle.field.specs.Inverse as field;
+ghost use Prim.Native.Nat.{ℕ, _≤_, _<_};
+ghost use Rattle.field.specs.Prime.{Prime};
+ghost use Rattle.circuit.specs.Circuit.{Constraint};
 ghost use Rattle.circuit.specs.Reader.{constraintIn};
-ghost use Rattle.laws.specs.Rules.{sumTerm, sumBound};
-ghost use Rattle.rules.specs.View.{coefIn, boundIn};
-ghost use Rattle.rules.specs.Steps.{sumStep};
+ghost use Rattle.laws.specs.Rules.{reduced, sumTerm};
+ghost use Rattle.rules.specs.View.{boundIn};
+ghost use Rattle.rules.specs.Rows.{entries, Row, coefOn, boundOn};
+ghost use Rattle.rules.specs.Steps.{sumStep, OneSum, Placed, Target, Highest, Scale, Summed};
 
-// What signal s adds for the target t, where the scale is the inverse of the target's coefficient.
-fn sum_term(form: &[u32], bounds: &[u32], p: u32, t: usize, scale: u32, s: usize) -> u64
-    requires { ⌜ (0 < p) × (scale ≡ field.inverse p (coefIn (now form) t)) ⌝ }
-    ensures { λ r. ⌜ (r ≡ sumTerm p (coefIn (now (form .entry))) (boundIn p (now (bounds .entry))) t s) × (r ≤ 18446744065119617025) ⌝ }
+// The place of signal t in a row, 0 where it has none.
+fn place_in(row: &[u32], t: u32) -> usize
+    ensures { λ r. ⌜ Placed (now (row .entry)) t r ⌝ }
 {
-    if s == t {
-        return 0;
+    let count = row.len() / 2;
+    let mut i: usize = 1;
+    while i < count {
+        if row[2 * i] == t {
+            return i;
+        }
+        i = i + 1;
     }
-    let c = coef_at(form, s);
-    if c == 0 {
-        return 0;
-    }
-    let weight = multiply_add(0, p - c % p, scale, p);
-    if s == 0 {
-        return weight as u64;
-    }
-    product(weight, bound_at(bounds, s, p))
+    0
 }
 
-// Rule 4.4: the constant weight plus the sum of weight times bound over signals 1 to n other than t, as far as p.
-fn sum_bound(form: &[u32], bounds: &[u32], n: u32, p: u32, t: u32) -> u64
-    ensures { λ r. ⌜ r ≡ min p (sumBound p n (coefIn (now (form .entry))) (boundIn p (now (bounds .entry))) t) ⌝ }
+// What coefficients are multiplied by to give weights of the sum for place e: -1/c modulo p, from 1 to p, where c is the coefficient there.
+// 0 where that is no target.
+fn scale_at(row: &[u32], p: u32, e: usize) -> u32
+    ensures { λ r. ⌜ ((r ≡ 0 → ⊥) → Scale p (coefOn (now (row .entry))) (entries (now (row .entry))) e r)
+        × (r ≡ 0 → 0 < p → Target (coefOn (now (row .entry))) (entries (now (row .entry))) e → ⊥) ⌝ }
 {
     if p == 0 {
         return 0;
     }
-    let target = t as usize;
-    let scale = inverse(p, coef_at(form, target));
-    let end = signals_end(form, n);
-    let mut total: u64 = 0;
-    let mut s: usize = 0;
-    while s < end {
-        total = total + sum_term(form, bounds, p, target, scale, s);
-        if p as u64 <= total {
-            return p as u64;
-        }
-        s = s + 1;
+    if e == 0 {
+        return 0;
     }
-    total
+    if row.len() / 2 <= e {
+        return 0;
+    }
+    let coef = row[2 * e + 1];
+    if coef == 0 {
+        return 0;
+    }
+    opposite(inverse(p, coef), p)
+}
+
+// What place i adds to the sum for place e.
+fn sum_term(row: &[u32], bounds: &[u32], p: u32, e: usize, scale: u32, i: usize) -> u64
+    requires { ⌜ Scale p (coefOn (now row)) (entries (now row)) e scale × (i < entries (now row)) ⌝ }
+    ensures { λ r. ⌜ (r ≡ sumTerm p (coefOn (now (row .entry))) (boundOn p (now (bounds .entry)) (now (row .entry))) e i)
+        × (r ≤ 18446744065119617025) ⌝ }
+{
+    if i == e {
+        return 0;
+    }
+    let weight = multiply_add(0, row[2 * i + 1], scale, p);
+    if i == 0 {
+        return weight as u64;
+    }
+    product(weight, bound_on(row, bounds, i, p))
+}
+
+// Rule 4.4: the sum for the target at place e as far as a limit, which is also given where that is no target.
+fn sum_at(row: &[u32], bounds: &[u32], p: u32, e: usize, limit: u32) -> u32
+    ensures { λ r. ⌜ Summed p (coefOn (now (row .entry))) (boundOn p (now (bounds .entry)) (now (row .entry)))
+        (entries (now (row .entry))) e limit r ⌝ }
+{
+    let scale = scale_at(row, p, e);
+    if scale == 0 {
+        return limit;
+    }
+    let count = row.len() / 2;
+    let mut total: u64 = 0;
+    let mut i: usize = 0;
+    while i < count {
+        total = total + sum_term(row, bounds, p, e, scale, i);
+        if limit as u64 <= total {
+            return limit;
+        }
+        i = i + 1;
+    }
+    total as u32
 }
 
 // The bound that the sum rule gives the target, p where the rule isn't met.
-pub(crate) fn sum_step(part: &[u8], bounds: &[u32], n: u32, p: u32, t: u32) -> u64
-    ensures { λ r. ⌜ r ≡ sumStep p n (constraintIn (now (part .entry))) (boundIn p (now (bounds .entry))) t ⌝ }
+pub(crate) fn sum_step(part: &[u8], row: &[u32], bounds: &[u32], p: u32, t: u32) -> u32
+    ensures { λ r. ⌜ ((n : ℕ) → Prime p → Row p n (constraintIn (now (part .entry))) (now (row .entry)) → 1 ≤ t → t ≤ n
+        → r ≡ sumStep p n (constraintIn (now (part .entry))) (boundIn p (now (bounds .entry))) t) ⌝ }
 {
     if !is_linear(part) {
-        return p as u64;
+        return p;
     }
-    let form = reduced_form(part, p);
-    if coef_at(&form, t as usize) == 0 {
-        return p as u64;
+    sum_at(row, bounds, p, place_in(row, t), p)
+}
+
+// The place whose bound is above those of all other signals with a coefficient, if there is one; 0 where the highest bound stands twice.
+fn highest(row: &[u32], bounds: &[u32], p: u32) -> usize
+    ensures { λ r. ⌜ (r ≤ entries (now (row .entry)))
+        × ((e : ℕ) → Highest (coefOn (now (row .entry))) (boundOn p (now (bounds .entry)) (now (row .entry))) (entries (now (row .entry))) e
+        → r ≡ e) ⌝ }
+{
+    let count = row.len() / 2;
+    let mut found: usize = 0;
+    let mut top: u32 = 0;
+    let mut next: usize = 1;
+    while next < count {
+        let i = next;
+        next = next + 1;
+        if row[2 * i + 1] != 0 {
+            let bound = bound_on(row, bounds, i, p);
+            if top < bound {
+                found = i;
+                top = bound;
+            } else if bound == top {
+                found = 0;
+            }
+        }
     }
-    sum_bound(&form, bounds, n, p, t)
+    found
+}
+
+// The one sum by the form of a row that lowers a bound: its target, 0 where there is none, and the bound that it gives.
+pub struct Lowering {
+    pub target: u32,
+    pub bound: u32,
+}
+
+// Only the signal with the highest bound may be its target, since a sum is at least every other bound.
+pub fn lowering_sum(row: &[u32], bounds: &[u32], p: u32) -> Lowering
+    ensures { λ r. ⌜ ((n : ℕ) (K : Constraint) → Prime p → Row p n K (now (row .entry))
+        → OneSum p n (reduced p K) (boundIn p (now (bounds .entry))) (r .target) (r .bound)) ⌝ }
+{
+    let e = highest(row, bounds, p);
+    let target = coef_at(row, 2 * e);
+    let limit = lesser(bound_at(bounds, target as usize, p), p);
+    let bound = sum_at(row, bounds, p, e, limit);
+    if limit <= bound {
+        return Lowering {
+            target: 0,
+            bound: 0,
+        };
+    }
+    Lowering { target, bound }
 }

@@ -6,42 +6,42 @@ use mathlib.Core.List.{List}
 use mathlib.Core.Option.{Option, none, some}
 use mathlib.Core.Logic.{_⊎_, ⊎-elim}
 use native.Mathlib.Omega.{arith}
-use native.Mathlib.Decide.{decLt}
 use native.Mathlib.Nat.{mod-lt, div-add-mod'}
 use lib.Dec.{ltb}
 use borrow.Author.Tests.{ltb-false, le-ltb}
 use Rattle.circuit.specs.Circuit.{Circuit, WellFormed, constraintAt}
 use Rattle.laws.specs.Problem.{Problem, given}
 use Rattle.laws.specs.Standing.{Standing}
-use Rattle.laws.specs.Step.{Kind, kindNumber, Step}
+use Rattle.laws.specs.Step.{Kind, Root, Sum, Zero, Product, Digits, kindNumber, Step}
 use Rattle.laws.specs.Solver.{step, newBound, lowers, firstBy, precedes, bestBound}
-use Rattle.laws.proofs.Sum.{true-or-false}
+use Rattle.laws.proofs.Sum.{true-or-false, by-order}
 use Rattle.laws.proofs.Best.{first-by-says, first-by-holds, lowers-says, bounding-fields, best-none, best-some}
 use Rattle.laws.proofs.Best.{Bounding, by-root, by-sum}
-use Rattle.solver.specs.Rows.{at}
+use Rattle.rules.specs.Rows.{at}
 use Rattle.solver.specs.Bounds.{keyOf, noKey, LowersTo, Holder, Keys, Least}
 use Rattle.solver.proofs.KeyLaws.{lowers-bounding, lowers-below, lowers-to, lowers-step}
 
 -- A key and its parts
 
-module _ (b t q : ℕ) (small : t < 65536) (few : q < 8) where
-  pub key-kind : keyOf b t q % 8 ≡ q
-  unfolding keyOf
-  key-kind = omega (arith, div-add-mod' ((b * 65536 + t) * 8 + q) 8, mod-lt ((b * 65536 + t) * 8 + q) {m = 8} (omega arith))
+pub key-kind : (b t q : ℕ) → q < 8 → keyOf b t q % 8 ≡ q
+unfolding keyOf
+key-kind b t q few = omega (arith, div-add-mod' ((b * 65536 + t) * 8 + q) 8, mod-lt ((b * 65536 + t) * 8 + q) {m = 8} (omega arith))
 
-  key-rest : keyOf b t q / 8 ≡ b * 65536 + t
-  unfolding keyOf
-  key-rest = omega (arith, div-add-mod' ((b * 65536 + t) * 8 + q) 8, mod-lt ((b * 65536 + t) * 8 + q) {m = 8} (omega arith))
+pub key-target : (b t q : ℕ) → t < 65536 → q < 8 → keyOf b t q / 8 % 65536 ≡ t
+unfolding keyOf
+key-target b t q small few =
+    let pair = b * 65536 + t in
+    let rest : (pair * 8 + q) / 8 ≡ pair = omega (arith, div-add-mod' (pair * 8 + q) 8, mod-lt (pair * 8 + q) {m = 8} (omega arith)) in
+    ap (λ (x : ℕ). x % 65536) rest ∙ omega (arith, div-add-mod' pair 65536, mod-lt pair {m = 65536} (omega arith))
 
-  pub key-target : keyOf b t q / 8 % 65536 ≡ t
-  key-target =
-      ap (λ (x : ℕ). x % 65536) key-rest ∙ omega (arith, div-add-mod' (b * 65536 + t) 65536, mod-lt (b * 65536 + t) {m = 65536} (omega arith))
+-- kinds have small numbers, and those that lower bounds different ones
 
--- the kinds that lower bounds have small numbers, and different ones
-
-bounding-small : {q : Kind} → Bounding q → (1 ≤ kindNumber q) × (kindNumber q < 8)
-bounding-small by-root = (omega arith, omega arith)
-bounding-small by-sum = (omega arith, omega arith)
+pub kind-small : (q : Kind) → kindNumber q < 8
+kind-small Root = omega arith
+kind-small Sum = omega arith
+kind-small Zero = omega arith
+kind-small Product = omega arith
+kind-small Digits = omega arith
 
 same-kind : {q r : Kind} → Bounding q → Bounding r → kindNumber q ≡ kindNumber r → q ≡ r
 same-kind by-root by-root e = refl
@@ -79,7 +79,7 @@ module _ (P : Problem) (S : Standing) (narrow : P .n < 65536) (positive : 0 < P 
         target = omega (arith, L .most);
         constraint = f .0;
         reference = f .1;
-        most = bounding-small b .1;
+        most = kind-small (x .kind);
         bound = omega (arith, lowers-below _ _ _ _ positive L);
       }
 
@@ -100,12 +100,8 @@ module _ (P : Problem) (S : Standing) (narrow : P .n < 65536) (positive : 0 < P 
       first-by-holds (y .target) (x .target) (firstBy ky kx last) (omega (arith, sx .target, sx .most, sy .target, sy .most))
       (λ (same-target : y .target ≡ x .target).
       first-by-holds ky kx last (omega (arith, sx .target, sx .most, sy .target, sy .most))
-      (λ (same-kind : ky ≡ kx). lower (decLt (y .constraint) (x .constraint)) same-bound same-target same-kind)))
-    where
-      lower : Dec (y .constraint < x .constraint) → newBound P S y ≡ newBound P S x → y .target ≡ x .target
-          → kindNumber (y .kind) ≡ kindNumber (x .kind) → ltb (y .constraint) (x .constraint) ≡ false
-      lower (yes l) a b c = absurd (omega (arith, g l))
-      lower (no d) a b c = le-ltb (y .constraint) (x .constraint) (omega arith)
+      (λ (same-kind : ky ≡ kx).
+      by-order (y .constraint) (x .constraint) (λ l. absurd (omega (arith, g l))) (le-ltb (y .constraint) (x .constraint)))))
 
   -- two steps neither of which precedes the other are the same
   neither : (x y : Step) → lowers P S x ≡ true → lowers P S y ≡ true → precedes P S x y ≡ false → precedes P S y x ≡ false → x ≡ y
@@ -177,16 +173,10 @@ module _ (C : Circuit) (W : WellFormed C) (S : Standing) (keys : List ℕ) (K : 
     abbrev P : Problem
     P = given C first
 
-    abbrev keyIn : Step → ℕ
-    keyIn y = keyed P S narrow positive below y
-
-    small-step : (y : Step) → lowers P S y ≡ true → Small P S narrow positive below y
-    small-step y l = small P S narrow positive below y l
-
     -- the key of a step is that of its constraint
-    key-of : (y : Step) → lowers P S y ≡ true → at keys (y .constraint) ≡ keyIn y
+    key-of : (y : Step) → lowers P S y ≡ true → at keys (y .constraint) ≡ keyed P S narrow positive below y
     key-of y l =
-        let s = small-step y l in
+        let s = small P S narrow positive below y l in
         K .each (y .constraint) (s .constraint .0) (s .constraint .1) .only (y .kind) (y .target) (newBound P S y) (lowers-to P S y l)
 
     pub nothing-left : r ≡ 0 → bestBound P S ≡ none
@@ -194,21 +184,21 @@ module _ (C : Circuit) (W : WellFormed C) (S : Standing) (keys : List ℕ) (K : 
     nothing-left e =
         best-not P S narrow positive below
         (λ y l.
-        let s = small-step y l in
+        let s = small P S narrow positive below y l in
         let top : at keys r ≡ noKey = ap (at keys) e ∙ K .top in
         omega (arith, L .least (y .constraint) (s .constraint .1), key-of y l, s .target, s .most, s .bound))
 
     -- a step with the least key is the choice
-    is-chosen : (x : Step) → lowers P S x ≡ true → x .constraint ≡ r → keyIn x ≡ at keys r → bestBound P S ≡ some x
+    is-chosen : (x : Step) → lowers P S x ≡ true → x .constraint ≡ r → keyed P S narrow positive below x ≡ at keys r → bestBound P S ≡ some x
     is-chosen x l e own =
         best-is P S narrow positive below x l
         (λ y m.
-        key-first P S narrow positive below x y l m (omega (arith, key-of y m, L .least (y .constraint) (small-step y m .constraint .1)))
+        key-first P S narrow positive below x y l m (omega (arith, key-of y m, L .least (y .constraint) (small P S narrow positive below y m .constraint .1)))
         (λ h. omega (arith, key-of y m, L .first (y .constraint) (omega arith))))
 
   taken-by : 1 ≤ r → Holder (C .p) (C .n) (constraintAt C r) (S .bound) (at keys r) → Taken C S r (at keys r)
   taken-by low H =
-      let few = bounding-small (lowers-bounding _ _ _ _ (H .lowers)) .1 in
+      let few = kind-small (H .kind) in
       let short : H .target < 65536 = omega (arith, H .lowers .most, narrow) in
       record {
         kind = H .kind;
@@ -217,7 +207,7 @@ module _ (C : Circuit) (W : WellFormed C) (S : Standing) (keys : List ℕ) (K : 
         bound = H .bound;
         lowers-it = H .lowers;
         chosen = chosen;
-        is-kind = ap (λ (k : ℕ). k % 8) (H .is-key) ∙ key-kind (H .bound) (H .target) (kindNumber (H .kind)) short few;
+        is-kind = ap (λ (k : ℕ). k % 8) (H .is-key) ∙ key-kind (H .bound) (H .target) (kindNumber (H .kind)) few;
         is-target = ap (λ (k : ℕ). k / 8 % 65536) (H .is-key) ∙ key-target (H .bound) (H .target) (kindNumber (H .kind)) short few;
       }
     where

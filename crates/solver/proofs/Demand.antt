@@ -1,5 +1,5 @@
 -- DEMAND 3 holds: every accepted derivation is sound; the solver's own is accepted, short, leaves nothing to add, and is the best of all.
-use Prim.Native.Nat.{ℕ, _+_, _-_, _≤_}
+use Prim.Native.Nat.{ℕ, _-_, _≤_}
 use mathlib.Core.Path.{_≡_, refl, sym, ap, _∙_}
 use mathlib.Core.Bool.{Bool, true, false}
 use mathlib.Core.List.{List}
@@ -8,14 +8,13 @@ use lib.Dec.{leb}
 use lib.ListN.{length, take, drop, getD}
 use lib.Seq.{take-at}
 use borrow.Author.Tests.{le-leb}
-use Rattle.circuit.specs.Circuit.{Circuit, WellFormed}
+use Rattle.circuit.specs.Circuit.{Circuit}
 use Rattle.circuit.specs.Reading.{whole}
 use Rattle.circuit.specs.Reader.{readCircuit}
 use Rattle.circuit.specs.Answer.{given, ask}
 use Rattle.circuit.proofs.WellFormed.{read-well-formed}
 use Rattle.laws.specs.Problem.{Problem, problem}
 use Rattle.laws.specs.Standing.{Standing}
-use Rattle.laws.specs.Sound.{AtLeast, Closed}
 use Rattle.laws.specs.Solver.{solution}
 use Rattle.laws.proofs.Solution.{solution-accepted, solution-short, solution-length, solution-closed, solution-best}
 use Rattle.derivation.specs.Steps.{stepsOf}
@@ -45,24 +44,16 @@ module _ (P : Problem) (few : P .n ≤ 256) where
       accepted-derivation P (own P) (P .n) (derivation-accepted P (own P) (P .n) (A .0 .is))
       ∙ ap (λ (S : Standing). given (judged P S)) own-last
 
-  own-best : (e : List ℕ) → Accepted P e → AtLeast (lastOf P e) (lastOf P (own P))
-  unfolding lastOf
-  own-best e a = rw own-steps (solution-best P (stepsOf e) (derivation-accepted P e (P .n) (a .is) .met))
-
-  own-closed : Closed P (lastOf P (own P))
-  unfolding lastOf
-  own-closed = rw own-steps (solution-closed P)
-
   pub own-is-best : Best P (own P) (solved P)
-  unfolding solved
+  unfolding solved lastOf
   own-is-best =
       record {
         is-accepted = own-accepted;
         is-sized = rw own-steps (own-lists .sized);
         is-whole = refl;
         is-short = λ t. rw own-steps (solution-short P t);
-        is-closed = own-closed;
-        is-best = own-best;
+        is-closed = rw own-steps (solution-closed P);
+        is-best = λ e a. rw own-steps (solution-best P (stepsOf e) (derivation-accepted P e (P .n) (a .is) .met));
       }
 
 -- The call on a circuit that isn't refused

@@ -24,9 +24,9 @@ use Rattle.laws.proofs.Reduced.{occurs-yes}
 use Rattle.laws.proofs.Turns.{target-within}
 use Rattle.laws.proofs.Best.{Bounding, by-root, by-sum, sorted, bounding, lowers-says, lowers-holds, lowers-kind}
 use Rattle.laws.proofs.Candidate.{Gains, one-candidate}
-use Rattle.solver.specs.Rows.{involves}
+use Rattle.rules.specs.Rows.{involves}
 use Rattle.solver.specs.Bounds.{keyOf, noKey, boundsOnly, ruleBy, LowersTo, Holder, IsKey}
-use Rattle.solver.proofs.RowLaws.{uninvolved-reduced}
+use Rattle.rules.proofs.RowLaws.{uninvolved-reduced}
 
 abbrev subjectOf : ℕ → ℕ → Constraint → Subject
 subjectOf p n K = record { p = p; n = n; equation = K }
@@ -51,10 +51,6 @@ root-linear K t l e i =
     let n = root-names K t e in
     or-cases (namesNone (K .a)) (namesNone (K .b)) i (λ z. absurd (omega (arith, none-at (K .a) z t (n .0))))
     (λ z. absurd (omega (arith, none-at (K .b) z t (n .2))))
-
-root-involves : (K : Constraint) (t : ℕ) → rootMet K t ≡ true → involves K t ≡ true
-unfolding involves
-root-involves K t e = or-left _ _ (or-left _ _ (root-names K t e .0))
 
 pub occurs-involves : (p : ℕ) (K : Constraint) (t : ℕ) → 0 < p → 1 ≤ t → occurs (reduced p K) t ≡ true → involves K t ≡ true
 occurs-involves p K t h l e = true-by _ (λ d. occurs-yes p K t e (uninvolved-reduced p K t h l d))
@@ -141,6 +137,7 @@ module _ (p n : ℕ) (K : Constraint) (b b′ : ℕ → ℕ) (positive : 0 < p) 
   sum-same t = sum-cong (suc n) _ _ (λ s l. term-same t s)
 
   pub lowers-kept : {q : Kind} {t x : ℕ} → LowersTo p n K b q t x → LowersTo p n K b′ q t x
+  unfolding involves
   lowers-kept {q} {t} {x} L = go (lowers-by p n K b L)
     where
       go : {q : Kind} → LowersBy p n K b t x q → LowersTo p n K b′ q t x
@@ -150,7 +147,7 @@ module _ (p n : ℕ) (K : Constraint) (b b′ : ℕ → ℕ) (positive : 0 < p) 
             most = L .most;
             is-met = m;
             gives = ap atMost e;
-            less = omega (arith, L .less, same t (L .least) (root-involves K t m));
+            less = omega (arith, L .less, same t (L .least) (or-left _ _ (or-left _ _ (root-names K t m .0))));
           }
       go (a-sum M e) =
           let equal = sum-same t in
@@ -173,7 +170,7 @@ key-kept p n K b b′ h same key I =
 -- As steps of the problem
 
 module _ (P : Problem) (S : Standing) where
-  rule-is : {q : Kind} → Bounding q → (k t r : ℕ)
+  pub rule-is : {q : Kind} → Bounding q → (k t r : ℕ)
       → rule q (subject (namesOf q) P k) S t r ≡ ruleBy (P .p) (P .n) (P .constraint k) (S .bound) q t
   rule-is by-root k t r = refl
   rule-is by-sum k t r = refl

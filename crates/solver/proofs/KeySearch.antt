@@ -1,59 +1,61 @@
 -- The keys of all constraints under way: found one after the other, the least kept; and what stays of them where a bound is lowered.
 use Prim.Native.Nat.{ℕ, suc, _+_, _≤_, _<_}
 use mathlib.Core.Path.{_≡_, refl, sym, ap, _∙_}
+use mathlib.Core.Bool.{true}
 use mathlib.Core.List.{List}
 use mathlib.Core.Logic.{_⊎_, inl, inr, ⊎-elim}
 use native.Mathlib.Omega.{arith}
-use native.Mathlib.Decide.{ℕ-discrete}
 use lib.ListN.{length, getD, set, replicate}
 use lib.Seq.{getD-set-same, getD-set-other}
-use Rattle.circuit.specs.Circuit.{Circuit, Constraint, constraintAt}
+use Rattle.field.specs.Prime.{Prime}
+use Rattle.circuit.specs.Circuit.{Circuit, Constraint, WellFormedConstraint, constraintAt}
 use Rattle.circuit.specs.Reader.{constraintIn}
-use Rattle.laws.proofs.Sum.{true-or-false}
-use Rattle.rules.specs.View.{boundIn}
+use Rattle.laws.specs.Step.{Kind, refers}
+use Rattle.laws.proofs.Sum.{true-or-false, by-equal, by-order}
+use Rattle.rules.specs.Promise.{reduces, Asked}
 use Rattle.rules.proofs.ViewLaws.{getD-repeated}
-use Rattle.solver.specs.Rows.{involves, at, entries, Forgotten}
+use Rattle.rules.specs.Rows.{involves, at, Row, rowOf}
 use Rattle.circuit.specs.Call.{circuitOf}
 use Rattle.circuit.specs.Offsets.{partOf}
 use Rattle.circuit.specs.declared.reader.Sizes.{Sizes}
 use Rattle.circuit.proofs.OffsetLaws.{sized-part}
-use Rattle.solver.specs.Bounds.{noKey, IsKey, Keys, SomeKeys, Least, OneRow, Prepared}
+use Rattle.solver.specs.Links.{Prepared, Forgotten}
+use Rattle.solver.specs.Bounds.{noKey, IsKey, Keys, SomeKeys, Found, Least}
 use Rattle.solver.proofs.KeyLaws.{key-kept}
-
--- the key of constraint k is found, and the others are kept
-pub record Found (C : Circuit) (b : ℕ → ℕ) (k key : ℕ) (before later : List ℕ) : Type 0 where
-  pub is-key : IsKey (C .p) (C .n) (constraintAt C k) b key
-  pub here : at later k ≡ key
-  pub kept : (j : ℕ) → (j ≡ k → ⊥) → at later j ≡ at before j
 
 -- One constraint
 
-key-same : {p p′ n n′ : ℕ} {K K′ : Constraint} (b : ℕ → ℕ) (key : ℕ) → p ≡ p′ → n ≡ n′ → K ≡ K′ → IsKey p n K b key → IsKey p′ n′ K′ b key
-key-same b key e f g I = rw (sym e, sym f, sym g) I
+module _ {c table ends rows : List ℕ} {z : Sizes} (D : Prepared c table ends rows z) {k : ℕ} (first : 1 ≤ k) (last : k ≤ z .m)
+    {part : List ℕ} (is-part : part ≡ partOf c table k) where
+  pub constraint-here : constraintIn part ≡ constraintAt (circuitOf c) k
+  constraint-here = ap constraintIn is-part ∙ sized-part (D .sized) (D .offsets) k first last
 
-module _ {c table starts signals coefs constants : List ℕ} {z : Sizes} (bounds : List ℕ)
-    (B : Prepared c table starts signals coefs constants z) (reach : circuitOf c .n < length bounds) where
-  module _ (k : ℕ) (first : 1 ≤ k) (last : k ≤ circuitOf c .m) (part : List ℕ) (is-part : part ≡ partOf c table k) where
-    same : constraintIn part ≡ constraintAt (circuitOf c) k
-    same = ap constraintIn is-part ∙ sized-part (B .sized) (B .offsets) k first (omega (arith, B .sized .is-m))
+  pub row-here : {row : List ℕ} → row ≡ rowOf table ends rows k → Row (z .p) (z .n) (constraintIn part) row
+  row-here e = rw (constraint-here, D .sized .is-p, D .sized .is-n, e) (D .made .row k first (omega (arith, D .sized .is-m)))
 
-    pub row-at : (s f : List ℕ) (constant : ℕ) → s ≡ entries starts signals k → f ≡ entries starts coefs k → constant ≡ getD constants k 0
-        → OneRow (z .p) (z .n) (constraintIn part) s f constant bounds
-    unfolding at
-    row-at s f constant s-is f-is constant-is =
-        rw (same, B .sized .is-p, B .sized .is-n, s-is, f-is)
-        (record {
-          prime = B .sized .formed .prime;
-          well-formed = B .sized .formed .each k;
-          row = B .rows .row k first last;
-          is-constant = constant-is ∙ B .rows .constant k first last;
-          reach = reach;
-          narrow = omega (arith, B .sized .formed .n-most);
-        })
+  pub key-here : {row : List ℕ} → row ≡ rowOf table ends rows k → {b : ℕ → ℕ} {key : ℕ}
+      → ((n : ℕ) → Prime (z .p) → WellFormedConstraint n (z .p) (constraintIn part) → Row (z .p) n (constraintIn part) row
+      → IsKey (z .p) n (constraintIn part) b key)
+      → IsKey (circuitOf c .p) (circuitOf c .n) (constraintAt (circuitOf c) k) b key
+  key-here e h =
+      let Z = D .sized in
+      rw (Z .is-p, Z .is-n, constraint-here) at
+      (h (z .n) (rw (Z .is-p) (Z .formed .prime)) (rw (constraint-here, Z .is-p, Z .is-n) (Z .formed .each k)) (row-here e))
 
-    pub key-there : (key : ℕ) → IsKey (z .p) (z .n) (constraintIn part) (boundIn (z .p) bounds) key
-        → IsKey (circuitOf c .p) (circuitOf c .n) (constraintAt (circuitOf c) k) (boundIn (z .p) bounds) key
-    key-there key I = key-same (boundIn (z .p) bounds) key (B .sized .is-p) (B .sized .is-n) same I
+-- what a step is asked with
+pub asked : {c table ends rows : List ℕ} {z : Sizes} → Prepared c table ends rows z → {q : Kind} {part row : List ℕ} {t r : ℕ} → 1 ≤ t → t ≤ circuitOf c .n
+    → (refers q ≡ true → (1 ≤ r) × (r ≤ circuitOf c .n)) → (reduces q ≡ true → Row (z .p) (z .n) (constraintIn part) row)
+    → Asked q (z .p) (z .n) part row t r
+asked D l h f g =
+    let Z = D .sized in
+    record {
+      prime = rw (Z .is-p) (Z .formed .prime);
+      few = omega (arith, Z .is-n, Z .formed .n-most);
+      least = l;
+      most = omega (arith, Z .is-n);
+      reference = λ i. (f i .0, omega (arith, f i .1, Z .is-n));
+      by-row = g;
+    }
 
 pub found-new : {C : Circuit} (b : ℕ → ℕ) (k : ℕ) (before : List ℕ) (key : ℕ) → k < length before → IsKey (C .p) (C .n) (constraintAt C k) b key
     → Found C b k key before (set before k key)
@@ -65,6 +67,36 @@ pub found-known : (C : Circuit) (b : ℕ → ℕ) (k : ℕ) (keys : List ℕ)
     → (at keys k ≡ 0) ⊎ IsKey (C .p) (C .n) (constraintAt C k) b (at keys k) → (getD keys k 0 ≡ 0 → ⊥) → Found C b k (getD keys k 0) keys keys
 unfolding at
 found-known C b k keys K d = record { is-key = ⊎-elim (λ z. absurd (d z)) (λ I. I) K; here = refl; kept = λ j e. refl }
+
+-- The least of the keys, one more at a time
+
+module _ {keys later : List ℕ} {k r lowest key : ℕ} (L : Least keys k r) (is-lowest : lowest ≡ at keys r) (here : at later (k + 1) ≡ key)
+    (kept : (j : ℕ) → j ≤ k → at later j ≡ at keys j) where
+  pub least-new : key < lowest → Least later (k + 1) (k + 1)
+  least-new l =
+      record {
+        within = omega arith;
+        least = λ j h. by-equal j (k + 1) (λ q. rw q (omega arith)) (λ d. omega (arith, kept j (omega arith), L .least j (omega arith)));
+        first = λ j h. omega (arith, kept j (omega arith), L .least j (omega arith));
+      }
+
+  pub least-on : lowest ≤ key → Least later (k + 1) r
+  least-on l =
+      record {
+        within = omega (arith, L .within);
+        least = λ j h.
+            by-equal j (k + 1) (λ q. rw (q, here) (omega (arith, kept r (L .within))))
+            (λ d. omega (arith, kept r (L .within), kept j (omega arith), L .least j (omega arith)));
+        first = λ j h. omega (arith, kept r (L .within), kept j (omega (arith, L .within)), L .first j h);
+      }
+
+pub least-start : (keys : List ℕ) → Least keys 0 0
+least-start keys =
+    record {
+      within = omega arith;
+      least = λ k h. let z : k ≡ 0 = omega arith in rw z (omega arith);
+      first = λ k h. absurd (omega arith);
+    }
 
 -- The walk
 
@@ -83,14 +115,13 @@ module _ (C : Circuit) (b : ℕ → ℕ) where
         top = K .top;
         done = λ j l h. absurd (omega arith);
         rest = λ j l h. K .each j (omega arith) h;
-        least =
-            record {
-              within = omega arith;
-              least = λ k h. let z : k ≡ 0 = omega arith in rw z (omega arith);
-              first = λ k h. absurd (omega arith);
-            };
+        least = least-start keys;
         is-lowest = sym (K .top);
       }
+
+  pub finding-known : (k r lowest : ℕ) (keys : List ℕ) → Finding C b k r lowest keys → SomeKeys C b keys
+  finding-known k r lowest keys F =
+      record { top = F .top; each = λ j l h. by-order k j (λ d. F .rest j d h) (λ d. inr (F .done j l d)) }
 
   pub finding-end : (k r lowest : ℕ) (keys : List ℕ) → Finding C b k r lowest keys → C .m ≤ k → k ≤ C .m → Keys C b keys × Least keys (C .m) r
   finding-end k r lowest keys F h g =
@@ -102,11 +133,7 @@ module _ (C : Circuit) (b : ℕ → ℕ) where
     kept j h = N .kept j (λ (z : j ≡ k + 1). omega arith)
 
     done : (j : ℕ) → 1 ≤ j → j ≤ k + 1 → IsKey (C .p) (C .n) (constraintAt C j) b (at later j)
-    done j l h = go (ℕ-discrete j (k + 1))
-      where
-        go : Dec (j ≡ k + 1) → IsKey (C .p) (C .n) (constraintAt C j) b (at later j)
-        go (yes q) = rw (q, N .here) (N .is-key)
-        go (no d) = rw (N .kept j d) (F .done j l (omega arith))
+    done j l h = by-equal j (k + 1) (λ q. rw (q, N .here) (N .is-key)) (λ d. rw (N .kept j d) (F .done j l (omega arith)))
 
     next : (r′ lowest′ : ℕ) → Least later (k + 1) r′ → lowest′ ≡ at later r′ → Finding C b (k + 1) r′ lowest′ later
     next r′ lowest′ L e =
@@ -119,32 +146,11 @@ module _ (C : Circuit) (b : ℕ → ℕ) where
         }
 
     pub finding-new : key < lowest → Finding C b (k + 1) (k + 1) key later
-    finding-new l =
-        next (k + 1) key
-        (record {
-          within = omega arith;
-          least = λ j h. least j h (ℕ-discrete j (k + 1));
-          first = λ j h. omega (arith, N .here, kept j (omega arith), F .is-lowest, F .least .least j (omega arith));
-        })
-        (sym (N .here))
-      where
-        least : (j : ℕ) → j ≤ k + 1 → Dec (j ≡ k + 1) → at later (k + 1) ≤ at later j
-        least j h (yes q) = rw q (omega arith)
-        least j h (no d) = omega (arith, N .here, kept j (omega arith), F .is-lowest, F .least .least j (omega arith))
+    finding-new l = next (k + 1) key (least-new (F .least) (F .is-lowest) (N .here) kept l) (sym (N .here))
 
     pub finding-on : lowest ≤ key → Finding C b (k + 1) r lowest later
     finding-on l =
-        next r lowest
-        (record {
-          within = omega (arith, F .least .within);
-          least = λ j h. least j h (ℕ-discrete j (k + 1));
-          first = λ j h. omega (arith, kept r (F .least .within), kept j (omega (arith, F .least .within)), F .least .first j h);
-        })
-        (F .is-lowest ∙ sym (kept r (F .least .within)))
-      where
-        least : (j : ℕ) → j ≤ k + 1 → Dec (j ≡ k + 1) → at later r ≤ at later j
-        least j h (yes q) = rw (q, N .here) (omega (arith, kept r (F .least .within), F .is-lowest))
-        least j h (no d) = omega (arith, kept r (F .least .within), kept j (omega arith), F .least .least j (omega arith))
+        next r lowest (least-on (F .least) (F .is-lowest) (N .here) kept l) (F .is-lowest ∙ sym (kept r (F .least .within)))
 
 -- Between turns
 

@@ -1,222 +1,200 @@
 -- The turns of the marks phase: what the loop knows, and what a turn does with it.
 use Prim.Native.Nat.{ℕ, _+_, _*_, _≤_, _<_}
-use mathlib.Core.Path.{_≡_, refl, sym, ap, _∙_}
+use mathlib.Core.Path.{_≡_, refl, ap, _∙_}
 use mathlib.Core.Bool.{Bool, true, false, cond}
-use mathlib.Core.List.{List, [], _∷_, _++_}
-use mathlib.Core.Option.{none, some}
+use mathlib.Core.List.{List}
+use mathlib.Core.Option.{Option, none, some}
 use native.Mathlib.Omega.{arith}
-use lib.ListN.{length, length-append}
+use lib.ListN.{length, replicate, length-replicate}
 use borrow.Author.Tests.{eqb-true}
-use Rattle.laws.specs.Problem.{Problem, Names, nothing, aConstraint, Subject, subject, given}
+use Rattle.laws.specs.Problem.{Problem, Names, nothing, aConstraint, given}
 use Rattle.laws.specs.Standing as laws
 use Rattle.laws.specs.Standing.{Change, atMost, fixed, apply, add, mark}
 use Rattle.laws.specs.Step as step
-use Rattle.laws.specs.Step.{Kind, Root, Sum, Zero, Product, Digits, Step, namesOf, refers, within, inside, named, referred}
-use Rattle.laws.specs.Step.{constraints, references, inRange, fits, met, change, after, replay, rule, ruleOf, adds}
-use Rattle.laws.specs.Solver.{addsBy, firstAdding}
-use Rattle.laws.proofs.Sum.{and-left, and-right, true-or-false}
-use Rattle.laws.proofs.Turns.{within-says, adds-says, adds-target}
+use Rattle.laws.specs.Step.{Step, namesOf, refers, inside, named, referred, met, change, after, rule, ruleOf}
+use Rattle.laws.specs.Solver.{firstAdding}
+use Rattle.laws.proofs.Sum.{true-or-false}
+use Rattle.laws.proofs.Turns.{within-says}
 use Rattle.laws.proofs.First.{first-some}
 use Rattle.rules.specs.View.{boundIn, markIn, viewOf}
-use Rattle.rules.specs.Promise.{view, subjectIn, Gives, kindOf}
+use Rattle.rules.specs.Promise.{view, subjectIn, Gives, Asked, kindOf}
 use Rattle.rules.specs.declared.standing.Standing as rules
 use Rattle.rules.specs.declared.standing.Outcome as outcome
 use Rattle.rules.specs.declared.standing.Kind as kind
 use Rattle.derivation.specs.Steps.{headSize, stepSize}
-use Rattle.derivation.specs.Encoded.{stepBytes, stepsBytes, stored}
-use Rattle.derivation.proofs.Written.{nothing-stored, written-next}
+use Rattle.derivation.specs.Encoded.{stepBytes, stored}
+use Rattle.circuit.specs.Circuit.{Circuit}
 use Rattle.circuit.specs.Offsets.{partOf}
 use Rattle.circuit.specs.Call.{circuitOf}
-use Rattle.solver.specs.Rows.{at, Links, Walkable, Forgotten}
-use Rattle.solver.specs.Live.{width}
-use Rattle.solver.specs.Marks.{Floors, Prepared, Standing}
+use Rattle.circuit.specs.declared.reader.Sizes.{Sizes}
+use Rattle.rules.specs.Rows.{rowOf}
+use Rattle.derivation.proofs.StepLaws.{reduces-names}
+use Rattle.solver.specs.Links.{Prepared, Links, Walkable, Forgotten}
+use Rattle.solver.specs.Marks.{MarkKeys}
 use Rattle.solver.specs.Choice.{Marked}
-use Rattle.solver.proofs.Progress.{Turned, turned-start, turned-next, turned-none, turned-all}
-use Rattle.solver.proofs.PhaseLaws.{part-is, floors-kept}
+use Rattle.solver.proofs.Progress.{Turning, Ended, turning-start, turning-none, turning-all, turning-next, rule-at}
+use Rattle.solver.proofs.KeySearch.{constraint-here, row-here, asked}
+use Rattle.solver.proofs.SweepLaws.{no-keys, keys-kept}
+use Rattle.solver.proofs.LinkLaws.{walkable}
+use Rattle.solver.proofs.MarkChoice.{Marking, marking}
 
--- the numbers of the loop
-pub record Going (n room count : ℕ) (floors : List ℕ) (loose : List Bool) (output bounds : List ℕ) (marks : List Bool) : Type 0 where
-  pub more : count ≤ n
-  pub floors-sized : length floors ≡ 513
-  pub loose-sized : length loose ≡ 513
-  pub output-same : length output ≡ room
-  pub bounds-sized : length bounds ≡ width
-  pub marks-sized : length marks ≡ width
+-- some first bounds, where which ones doesn't matter
+any : ℕ → ℕ
+any s = 0
 
--- the steps so far, where they led, and the bytes written
-pub record Turning (P : Problem) (S₀ : laws.Standing) (output₀ output : List ℕ) (base count : ℕ) (S : laws.Standing) : Type 0 where
-  pub steps : List Step
-  pub turned : Turned (firstAdding laws.marks P) P S₀ (P .n) S steps
-  pub counted : count ≡ length steps
-  pub written : output ≡ stored output₀ (headSize + stepSize * base) (stepsBytes steps)
+-- the phase under way: what it began with, the keys, the steps so far and their bytes
+pub record Going (c table ends rows lasts befores owners : List ℕ) (z : Sizes) (base : ℕ) (st₀ st : rules.Standing)
+    (output₀ output keys references : List ℕ) (count : ℕ) : Type 0 where
+  pub prepared : Prepared c table ends rows z
+  pub links : Links (circuitOf c) table ends rows lasts befores owners
+  pub begun : base ≤ z .n
+  pub more : count ≤ z .n
+  pub keys-sized : length keys ≡ 513
+  pub references-sized : length references ≡ 513
+  pub output-same : length output ≡ length output₀
+  pub keyed : MarkKeys (circuitOf c) (boundIn (z .p) (st .bounds)) (markIn (st .marks)) keys references
+  pub turning : (f : ℕ → ℕ)
+      → Turning (firstAdding laws.marks (given (circuitOf c) f)) (given (circuitOf c) f) (view (z .p) st₀) output₀ output base count (view (z .p) st)
 
-pub turning-start : (P : Problem) (S : laws.Standing) (output : List ℕ) (base : ℕ) → Turning P S output output base 0 S
-unfolding stepsBytes
-turning-start P S output base =
-    record {
-      steps = [];
-      turned = turned-start (firstAdding laws.marks P) P S (P .n);
-      counted = refl;
-      written = nothing-stored output (headSize + stepSize * base);
-    }
-
-module _ {P : Problem} {S₀ : laws.Standing} {output₀ output : List ℕ} {base count : ℕ} {S : laws.Standing}
-    (T : Turning P S₀ output₀ output base count S) where
-  ended : (xs : List Step) → xs ≡ T .steps → (S ≡ replay P S₀ xs) × (base + count ≡ base + length xs)
-      × (output ≡ stored output₀ (headSize + stepSize * base) (stepsBytes xs))
-  ended xs e = (
-    T .turned .led ∙ ap (replay P S₀) (sym e),
-    ap (λ (k : ℕ). base + k) (T .counted ∙ ap length (sym e)),
-    T .written ∙ ap (λ (ys : List Step). stored output₀ (headSize + stepSize * base) (stepsBytes ys)) (sym e),
-  )
-
-  pub turning-all : P .n ≤ count → Marked P S₀ S output₀ output base (base + count)
-  turning-all h =
-      let w = ended _ (turned-all (firstAdding laws.marks P) P S₀ (P .n) S (T .steps) (T .turned) (omega (arith, T .counted))) in
-      record { reached = w .0; counted = w .1; written = w .2 }
-
-  pub turning-none : firstAdding laws.marks P S ≡ none → Marked P S₀ S output₀ output base (base + count)
-  turning-none e =
-      let w = ended _ (turned-none (firstAdding laws.marks P) P S₀ (P .n) S (T .steps) (T .turned) e) in
-      record { reached = w .0; counted = w .1; written = w .2 }
-
-  pub turning-next : count < P .n → (x : Step) → firstAdding laws.marks P S ≡ some x → {output′ : List ℕ}
-      → output′ ≡ stored output (headSize + stepSize * (base + count)) (stepBytes x)
-      → {S′ : laws.Standing} → S′ ≡ after P S x → Turning P S₀ output₀ output′ base (count + 1) S′
-  turning-next more x taken e s =
-      let place : headSize + stepSize * (base + count) ≡ headSize + stepSize * base + stepSize * length (T .steps) = omega (arith, T .counted) in
-      record {
-        steps = T .steps ++ (x ∷ []);
-        turned =
-            rw s
-            (turned-next (firstAdding laws.marks P) P S₀ (P .n) S (T .steps) x (T .turned) (omega (arith, T .counted)) taken);
-        counted = omega (arith, T .counted, length-append (T .steps) (x ∷ []));
-        written =
-            e
-            ∙ ap (λ (j : ℕ). stored output j (stepBytes x)) place
-            ∙ written-next output₀ output (headSize + stepSize * base) (T .steps) x (T .written);
-      }
+-- what a phase that is over leaves
+marked : {P : Problem} {S₀ S : laws.Standing} {output₀ output : List ℕ} {base count : ℕ}
+    → Ended (firstAdding laws.marks P) P S₀ output₀ output base count S → Marked P S₀ S output₀ output base (base + count)
+marked {base = base} E =
+    record { reached = E .reached; counted = ap (λ (k : ℕ). base + k) (E .counted); written = E .written }
 
 -- The step that was chosen
 
-names-most : (q : Names) (P : Problem) (k : ℕ) → inside (named q P) k ≡ true → k ≤ P .m
-names-most nothing P k e = omega (arith, eqb-true k 0 e)
-names-most aConstraint P k e = within-says (P .m) k e .1
+names-within : (q : Names) (P : Problem) (k : ℕ) → inside (named q P) k ≡ true → (k ≤ P .m) × (q ≡ aConstraint → 1 ≤ k)
+names-within nothing P k e = (omega (arith, eqb-true k 0 e), λ g. let z : _≡_ {A = ℕ} 0 1 = cc in absurd (omega arith))
+names-within aConstraint P k e = let w = within-says (P .m) k e in (w .1, λ g. w .0)
 
-refers-most : (b : Bool) (P : Problem) (r : ℕ) → inside (referred b P) r ≡ true → r ≤ P .n
-refers-most false P r e = omega (arith, eqb-true r 0 e)
-refers-most true P r e = within-says (P .n) r e .1
-
-names-least : (q : Names) (P : Problem) (k : ℕ) → inside (named q P) k ≡ true → q ≡ aConstraint → 1 ≤ k
-names-least nothing P k e g = let z : _≡_ {A = ℕ} 0 1 = cc in absurd (omega arith)
-names-least aConstraint P k e g = within-says (P .m) k e .0
+refers-within : (b : Bool) (P : Problem) (r : ℕ) → inside (referred b P) r ≡ true → (r ≤ P .n) × (b ≡ true → (1 ≤ r) × (r ≤ P .n))
+refers-within false P r e = (omega (arith, eqb-true r 0 e), λ g. true-or-false false g refl)
+refers-within true P r e = let w = within-says (P .n) r e in (w .1, λ g. w)
 
 fixed-apply : (d : Change) (S : laws.Standing) (t : ℕ) → laws.marks d ≡ true → apply d S t ≡ mark S t
 fixed-apply (atMost x) S t e = true-or-false false e refl
 fixed-apply fixed S t e = refl
 
--- a rule looks at the constraint only where its kind names one
-rule-at : (q : Kind) (J : Subject) (P : Problem) (k : ℕ) (S : laws.Standing) (t r : ℕ) → J .p ≡ P .p → J .n ≡ P .n
-    → (namesOf q ≡ aConstraint → J .equation ≡ P .constraint k) → rule q J S t r ≡ rule q (subject (namesOf q) P k) S t r
-rule-at Root J P k S t r a b e = rw (a, e refl)
-rule-at Sum J P k S t r a b e = rw (a, b, e refl)
-rule-at Zero J P k S t r a b e = refl
-rule-at Product J P k S t r a b e = rw (e refl)
-rule-at Digits J P k S t r a b e = rw (a, b, e refl)
+-- A turn
 
-pub record Chosen (P : Problem) (S : laws.Standing) (x : Step) : Type 0 where
-  pub target-least : 1 ≤ x .target
-  pub target-most : x .target ≤ P .n
-  pub constraint-most : x .constraint ≤ P .m
-  pub constraint-least : namesOf (x .kind) ≡ aConstraint → 1 ≤ x .constraint
-  pub reference-most : x .reference ≤ P .n
-  pub is-met : met P S x ≡ true
-  pub is-mark : laws.marks (change P S x) ≡ true
-
-pub chosen : (P : Problem) (S : laws.Standing) (x : Step) → firstAdding laws.marks P S ≡ some x → Chosen P S x
-unfolding addsBy fits inRange
-chosen P S x e =
-    let a = first-some laws.marks P S x e in
-    let b : adds P S x ≡ true = and-left _ (laws.marks (change P S x)) a in
-    let w = adds-target P S x b in
-    let g = adds-says P S x b .0 in
-    let i : inRange P x ≡ true = and-left _ (met P S x) g in
-    let j = and-right (within (P .n) (x .target)) _ i in
-    let k = and-left _ (inside (references (x .kind) P) (x .reference)) j in
-    record {
-      target-least = w .0;
-      target-most = w .1;
-      constraint-most = names-most (namesOf (x .kind)) P (x .constraint) k;
-      constraint-least = names-least (namesOf (x .kind)) P (x .constraint) k;
-      reference-most = refers-most (refers (x .kind)) P (x .reference) (and-right (inside (constraints (x .kind) P) (x .constraint)) _ j);
-      is-met = and-right (inRange P x) _ g;
-      is-mark = and-right (adds P S x) _ a;
-    }
-
--- The standing after it
-
-module _ {c table starts signals coefs : List ℕ} {p n m : ℕ} (D : Prepared c table starts signals coefs p n m) (st : rules.Standing) (f : ℕ → ℕ)
-    (q : kind.Kind) (t k r : ℕ) where
-  abbrev P : Problem
-  P = given (circuitOf c) f
-
-  abbrev x : Step
-  x = record { kind = kindOf q; target = t; constraint = k; reference = r }
-
-  module _ (X : Chosen P (view p st) x) {part : List ℕ} (is-part : part ≡ partOf c table k) (o : outcome.Outcome)
-      (G : 1 < p → Gives p st o t (rule (kindOf q) (subjectIn p n part) (view p st) t r)) where
-    same-rule : rule (kindOf q) (subjectIn p n part) (view p st) t r ≡ ruleOf P (view p st) x
-    unfolding ruleOf
-    same-rule =
-        rule-at (kindOf q) (subjectIn p n part) P k (view p st) t r (D .is-p) (D .is-n)
-        (λ z. part-is (D .located) k (X .constraint-least z) (omega (arith, X .constraint-most, D .located .is-m)) is-part)
-
-    pub step-after : view p (o .next) ≡ after P (view p st) x
-    unfolding after change met
-    step-after =
-        G (omega (arith, D .is-p, D .formed .p-least)) .next
-        ∙ ap (λ (R : step.Rule). cond (R .met) (apply (R .change) (view p st) t) (view p st)) same-rule
-        ∙ ap (λ (b : Bool). cond b (apply (ruleOf P (view p st) x .change) (view p st) t) (view p st)) (X .is-met)
-
-    step-mark : view p (o .next) ≡ mark (view p st) t
-    unfolding after
-    step-mark = step-after ∙ fixed-apply (change P (view p st) x) (view p st) t (X .is-mark)
-
-    bounds-stay : boundIn p (o .next .bounds) ≡ boundIn p (st .bounds)
-    unfolding viewOf mark
-    bounds-stay = ap (λ (Z : laws.Standing). Z .bound) step-mark
-
-    marks-grow : markIn (o .next .marks) ≡ add (markIn (st .marks)) t
-    unfolding viewOf mark
-    marks-grow = ap (λ (Z : laws.Standing). Z .marked) step-mark
-
-    -- floors of constraints that name the signal are forgotten, the others stay
-    pub floors-next : {before later : List ℕ} → Floors (circuitOf c) (boundIn p (st .bounds)) (markIn (st .marks)) before
-        → Forgotten (circuitOf c) t before later → length later ≡ length before
-        → Floors (circuitOf c) (boundIn p (o .next .bounds)) (markIn (o .next .marks)) later
-    floors-next F E e =
-        rw (bounds-stay, marks-grow) (floors-kept t (omega (arith, D .formed .p-least)) (X .target-least) F E e)
-
--- the entries of a signal can be walked over
-pub walkable : {n m : ℕ} {starts signals lasts befores owners : List ℕ} → Links n m starts signals lasts befores owners → {size s : ℕ} → 1 ≤ s → s ≤ n
-    → m < size → Walkable lasts befores owners size s
-walkable {n} {m} {starts} L {size} {s} a b h =
-    record {
-      end = at starts (m + 1);
-      known = omega (arith, L .lasts-room);
-      first = L .last s a b .before;
-      befores-room = L .befores-room;
-      owners-room = L .owners-room;
-      falls = λ e l. L .before e l .before;
-      owned = λ e l. omega (arith, L .owned e l .1);
-    }
-
--- what the loop works on
-pub standing-here : {c table starts signals coefs : List ℕ} {p n m : ℕ} → Prepared c table starts signals coefs p n m → {bounds : List ℕ} {marks : List Bool}
-    → length bounds ≡ width → length marks ≡ width → Standing c table starts signals coefs bounds marks p n m
-standing-here D a b =
+pub going-start : {c table ends rows lasts befores owners : List ℕ} {z : Sizes} {base : ℕ} → Prepared c table ends rows z
+    × Links (circuitOf c) table ends rows lasts befores owners × (base ≤ z .n) → (st : rules.Standing) (output : List ℕ)
+    → Going c table ends rows lasts befores owners z base st st output output (replicate 513 0) (replicate 513 0) 0
+going-start (D, L, h) st output =
     record {
       prepared = D;
-      bounds-long = omega (arith, D .is-n, D .formed .n-most);
-      marks-long = omega (arith, D .is-n, D .formed .n-most);
+      links = L;
+      begun = h;
+      more = omega arith;
+      keys-sized = length-replicate {A = ℕ} 513 0;
+      references-sized = length-replicate {A = ℕ} 513 0;
+      output-same = refl;
+      keyed = no-keys 513 (omega (arith, D .sized .formed .m-most));
+      turning = λ f. turning-start _ _ _ _ _;
     }
+
+-- the numbers of the step that is taken, and the walk over the entries of its target
+pub record Small (lasts befores owners : List ℕ) (n t k r : ℕ) : Type 0 where
+  pub least : 1 ≤ t
+  pub most : t ≤ n
+  pub target-fits : t < 65536
+  pub constraint-fits : k < 65536
+  pub reference-fits : r < 65536
+  pub walk : Walkable lasts befores owners t
+
+module _ {c table ends rows lasts befores owners : List ℕ} {z : Sizes} {base : ℕ} {st₀ st : rules.Standing}
+    {output₀ output keys references : List ℕ} {count : ℕ}
+    (G : Going c table ends rows lasts befores owners z base st₀ st output₀ output keys references count) where
+  abbrev p : ℕ
+  p = z .p
+
+  abbrev C : Circuit
+  C = circuitOf c
+
+  abbrev choice : (ℕ → ℕ) → Option Step
+  choice f = firstAdding laws.marks (given C f) (view p st)
+
+  pub few : base + count ≤ 512
+  few = omega (arith, G .begun, G .more, G .prepared .sized .is-n, G .prepared .sized .formed .n-most)
+
+  pub going-none : ((f : ℕ → ℕ) → choice f ≡ none) → (f : ℕ → ℕ) → Marked (given C f) (view p st₀) (view p st) output₀ output base (base + count)
+  going-none e f = marked (turning-none (G .turning f) (e f))
+
+  pub going-all : z .n ≤ count → (f : ℕ → ℕ) → Marked (given C f) (view p st₀) (view p st) output₀ output base (base + count)
+  going-all h f = marked (turning-all (G .turning f) (omega (arith, G .prepared .sized .is-n)))
+
+  module _ (q : kind.Kind) {t k r : ℕ} (chosen : (f : ℕ → ℕ) → choice f ≡ some (record { kind = kindOf q; target = t; constraint = k; reference = r })) where
+    abbrev x : Step
+    x = record { kind = kindOf q; target = t; constraint = k; reference = r }
+
+    X : (f : ℕ → ℕ) → Marking (given C f) (view p st) x
+    X f = marking (given C f) (view p st) x (first-some laws.marks (given C f) (view p st) x (chosen f))
+
+    last : k ≤ C .m
+    last = names-within (namesOf (kindOf q)) (given C any) k (X any .names) .0
+
+    first : namesOf (kindOf q) ≡ aConstraint → 1 ≤ k
+    first = names-within (namesOf (kindOf q)) (given C any) k (X any .names) .1
+
+    pub small : Small lasts befores owners (C .n) t k r
+    small =
+        let T = X any .target in
+        let formed = G .prepared .sized .formed in
+        record {
+          least = T .least;
+          most = T .most;
+          target-fits = omega (arith, T .most, formed .n-most);
+          constraint-fits = omega (arith, last, formed .m-most);
+          reference-fits = omega (arith, refers-within (refers (kindOf q)) (given C any) r (X any .refers) .0, formed .n-most);
+          walk = walkable (G .prepared .made) (G .links) (T .least) (T .most);
+        }
+
+    module _ {part row : List ℕ} (is-part : part ≡ partOf c table k) (is-row : row ≡ rowOf table ends rows k) {o : outcome.Outcome}
+        (given-step : (n : ℕ) → Asked (kindOf q) p n part row t r → Gives p st o t (rule (kindOf q) (subjectIn p n part) (view p st) t r)) where
+      D : Prepared c table ends rows z
+      D = G .prepared
+
+      within : k ≤ z .m
+      within = omega (arith, last, D .sized .is-m)
+
+      same-rule : (f : ℕ → ℕ) → rule (kindOf q) (subjectIn p (z .n) part) (view p st) t r ≡ ruleOf (given C f) (view p st) x
+      unfolding ruleOf
+      same-rule f =
+          rule-at (kindOf q) (subjectIn p (z .n) part) (given C f) k (view p st) t r (D .sized .is-p) (D .sized .is-n)
+          (λ i. constraint-here D (first i) within is-part)
+
+      step-after : (f : ℕ → ℕ) → view p (o .next) ≡ after (given C f) (view p st) x
+      unfolding after change met
+      step-after f =
+          given-step (z .n)
+          (asked D (X f .target .least) (X f .target .most) (refers-within (refers (kindOf q)) (given C f) r (X f .refers) .1)
+          (λ i. row-here D (first (reduces-names (kindOf q) i)) within is-part is-row)) .next
+          ∙ ap (λ (R : step.Rule). cond (R .met) (apply (R .change) (view p st) t) (view p st)) (same-rule f)
+          ∙ ap (λ (b : Bool). cond b (apply (ruleOf (given C f) (view p st) x .change) (view p st) t) (view p st)) (X f .is-met)
+
+      step-mark : view p (o .next) ≡ mark (view p st) t
+      unfolding after
+      step-mark = step-after any ∙ fixed-apply (change (given C any) (view p st) x) (view p st) t (X any .is-mark)
+
+      -- keys of constraints that name the signal are forgotten, the others stay
+      pub going-next : count < z .n → {known later references′ output′ : List ℕ}
+          → MarkKeys C (boundIn p (st .bounds)) (markIn (st .marks)) known references′ → Forgotten C t known later
+          → length known ≡ 513 → length later ≡ length known → length references′ ≡ 513
+          → output′ ≡ stored output (headSize + stepSize * (base + count)) (stepBytes x) → length output′ ≡ length output
+          → Going c table ends rows lasts befores owners z base st₀ (o .next) output₀ output′ later references′ (count + 1)
+      unfolding viewOf mark
+      going-next h M E e e′ a written w =
+          let bounds-stay : boundIn p (o .next .bounds) ≡ boundIn p (st .bounds) = ap (λ (Z : laws.Standing). Z .bound) step-mark in
+          let marks-grow : markIn (o .next .marks) ≡ add (markIn (st .marks)) t = ap (λ (Z : laws.Standing). Z .marked) step-mark in
+          record {
+            prepared = D;
+            links = G .links;
+            begun = G .begun;
+            more = omega arith;
+            keys-sized = e′ ∙ e;
+            references-sized = a;
+            output-same = w ∙ G .output-same;
+            keyed = rw (bounds-stay, marks-grow) (keys-kept M t (omega (arith, D .sized .formed .p-least)) E e′);
+            turning = λ f. turning-next (G .turning f) (omega (arith, D .sized .is-n)) x (chosen f) refl written (step-after f);
+          }

@@ -1,15 +1,18 @@
 -- A phase of the solver under way: the steps so far, and what is still to come.
-use Prim.Native.Nat.{ℕ, zero, suc, _-_, _≤_, _<_}
+use Prim.Native.Nat.{ℕ, zero, suc, _+_, _*_, _-_, _≤_, _<_}
 use mathlib.Core.Path.{_≡_, refl, sym, ap, _∙_}
 use mathlib.Core.List.{List, [], _∷_, _++_, append-assoc, append-nil}
 use mathlib.Core.Option.{Option, none, some}
 use native.Mathlib.Omega.{arith}
 use lib.ListN.{length, length-append}
-use Rattle.laws.specs.Problem.{Problem}
+use Rattle.laws.specs.Problem.{Problem, Subject, subject, aConstraint}
 use Rattle.laws.specs.Standing.{Standing}
-use Rattle.laws.specs.Step.{Step, after, replay}
+use Rattle.laws.specs.Step.{Kind, Root, Sum, Zero, Product, Digits, namesOf, Step, rule, after, replay}
 use Rattle.laws.specs.Solver.{turns}
 use Rattle.laws.proofs.Order.{replay-append}
+use Rattle.derivation.specs.Steps.{headSize, stepSize}
+use Rattle.derivation.specs.Encoded.{stepBytes, stepsBytes, stored}
+use Rattle.derivation.proofs.Written.{nothing-stored, written-next}
 
 -- Turns
 
@@ -23,43 +26,80 @@ turns-some : (choose : Standing → Option Step) (P : Problem) (fuel : ℕ) (S :
 unfolding turns
 turns-some choose P fuel S x e = rw e
 
--- after the steps xs from S₀ on, of at most `fuel`, the standing is S and the rest is still to come
-pub record Turned (choose : Standing → Option Step) (P : Problem) (S₀ : Standing) (fuel : ℕ) (S : Standing) (xs : List Step) : Type 0 where
-  pub led : S ≡ replay P S₀ xs
-  pub rest : turns choose P fuel S₀ ≡ xs ++ turns choose P (fuel - length xs) S
-  pub few : length xs ≤ fuel
+-- Turns that are written
 
-pub turned-start : (choose : Standing → Option Step) (P : Problem) (S₀ : Standing) (fuel : ℕ) → Turned choose P S₀ fuel S₀ []
-unfolding replay
-turned-start choose P S₀ fuel =
-    let all : fuel ≡ fuel - 0 = omega arith in
-    record { led = refl; rest = ap (λ (k : ℕ). turns choose P k S₀) all; few = omega arith }
+-- the steps so far, where they led, what is still to come, and the bytes written, after those of the `base` steps before
+pub record Turning (choose : Standing → Option Step) (P : Problem) (S₀ : Standing) (output₀ output : List ℕ) (base count : ℕ) (S : Standing) : Type 0 where
+  pub steps : List Step
+  pub led : S ≡ replay P S₀ steps
+  pub rest : turns choose P (P .n) S₀ ≡ steps ++ turns choose P (P .n - length steps) S
+  pub counted : count ≡ length steps
+  pub written : output ≡ stored output₀ (headSize + stepSize * base) (stepsBytes steps)
 
-pub turned-next : (choose : Standing → Option Step) (P : Problem) (S₀ : Standing) (fuel : ℕ) (S : Standing) (xs : List Step) (x : Step)
-    → Turned choose P S₀ fuel S xs → length xs < fuel → choose S ≡ some x → Turned choose P S₀ fuel (after P S x) (xs ++ (x ∷ []))
-unfolding replay
-turned-next choose P S₀ fuel S xs x T l e =
-    let left : fuel - length xs ≡ suc (fuel - length (xs ++ (x ∷ []))) = omega (arith, length-append xs (x ∷ [])) in
-    let on = turns-some choose P (fuel - length (xs ++ (x ∷ []))) S x e in
-    let later = turns choose P (fuel - length (xs ++ (x ∷ []))) (after P S x) in
+-- a phase that is over
+pub record Ended (choose : Standing → Option Step) (P : Problem) (S₀ : Standing) (output₀ output : List ℕ) (base count : ℕ) (S : Standing) : Type 0 where
+  pub reached : S ≡ replay P S₀ (turns choose P (P .n) S₀)
+  pub counted : count ≡ length (turns choose P (P .n) S₀)
+  pub written : output ≡ stored output₀ (headSize + stepSize * base) (stepsBytes (turns choose P (P .n) S₀))
+
+pub turning-start : (choose : Standing → Option Step) (P : Problem) (S : Standing) (output : List ℕ) (base : ℕ) → Turning choose P S output output base 0 S
+unfolding stepsBytes replay
+turning-start choose P S output base =
+    let all : P .n ≡ P .n - 0 = omega arith in
     record {
-      led = ap (λ (Z : Standing). after P Z x) (T .led) ∙ sym (replay-append P S₀ xs (x ∷ []));
-      rest =
-          T .rest
-          ∙ ap (λ (k : ℕ). xs ++ turns choose P k S) left
-          ∙ ap (λ (ys : List Step). xs ++ ys) on
-          ∙ sym (append-assoc xs (x ∷ []) later);
-      few = omega (arith, length-append xs (x ∷ []));
+      steps = [];
+      led = refl;
+      rest = ap (λ (k : ℕ). turns choose P k S) all;
+      counted = refl;
+      written = nothing-stored output (headSize + stepSize * base);
     }
 
-pub turned-none : (choose : Standing → Option Step) (P : Problem) (S₀ : Standing) (fuel : ℕ) (S : Standing) (xs : List Step)
-    → Turned choose P S₀ fuel S xs → choose S ≡ none → turns choose P fuel S₀ ≡ xs
-turned-none choose P S₀ fuel S xs T e =
-    T .rest ∙ ap (λ (ys : List Step). xs ++ ys) (turns-none choose P (fuel - length xs) S e) ∙ append-nil xs
+module _ {choose : Standing → Option Step} {P : Problem} {S₀ : Standing} {output₀ output : List ℕ} {base count : ℕ} {S : Standing}
+    (T : Turning choose P S₀ output₀ output base count S) where
+  ended : turns choose P (P .n) S₀ ≡ T .steps → Ended choose P S₀ output₀ output base count S
+  ended e = record { reached = rw e (T .led); counted = rw e (T .counted); written = rw e (T .written) }
 
-pub turned-all : (choose : Standing → Option Step) (P : Problem) (S₀ : Standing) (fuel : ℕ) (S : Standing) (xs : List Step)
-    → Turned choose P S₀ fuel S xs → fuel ≤ length xs → turns choose P fuel S₀ ≡ xs
-unfolding turns
-turned-all choose P S₀ fuel S xs T h =
-    let left : fuel - length xs ≡ 0 = omega arith in
-    T .rest ∙ ap (λ (k : ℕ). xs ++ turns choose P k S) left ∙ append-nil xs
+  pub turning-all : P .n ≤ count → Ended choose P S₀ output₀ output base count S
+  unfolding turns
+  turning-all h =
+      let left : P .n - length (T .steps) ≡ 0 = omega (arith, T .counted) in
+      ended (T .rest ∙ ap (λ (k : ℕ). T .steps ++ turns choose P k S) left ∙ append-nil (T .steps))
+
+  pub turning-none : choose S ≡ none → Ended choose P S₀ output₀ output base count S
+  turning-none e =
+      ended (T .rest ∙ ap (λ (ys : List Step). T .steps ++ ys) (turns-none choose P (P .n - length (T .steps)) S e) ∙ append-nil (T .steps))
+
+  pub turning-next : count < P .n → (x : Step) → choose S ≡ some x → {output′ : List ℕ} {k : ℕ} → k ≡ base + count
+      → output′ ≡ stored output (headSize + stepSize * k) (stepBytes x)
+      → {S′ : Standing} → S′ ≡ after P S x → Turning choose P S₀ output₀ output′ base (count + 1) S′
+  unfolding replay
+  turning-next more x taken {k = k} is-k e s =
+      let xs = T .steps in
+      let longer = length-append xs (x ∷ []) in
+      let later = P .n - length (xs ++ (x ∷ [])) in
+      let left : P .n - length xs ≡ suc later = omega (arith, T .counted, longer) in
+      let place : headSize + stepSize * k ≡ headSize + stepSize * base + stepSize * length xs = omega (arith, T .counted) in
+      record {
+        steps = xs ++ (x ∷ []);
+        led = s ∙ ap (λ (Z : Standing). after P Z x) (T .led) ∙ sym (replay-append P S₀ xs (x ∷ []));
+        rest =
+            rw s
+            (T .rest
+            ∙ ap (λ (j : ℕ). xs ++ turns choose P j S) left
+            ∙ ap (λ (ys : List Step). xs ++ ys) (turns-some choose P later S x taken)
+            ∙ sym (append-assoc xs (x ∷ []) (turns choose P later (after P S x))));
+        counted = omega (arith, T .counted, longer);
+        written =
+            e
+            ∙ ap (λ (j : ℕ). stored output j (stepBytes x)) place
+            ∙ written-next output₀ output (headSize + stepSize * base) xs x (T .written);
+      }
+
+-- a rule looks at the constraint only where its kind names one
+pub rule-at : (q : Kind) (J : Subject) (P : Problem) (k : ℕ) (S : Standing) (t r : ℕ) → J .p ≡ P .p → J .n ≡ P .n
+    → (namesOf q ≡ aConstraint → J .equation ≡ P .constraint k) → rule q J S t r ≡ rule q (subject (namesOf q) P k) S t r
+rule-at Root J P k S t r a b e = rw (a, e refl)
+rule-at Sum J P k S t r a b e = rw (a, b, e refl)
+rule-at Zero J P k S t r a b e = refl
+rule-at Product J P k S t r a b e = rw (e refl)
+rule-at Digits J P k S t r a b e = rw (a, b, e refl)

@@ -1,5 +1,5 @@
 -- The call from what its parts answer: the two phases one after the other, the bytes that they leave, and the answer.
-use Prim.Native.Nat.{ℕ, _+_, _*_, _≤_, _<_, min}
+use Prim.Native.Nat.{ℕ, _+_, _*_, _/_, _≤_, _<_, min}
 use mathlib.Core.Path.{_≡_, refl, sym, ap, _∙_}
 use mathlib.Core.Bool.{Bool, true, false}
 use mathlib.Core.List.{List, _++_}
@@ -18,7 +18,6 @@ use Rattle.laws.specs.Sum.{all}
 use Rattle.laws.specs.Standing.{Standing, isInput, start, marks}
 use Rattle.laws.specs.Solver.{bestBound, firstAdding, turns, boundSteps, bounded, markSteps, solution}
 use Rattle.laws.proofs.Order.{replay-append}
-use Rattle.laws.proofs.Marks.{marking}
 use Rattle.laws.proofs.Solution.{solution-length}
 use Rattle.derivation.specs.Encoded.{headerBytes, stepsBytes, encoded, stored}
 use Rattle.derivation.specs.Call.{Verdict, bit, marksFrom, marksOf, total, outputMarked, verdictBy, verdictOf, judged}
@@ -27,16 +26,13 @@ use Rattle.derivation.proofs.MarkLaws.{marks-counted}
 use Rattle.derivation.proofs.Written.{written-append, header-written}
 use Rattle.solver.specs.Call.{Solved, own, reached, solved, roomFor, solverOn, solverCall, leftBy, leftOn, solverOutput}
 use Rattle.circuit.specs.Offsets.{Offsets}
-use Rattle.circuit.proofs.OffsetLaws.{sized-offsets, sized-part}
+use Rattle.circuit.proofs.OffsetLaws.{sized-offsets}
 use Rattle.laws.specs.Problem as laws
 use Rattle.laws.proofs.Turns.{none-done, turns-short}
 use Rattle.laws.proofs.Greedy.{reached-start, bound-phase}
 use Rattle.rules.proofs.ViewLaws.{getD-repeated}
-use Rattle.solver.specs.Rows.{at, Rows, Links}
-use Rattle.solver.specs.Filling as filling
-use Rattle.solver.specs.Filling.{Entries, Roomy, Unlinked}
-use Rattle.solver.specs.Bounds as bounds
-use Rattle.solver.specs.Marks as marking
+use Rattle.rules.specs.Rows.{at}
+use Rattle.solver.specs.Links.{AllRows, Prepared, Blank, Unlinked, Entries}
 use Rattle.solver.specs.Bounds.{Lowered}
 use Rattle.solver.specs.Choice.{Marked, Taken}
 use Rattle.solver.specs.Demand.{Demand}
@@ -51,10 +47,6 @@ pub unmarked-counted : (m : ℕ → Bool) (s count : ℕ) → count ≡ total (m
 unmarked-counted m s count e h =
     let same : count ≡ count + 0 = omega arith in
     same ∙ marks-counted m s count 0 e (sym (ap bit h))
-
-pub none-counted : (m : ℕ → Bool) → 0 ≡ total (marksFrom m 0 0)
-unfolding marksFrom total
-none-counted m = refl
 
 -- A circuit that is refused
 
@@ -100,33 +92,24 @@ module _ (c : List ℕ) (z : Sizes) (Z : Sized c z) where
   -- after both phases
   module _ (output output₂ : List ℕ) (S S₂ : Standing) (steps : ℕ) (begin : S ≡ start P) (T : Taken P S S₂ output output₂ steps)
       (roomy : 7 + 14 * z .n ≤ length output) where
-    abbrev L : Lowered P S (T .middle) output (T .half) (T .base)
-    L = T .lowered
-
-    abbrev M : Marked P (T .middle) S₂ (T .half) output₂ (T .base) steps
-    M = T .marked
-
-    abbrev S₁ : Standing
-    S₁ = T .middle
-
     bounds-are : turns (bestBound P) P (P .n) S ≡ boundSteps P
     unfolding boundSteps
     bounds-are = rw begin refl
 
-    bounded-at : S₁ ≡ bounded P
-    bounded-at = L .reached ∙ rw (bounds-are, begin) refl
+    bounded-at : T .middle ≡ bounded P
+    bounded-at = T .lowered .reached ∙ rw (bounds-are, begin) refl
 
-    marks-are : turns (firstAdding marks P) P (P .n) S₁ ≡ markSteps P
+    marks-are : turns (firstAdding marks P) P (P .n) (T .middle) ≡ markSteps P
     unfolding markSteps
     marks-are = rw bounded-at refl
 
     base-counted : T .base ≡ length (boundSteps P)
-    base-counted = L .counted ∙ rw bounds-are refl
+    base-counted = T .lowered .counted ∙ rw bounds-are refl
 
     steps-counted : steps ≡ length (solution P)
     unfolding solution
     steps-counted =
-        omega (arith, M .counted, ap length marks-are, base-counted, length-append (boundSteps P) (markSteps P))
+        omega (arith, T .marked .counted, ap length marks-are, base-counted, length-append (boundSteps P) (markSteps P))
 
     pub steps-small : steps ≤ 512
     steps-small = omega (arith, steps-counted, solution-length P, W .n-most)
@@ -134,14 +117,14 @@ module _ (c : List ℕ) (z : Sizes) (Z : Sized c z) where
     reached-view : S₂ ≡ reached P
     unfolding reached solution
     reached-view =
-        M .reached ∙ rw (marks-are, bounded-at) (sym (replay-append P (start P) (boundSteps P) (markSteps P)))
+        T .marked .reached ∙ rw (marks-are, bounded-at) (sym (replay-append P (start P) (boundSteps P) (markSteps P)))
 
     both-written : output₂ ≡ stored output 7 (stepsBytes (solution P))
     unfolding solution
     both-written =
-        M .written
+        T .marked .written
         ∙ rw (marks-are, base-counted) refl
-        ∙ written-append output (T .half) 7 (boundSteps P) (markSteps P) (L .written ∙ rw bounds-are refl)
+        ∙ written-append output (T .half) 7 (boundSteps P) (markSteps P) (T .lowered .written ∙ rw bounds-are refl)
 
     own-length : length (own P) ≡ 7 + 7 * length (solution P)
     unfolding own
@@ -175,62 +158,48 @@ demanded c output r left e = (e .0, (e .1, rw (e .0, e .1) (demand c output)))
 
 -- Between the parts
 
-module _ {c table starts signals coefs constants : List ℕ} {z : Sizes} (B : bounds.Prepared c table starts signals coefs constants z) where
-  -- the bounds phase takes at most n steps
-  pub bounds-few : (f : ℕ → ℕ) {S S′ : Standing} {output output′ : List ℕ} {count : ℕ} → Lowered (laws.given (circuitOf c) f) S S′ output output′ count
-      → count ≤ z .n
-  bounds-few f {S} L =
-      let P = laws.given (circuitOf c) f in
-      omega (arith, L .counted, turns-short (bound-phase P) (P .n) none-done S (reached-start P S), B .sized .is-n)
-
-  pub marks-prepared : marking.Prepared c table starts signals coefs (z .p) (z .n) (z .m)
-  marks-prepared =
-      record {
-        formed = B .sized .formed;
-        is-p = B .sized .is-p;
-        is-n = B .sized .is-n;
-        located = record { is-m = B .sized .is-m; parts = sized-part (B .sized) (B .offsets) };
-        constants = constants;
-        rows = B .rows;
-      }
-
-  pub marks-linked : {lasts befores owners : List ℕ} → Links (z .n) (z .m) starts signals lasts befores owners
-      → Links (circuitOf c .n) (circuitOf c .m) starts signals lasts befores owners
-  marks-linked L = rw (← (B .sized .is-n), ← (B .sized .is-m)) L
+-- the bounds phase takes at most n steps, whichever the first bounds are
+pub bounds-few : {c : List ℕ} {z : Sizes} {S S′ : Standing} {output output′ : List ℕ} {count : ℕ} → Sized c z
+    → ((f : ℕ → ℕ) → Lowered (laws.given (circuitOf c) f) S S′ output output′ count) → count ≤ z .n
+bounds-few {c} {z} {S = S} Z L =
+    let P = laws.given (circuitOf c) (largest (z .p)) in
+    omega (arith, L (largest (z .p)) .counted, turns-short (bound-phase P) (P .n) none-done S (reached-start P S), Z .is-n)
 
 -- both phases, one on what the other left
 pub both-taken : {P : Problem} {S S₁ S₂ : Standing} {output output₁ output₂ : List ℕ} {base steps : ℕ} → Lowered P S S₁ output output₁ base
     → Marked P S₁ S₂ output₁ output₂ base steps → Taken P S S₂ output output₂ steps
 both-taken L M = record { middle = _; half = _; base = _; lowered = L; marked = M }
 
--- what filling the rows asks: arrays of the call's own, all zeros, and those lent
-module _ {c table signals coefs befores owners : List ℕ} {z : Sizes} (Z : Sized c z) (O : Offsets c (min (z .m) 512) table)
-    (E : Entries (length c) signals coefs befores owners) where
-  pub filling-prepared : filling.Prepared c table z
-  filling-prepared = record { sized = Z; offsets = sized-offsets Z O }
+-- arrays of so many entries are enough
+pub entries-for : {bytes m : ℕ} (x : ℕ) → bytes / 6 + m + 1 ≤ x → Entries bytes m (replicate (2 * x) 0) (replicate x 0) (replicate x 0)
+entries-for x h =
+    record {
+      rows-room = simp length-replicate (omega (arith, h));
+      befores-room = simp length-replicate (omega arith);
+      owners-room = simp length-replicate (omega arith);
+    }
 
-  pub filling-roomy : Roomy (length c) (z .m) (replicate 514 0) signals coefs (replicate 513 0) owners
-  filling-roomy =
-      let few : z .m ≤ 512 = omega (arith, Z .is-m, Z .formed .m-most) in
+-- what making the table asks, of arrays of the call's own, all zeros, and of those lent, and what the phases ask of the rows made
+module _ {c table : List ℕ} {z : Sizes} (Z : Sized c z) (O : Offsets c (min (z .m) 512) table) where
+  pub table-blank : {rows befores owners : List ℕ} → Entries (length c) (z .m) rows befores owners → Blank c table z (replicate 513 0) rows owners
+  unfolding at
+  table-blank E =
       record {
-        starts-room = simp length-replicate (omega arith);
-        signals-room = E .signals-room;
-        coefs-room = E .coefs-room;
-        constants-room = simp length-replicate (omega arith);
+        sized = Z;
+        offsets = sized-offsets Z O;
+        roomy = record { ends-room = simp length-replicate (omega (arith, Z .is-m, Z .formed .m-most)); rows-room = E .rows-room };
         owners-room = E .owners-room;
+        none = λ k. getD-repeated {A = ℕ} 513 k 0;
       }
 
-  pub filling-unlinked : Unlinked (z .n) (replicate 514 0) signals (replicate 257 0) befores
+  pub table-unlinked : {rows befores owners : List ℕ} → Entries (length c) (z .m) rows befores owners → Unlinked (z .n) rows (replicate 257 0) befores
   unfolding at
-  filling-unlinked =
+  table-unlinked E =
       record {
-        begins = getD-repeated {A = ℕ} 514 1 0;
         lasts-room = simp length-replicate (omega (arith, Z .is-n, Z .formed .n-most));
         fresh = λ s. getD-repeated {A = ℕ} 257 s 0;
         befores-room = E .befores-room;
       }
 
-  pub phases-prepared : {starts signals′ coefs′ constants : List ℕ} → Rows (circuitOf c) starts signals′ coefs′ constants → length constants ≡ 513
-      → bounds.Prepared c table starts signals′ coefs′ constants z
-  phases-prepared R e =
-      record { sized = Z; offsets = sized-offsets Z O; rows = R; constants-room = omega (arith, Z .formed .m-most) }
+  pub table-prepared : {ends rows : List ℕ} → AllRows (circuitOf c) table ends rows → Prepared c table ends rows z
+  table-prepared R = record { sized = Z; offsets = sized-offsets Z O; made = R }

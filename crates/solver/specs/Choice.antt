@@ -8,7 +8,7 @@ use lib.Dec.{eqb}
 use lib.ListN.{length}
 use Rattle.laws.specs.Problem.{Problem}
 use Rattle.laws.specs.Standing.{Standing, marks}
-use Rattle.laws.specs.Step.{Step, replay}
+use Rattle.laws.specs.Step.{Kind, Zero, Product, Digits, Step, replay}
 use Rattle.laws.specs.Solver.{step, firstAdding, turns}
 use Rattle.rules.specs.Promise.{kindOf}
 use Rattle.derivation.specs.Steps.{headSize, stepSize}
@@ -17,9 +17,9 @@ use Rattle.solver.specs.Bounds.{Lowered}
 use Rattle.solver.specs.declared.marks.Choice.{Choice}
 use Rattle.solver.specs.declared.marks.Choice.the-variants as variants
 
--- the step found, or what is found later where the constraint is 0
-unfoldable pub found : ℕ → Step → Option Step → Option Step
-found constraint x later = cond (eqb constraint 0) later (some x)
+-- the kind of a step that marks, by its number
+unfoldable pub markKind : ℕ → Kind
+markKind x = cond (eqb x 3) Zero (cond (eqb x 4) Product Digits)
 
 abbrev pub choiceOf : Choice → Option Step
 choiceOf variants.Nothing = none

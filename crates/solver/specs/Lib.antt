@@ -1,8 +1,6 @@
-pub mod Rows
-pub mod Filling
+pub mod Links
 pub mod Search
 pub mod Bounds
-pub mod Live
 pub mod Marks
 pub mod Choice
 pub mod Call

@@ -2,12 +2,11 @@
 
 use crate::keys::NO_KEY;
 use crate::keys::key_by;
-use crate::memory::forget;
-use crate::rows::coefs_of;
-use crate::rows::signals_of;
+use crate::links::forget;
 use circuit::offsets::part_of;
 use circuit::reader::Sizes;
 use derivation::writer::put_step;
+use rules::rows::row_of;
 use rules::standing::Kind;
 use rules::standing::Standing;
 ghost use mathlib.Core.Path.{_≡_};
@@ -19,10 +18,9 @@ ghost use Rattle.laws.specs.Problem.{given};
 ghost use Rattle.laws.specs.Step as laws;
 ghost use Rattle.rules.specs.View.{boundIn};
 ghost use Rattle.rules.specs.Promise.{view, kindOf};
-ghost use Rattle.solver.specs.Rows.{Links};
 ghost use Rattle.circuit.specs.Call.{circuitOf};
-ghost use Rattle.circuit.specs.Circuit.{constraintAt};
-ghost use Rattle.solver.specs.Bounds.{IsKey, Keys, SomeKeys, Least, Prepared, Room, Place, Lowered};
+ghost use Rattle.solver.specs.Links.{Prepared, Links};
+ghost use Rattle.solver.specs.Bounds.{Keys, SomeKeys, Kept, Found, Least, Lowered};
 
 // What the bounds phase leaves: the standing, and how many steps were taken.
 pub(crate) struct Bounded {
@@ -30,48 +28,44 @@ pub(crate) struct Bounded {
     pub count: u32,
 }
 
-// The key of constraint k.
-fn key_at(
+// The key of constraint k, found where it isn't known.
+fn known_key(
     circuit: &[u8],
     table: &[u32],
-    starts: &[u32],
-    signals: &[u16],
-    coefs: &[u32],
-    constants: &[u32],
+    ends: &[u32],
+    rows: &[u32],
     bounds: &[u32],
+    keys: &mut [u64],
     sizes: Sizes,
     k: u32,
 ) -> u64
-    requires { ⌜ Prepared (now circuit) (now table) (now starts) (now signals) (now coefs) (now constants) sizes
-        × Place (circuitOf (now circuit)) k × (circuitOf (now circuit) .n < length (now bounds)) ⌝ }
-    ensures { λ r. ⌜ IsKey (circuitOf (now (circuit .entry)) .p) (circuitOf (now (circuit .entry)) .n)
-        (constraintAt (circuitOf (now (circuit .entry))) k) (boundIn (sizes .p) (now (bounds .entry))) r ⌝ }
+    requires { ⌜ Prepared (now circuit) (now table) (now ends) (now rows) sizes
+        × SomeKeys (circuitOf (now circuit)) (boundIn (sizes .p) (now bounds)) (now keys) × Kept (sizes .m) k (now keys) ⌝ }
+    ensures { λ r. ⌜ Found (circuitOf (now (circuit .entry))) (boundIn (sizes .p) (now (bounds .entry))) k r (now (keys .entry)) (now (keys .exit)) ⌝ }
 {
-    key_by(
-        part_of(circuit, table, k),
-        signals_of(starts, signals, k),
-        coefs_of(starts, coefs, k),
-        constants[k as usize],
-        bounds,
-        sizes.p,
-        sizes.n,
-    )
+    let place = k as usize;
+    let known = keys[place];
+    if known != 0 {
+        return known;
+    }
+    let row = row_of(table, ends, rows, k);
+    let key = key_by(part_of(circuit, table, k), row, bounds, sizes.p);
+    keys[place] = key;
+    key
 }
 
 // Finds the keys that are not known, and the first constraint with the least key; 0 where none has one.
 fn next_key(
     circuit: &[u8],
     table: &[u32],
-    starts: &[u32],
-    signals: &[u16],
-    coefs: &[u32],
-    constants: &[u32],
+    ends: &[u32],
+    rows: &[u32],
     bounds: &[u32],
     keys: &mut [u64],
     sizes: Sizes,
 ) -> u32
-    requires { ⌜ Prepared (now circuit) (now table) (now starts) (now signals) (now coefs) (now constants) sizes
-        × SomeKeys (circuitOf (now circuit)) (boundIn (sizes .p) (now bounds)) (now keys) × Room (circuitOf (now circuit)) (now keys) (now bounds) ⌝ }
+    requires { ⌜ Prepared (now circuit) (now table) (now ends) (now rows) sizes
+        × SomeKeys (circuitOf (now circuit)) (boundIn (sizes .p) (now bounds)) (now keys) × (sizes .m < length (now keys)) ⌝ }
     ensures { λ r. ⌜ Keys (circuitOf (now (circuit .entry))) (boundIn (sizes .p) (now (bounds .entry))) (now (keys .exit))
         × Least (now (keys .exit)) (circuitOf (now (circuit .entry)) .m) r ⌝ }
 {
@@ -80,34 +74,17 @@ fn next_key(
     let mut k: u32 = 0;
     while k < sizes.m {
         k = k + 1;
-        let known = keys[k as usize];
-        if known == 0 {
-            let key = key_at(
-                circuit,
-                table,
-                starts,
-                signals,
-                coefs,
-                constants,
-                bounds,
-                sizes,
-                k,
-            );
-            keys[k as usize] = key;
-            if key < lowest {
-                r = k;
-                lowest = key;
-            }
-        } else if known < lowest {
+        let key = known_key(circuit, table, ends, rows, bounds, keys, sizes, k);
+        if key < lowest {
             r = k;
-            lowest = known;
+            lowest = key;
         }
     }
     r
 }
 
 // The target of the step with this key.
-fn target_in(key: u64) -> u16
+pub(crate) fn target_in(key: u64) -> u16
     ensures { λ r. ⌜ r ≡ key / 8 % 65536 ⌝ }
 {
     (key / 8 % 65536) as u16
@@ -124,10 +101,8 @@ fn kind_in(key: u64) -> Kind
 pub(crate) fn lower_bounds(
     circuit: &[u8],
     table: &[u32],
-    starts: &[u32],
-    signals: &[u16],
-    coefs: &[u32],
-    constants: &[u32],
+    ends: &[u32],
+    rows: &[u32],
     lasts: &[u16],
     befores: &[u16],
     owners: &[u16],
@@ -135,8 +110,8 @@ pub(crate) fn lower_bounds(
     output: &mut [u8],
     sizes: Sizes,
 ) -> Bounded
-    requires { ⌜ Prepared (now circuit) (now table) (now starts) (now signals) (now coefs) (now constants) sizes
-        × Links (sizes .n) (sizes .m) (now starts) (now signals) (now lasts) (now befores) (now owners) ⌝ }
+    requires { ⌜ Prepared (now circuit) (now table) (now ends) (now rows) sizes
+        × Links (circuitOf (now circuit)) (now table) (now ends) (now rows) (now lasts) (now befores) (now owners) ⌝ }
     ensures { λ r. ⌜ ((f : ℕ → ℕ) → Lowered (given (circuitOf (now (circuit .entry))) f) (view (sizes .p) first) (view (sizes .p) (r .standing))
         (now (output .entry)) (now (output .exit)) (r .count)) ⌝ }
 {
@@ -148,10 +123,8 @@ pub(crate) fn lower_bounds(
         let k = next_key(
             circuit,
             table,
-            starts,
-            signals,
-            coefs,
-            constants,
+            ends,
+            rows,
             &standing.bounds,
             &mut keys,
             sizes,
@@ -164,7 +137,8 @@ pub(crate) fn lower_bounds(
         let kind = kind_in(key);
         put_step(output, count, kind, target, k as u16, 0);
         let part = part_of(circuit, table, k);
-        let outcome = standing.step(kind, part, sizes.n, sizes.p, target as u32, 0);
+        let row = row_of(table, ends, rows, k);
+        let outcome = standing.step(kind, part, row, sizes.p, target as u32, 0);
         standing = outcome.next;
         forget(lasts, befores, owners, &mut keys, target as u32);
         count = count + 1;

@@ -4,7 +4,7 @@ use crate::answer::SolverAnswer;
 use crate::bounds::lower_bounds;
 use crate::marks::Phase;
 use crate::marks::add_marks;
-use crate::rows::fill_rows;
+use crate::table::make_table;
 use circuit::offsets::offsets;
 use circuit::reader::CircuitAnswer;
 use circuit::reader::Sizes;
@@ -24,15 +24,17 @@ ghost use Rattle.derivation.specs.Call.{marksFrom, total};
 ghost use Rattle.solver.specs.Answer.{paperOf};
 ghost use Rattle.solver.specs.Call.{solverCall, solverOutput};
 ghost use Rattle.solver.specs.Demand.{Demand};
-ghost use Rattle.solver.specs.Rows.{Links};
-ghost use Rattle.solver.specs.Filling.{Entries};
-ghost use Rattle.solver.specs.Bounds.{Prepared};
+ghost use Rattle.solver.specs.Links.{Prepared, Links, Entries};
 ghost use Rattle.solver.specs.Choice.{Taken};
 
-// Entries that the rows of the largest file may have, a term taking six bytes, and those of a small one.
-const MOST_ENTRIES: usize = 9998;
+// Entries that the rows of the largest file may have: one for each constraint and each term, which takes six bytes; and those of a small one.
+const MOST_ENTRIES: usize = 10513;
+
+const MOST_NUMBERS: usize = 21026;
 
 const FEW_ENTRIES: usize = 512;
+
+const FEW_NUMBERS: usize = 1024;
 
 // How many of the signals 1 to n are marked.
 fn count_marks(marks: &[bool], n: u32) -> u32
@@ -53,10 +55,8 @@ fn count_marks(marks: &[bool], n: u32) -> u32
 fn take_phases(
     circuit: &[u8],
     table: &[u32],
-    starts: &[u32],
-    signals: &[u16],
-    coefs: &[u32],
-    constants: &[u32],
+    ends: &[u32],
+    rows: &[u32],
     lasts: &[u16],
     befores: &[u16],
     owners: &[u16],
@@ -64,18 +64,16 @@ fn take_phases(
     output: &mut [u8],
     sizes: Sizes,
 ) -> Phase
-    requires { ⌜ Prepared (now circuit) (now table) (now starts) (now signals) (now coefs) (now constants) sizes
-        × Links (sizes .n) (sizes .m) (now starts) (now signals) (now lasts) (now befores) (now owners) ⌝ }
+    requires { ⌜ Prepared (now circuit) (now table) (now ends) (now rows) sizes
+        × Links (circuitOf (now circuit)) (now table) (now ends) (now rows) (now lasts) (now befores) (now owners) ⌝ }
     ensures { λ r. ⌜ ((f : ℕ → ℕ) → Taken (given (circuitOf (now (circuit .entry))) f) (view (sizes .p) first) (view (sizes .p) (r .standing))
         (now (output .entry)) (now (output .exit)) (r .count)) ⌝ }
 {
     let lowered = lower_bounds(
         circuit,
         table,
-        starts,
-        signals,
-        coefs,
-        constants,
+        ends,
+        rows,
         lasts,
         befores,
         owners,
@@ -88,48 +86,41 @@ fn take_phases(
     add_marks(
         circuit,
         table,
-        starts,
-        signals,
-        coefs,
+        ends,
+        rows,
         lasts,
         befores,
         owners,
         bounded,
         output,
-        sizes.p,
-        sizes.n,
-        sizes.m,
+        sizes,
         base,
     )
 }
 
-// The call on a circuit that isn't refused and a buffer that is long enough, with room for the entries of the rows. After 25 the answer is
+// The call on a circuit that isn't refused and a buffer that is long enough, with room for the rows and their links. After 25 the answer is
 // certain, so steps are written as they are found, the header last.
 fn solve_with(
     circuit: &[u8],
-    signals: &mut [u16],
-    coefs: &mut [u32],
+    rows: &mut [u32],
     befores: &mut [u16],
     owners: &mut [u16],
     output: &mut [u8],
     sizes: Sizes,
 ) -> SolverAnswer
-    requires { ⌜ Sized (now circuit) sizes × Entries (length (now circuit)) (now signals) (now coefs) (now befores) (now owners)
+    requires { ⌜ Sized (now circuit) sizes × Entries (length (now circuit)) (sizes .m) (now rows) (now befores) (now owners)
         × (7 + 14 * sizes .n ≤ length (now output)) ⌝ }
     ensures { λ r. ⌜ paperOf r ≡ solverCall (now (circuit .entry)) (length (now (output .entry))) ⌝ }
     ensures { λ r. ⌜ now (output .exit) ≡ solverOutput (now (circuit .entry)) (now (output .entry)) ⌝ }
 {
     let table = offsets(circuit, sizes.m);
-    let mut starts = [0u32; 514];
-    let mut constants = [0u32; 513];
+    let mut ends = [0u32; 513];
     let mut lasts = [0u16; 257];
-    fill_rows(
+    make_table(
         circuit,
         &table,
-        &mut starts,
-        signals,
-        coefs,
-        &mut constants,
+        &mut ends,
+        rows,
         &mut lasts,
         befores,
         owners,
@@ -139,10 +130,8 @@ fn solve_with(
     let phase = take_phases(
         circuit,
         &table,
-        &starts,
-        signals,
-        coefs,
-        &constants,
+        &ends,
+        rows,
         &lasts,
         befores,
         owners,
@@ -173,34 +162,16 @@ fn solve_on(circuit: &[u8], output: &mut [u8], sizes: Sizes) -> SolverAnswer
             place: 0,
         };
     }
-    if circuit.len() <= 17 + 6 * FEW_ENTRIES {
-        let mut signals = [0u16; FEW_ENTRIES];
-        let mut coefs = [0u32; FEW_ENTRIES];
+    if circuit.len() / 6 + sizes.m as usize + 1 <= FEW_ENTRIES {
+        let mut rows = [0u32; FEW_NUMBERS];
         let mut befores = [0u16; FEW_ENTRIES];
         let mut owners = [0u16; FEW_ENTRIES];
-        return solve_with(
-            circuit,
-            &mut signals,
-            &mut coefs,
-            &mut befores,
-            &mut owners,
-            output,
-            sizes,
-        );
+        return solve_with(circuit, &mut rows, &mut befores, &mut owners, output, sizes);
     }
-    let mut signals = [0u16; MOST_ENTRIES];
-    let mut coefs = [0u32; MOST_ENTRIES];
+    let mut rows = [0u32; MOST_NUMBERS];
     let mut befores = [0u16; MOST_ENTRIES];
     let mut owners = [0u16; MOST_ENTRIES];
-    solve_with(
-        circuit,
-        &mut signals,
-        &mut coefs,
-        &mut befores,
-        &mut owners,
-        output,
-        sizes,
-    )
+    solve_with(circuit, &mut rows, &mut befores, &mut owners, output, sizes)
 }
 
 // The solver call: refusals 1 to 10 and 25, or the best derivation written and what it marks.

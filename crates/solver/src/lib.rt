@@ -3,11 +3,9 @@
 pub mod answer;
 mod bounds;
 pub mod call;
-mod floor;
 mod keys;
-mod live;
+mod links;
+mod marking;
 mod marks;
-mod memory;
-mod references;
-mod rows;
 mod search;
+mod table;

@@ -6,11 +6,6 @@ use Rattle.derivation.proofs.CallLaws as laws
 use Rattle.derivation.proofs.call.check_derivation.Statement.{statement}
 use Rattle.derivation.proofs.call.check_derivation.Tie as tie
 
-check-on-requires : tie.Need-check-on-requires
-check-on-requires c κs =
-    let told = c .before .before in
-    told .before .before .check-circuit .ensures .1 _ (ap paperOf (told .answer2 .given .1))
-
 returns : tie.Need-returns
 returns c =
     let e = c .before .before .before in
@@ -32,7 +27,9 @@ check-derivation-spec =
     tie.close
     (tie.spec
     (λ c κs. search needs) (λ c. search needs) (λ c. search needs)
-    check-on-requires
+    (λ c κs.
+    let told = c .before .before in
+    told .before .before .check-circuit .ensures .1 _ (ap paperOf (told .answer2 .given .1)))
     returns
     (λ c. search needs)
     returns-2)

@@ -12,32 +12,15 @@ checked :
     laws.Checked (a .circuit .now) (a .derivation .now) (a .marks .now) (a .sizes) (c .check-header .result)
 checked c = record { sized = c .before .before .before .before .pre; head = c .check-header .ensures }
 
-abbrev header : tie.After-walk → tie.After-check-header
-header c = c .before .before .before .before
+abbrev header : tie.After-walk-all → tie.After-check-header
+header c = c .before .before .before
 
 walked :
-    (c : tie.After-walk)
+    (c : tie.After-walk-all)
     → let a = header c .before .before .before .before .args in
-    let o = c .walk .result in
+    let o = c .walk-all .result in
     laws.Walked (a .circuit .now) (a .derivation .now) (a .marks .now) (a .sizes) (header c .check-header .result) (o .way) (view (a .sizes .p) (o .next))
-walked c =
-    let e = header c .before .before .before .before in
-    record {
-      checked = checked (header c);
-      fine = c .before .before .enum-told .given .1;
-      walk = laws.walk-start _ _ (e .pre) (e .args .derivation .now) _ _ (c .before .start .ensures) (c .walk .ensures);
-    }
-
-returns : tie.Need-returns
-returns c = laws.head-refused (checked (c .before .before .before)) _ _ (c .before .header .given .1)
-
-returns-2 : tie.Need-returns-2
-returns-2 c = laws.walk-refused (walked (c .before .before .before)) _ _ (c .before .way .given .1)
-
-hand-over-requires : tie.Need-hand-over-requires
-hand-over-requires c κs =
-    let w = walked (c .before .before .before .before) in
-    (laws.few-signals _ _ (w .checked .sized), laws.head-roomy (w .checked) (w .fine))
+walked c = record { checked = checked (header c); fine = c .before .enum-told .given .1; walk = c .walk-all .ensures }
 
 returns-3 : tie.Need-returns-3
 unfolding viewOf
@@ -51,10 +34,12 @@ check-on-spec =
     tie.close
     (tie.spec
     (λ c κs. search needs) (λ c. search needs)
-    returns
-    (λ c. search needs) (λ c κs. search needs) (λ c κs. search needs) (λ c. search needs)
-    returns-2
+    (λ c. laws.head-refused (checked (c .before .before .before)) _ _ (c .before .header .given .1))
+    (λ c. search needs) (λ c κs. search needs) (λ c. search needs)
+    (λ c. laws.walk-refused (walked (c .before .before .before)) _ _ (c .before .way .given .1))
     (λ c. search needs)
-    hand-over-requires
+    (λ c κs.
+    let w = walked (c .before .before .before .before) in
+    (laws.few-signals _ _ (w .checked .sized), laws.head-roomy (w .checked) (w .fine)))
     (λ c. search needs)
     returns-3)

@@ -1,68 +1,116 @@
 -- `derivation::call::walk`: the whole walk is what is left of it from step k on.
-use Prim.Native.Nat.{ℕ, _-_, _≤_}
-use mathlib.Core.Path.{_≡_}
+use Prim.Native.Nat.{ℕ, _-_}
+use mathlib.Core.Path.{_≡_, refl, _∙_}
+use native.Mathlib.Omega.{arith}
 use borrow.Author.Needs.{needs}
-use Rattle.circuit.specs.Bytes.{u16At}
+use borrow.Author.Tests.{not-true, not-false}
+use lib.ListN.{length, length-replicate, getD-replicate}
 use Rattle.circuit.proofs.OffsetLaws.{sized-offsets}
-use Rattle.rules.specs.Promise.{view}
-use Rattle.derivation.specs.Inner.{problemOf}
-use Rattle.derivation.specs.Steps.{walkFrom}
-use Rattle.derivation.proofs.CallLaws as laws
+use Rattle.rules.specs.Promise.{view, Gives}
+use Rattle.derivation.specs.Inner.{stepIn, ruleIn, Ready}
+use Rattle.derivation.proofs.StepLaws as laws
 use Rattle.derivation.proofs.call.walk.Statement.{statement}
 use Rattle.derivation.proofs.call.walk.Tie as tie
 
 abbrev Inv-loop : tie.InvT-loop
-Inv-loop circuit derivation z table count standing₀ k₀ standing k =
-    (k ≤ count)
-    × ((first : ℕ → ℕ) → walkFrom (problemOf circuit first) derivation 0 (u16At derivation 5) (view (z .p) standing₀)
-    ≡ walkFrom (problemOf circuit first) derivation k (count - k) (view (z .p) standing))
+Inv-loop start circuit derivation rows₀ z table count ends₀ outcome₀ k₀ rows ends outcome k =
+    laws.Walking circuit derivation table z ends rows (view (z .p) start) count k (view (z .p) (outcome .next))
+    × (length ends ≡ 513)
+    × (length rows ≡ length rows₀)
 
 abbrev μ-loop : tie.MeasureT-loop
-μ-loop circuit derivation z table count standing₀ k₀ standing k = count - k
+μ-loop start circuit derivation rows₀ z table count ends₀ outcome₀ k₀ rows ends outcome k = count - k
 
 loop-holds : tie.Need-loop-holds Inv-loop μ-loop
-loop-holds c = (search needs, λ (first : ℕ → ℕ). laws.walk-whole _ _ _ _ (c .u16-at .ensures .0))
+loop-holds c =
+    let made = c .before in
+    let e = made .before .before .before .before in
+    let O = sized-offsets (e .pre .0) (made .offsets .ensures) in
+    let K = laws.none-made (e .pre .0) O (length-replicate {A = ℕ} 513 0) (λ k h. getD-replicate {A = ℕ} 513 k 0 0 h) (e .pre .1) in
+    (laws.walk-starts K (c .u16-at .ensures .0), length-replicate {A = ℕ} 513 0, refl)
 
-take-step-requires : tie.Need-take-step-requires Inv-loop μ-loop
-take-step-requires c κs =
-    let made = c .before .before .before .before in
-    let e = made .before .before .before in
-    (search needs, e .pre, sized-offsets (e .pre) (made .offsets .ensures))
+refused : tie.Need-returns Inv-loop μ-loop
+refused c first =
+    let told = c .before .before in
+    let r = told .before .before in
+    rw (c .stop .ensures)
+    (laws.walk-refused (r .before .before .loop .inv .0) (r .before .loop-test .taken) _ (r .read-step .ensures) (told .read .given .1) first)
 
-returns : tie.Need-returns Inv-loop μ-loop
-returns c =
-    let step = c .before .before in
-    let l = step .before .before .before in
-    let a = l .before .before .before .before .before .args in
-    λ (first : ℕ → ℕ).
-    rw (c .enum-told2 .given .1)
-    (laws.walk-stopped (problemOf (a .circuit .now) first) (a .derivation .now) _ (l .loop .k) (view (a .sizes .p) (l .loop .standing)) _
-    (l .loop .inv .1 first)
-    (step .before .before .loop-test .taken) _ _
-    (rw (c .enum-told2 .given .1) at (step .take-step .ensures first)))
+-- the step that was read ..
+abbrev read : tie.After-keep-row Inv-loop μ-loop → tie.After-read2 Inv-loop μ-loop
+read c = c .before .before .before .before .before
+
+table-long : (c : tie.After-offsets Inv-loop μ-loop) → length (c .offsets .result) ≡ 513
+table-long c = search needs
+
+ends-long : (c : tie.After-keep-row Inv-loop μ-loop) → length (c .keep-row .last .1 .1 .1 .0) ≡ 513
+ends-long c = c .keep-row .kept .1 .1 .1 .0 ∙ read c .before .before .before .before .loop .inv .1
+
+rows-long :
+    (c : tie.After-keep-row Inv-loop μ-loop)
+    → length (c .keep-row .last .1 .1 .1 .1 .0)
+    ≡ length (read c .before .before .before .before .before .before .before .before .before .before .args .rows .now)
+rows-long c = c .keep-row .kept .1 .1 .1 .1 .0 ∙ read c .before .before .before .before .loop .inv .2
+
+-- .. has its row ..
+ready :
+    (c : tie.After-keep-row Inv-loop μ-loop)
+    → let q = read c in
+    let made = q .before .before .before .before .before .before in
+    let a = made .before .before .before .before .args in
+    let x = stepIn (q .read2 .given .0 .0) in
+    Ready (x .kind) (x .constraint) (a .circuit .now) (a .sizes) (made .offsets .result) (c .keep-row .last .1 .1 .1 .0) (c .keep-row .last .1 .1 .1 .1 .0)
+ready c =
+    let q = read c in
+    let r = q .before .before in
+    let W = r .before .before .loop .inv .0 in
+    c .keep-row .ensures (W .kept) (laws.walk-named W (r .before .loop-test .taken) _ (r .read-step .ensures) (q .read2 .given .1))
+
+abbrev kept : tie.After-step Inv-loop μ-loop → tie.After-keep-row Inv-loop μ-loop
+kept c = c .before .before .before .before .before .before .before .before .before .before .before
+
+-- .. and its rule is asked
+asked :
+    (c : tie.After-step Inv-loop μ-loop)
+    → let q = read (kept c) in
+    let l = q .before .before .before .before in
+    let made = l .before .before in
+    let a = made .before .before .before .before .args in
+    let x = stepIn (q .read2 .given .0 .0) in
+    Gives (a .sizes .p) (l .loop .outcome .next) (c .step .result) (x .target)
+    (ruleIn (a .sizes .p) (a .sizes .n) (a .circuit .now) (made .offsets .result) (view (a .sizes .p) (l .loop .outcome .next)) x)
+unfolding ruleIn
+asked c =
+    let q = read (kept c) in
+    let r = q .before .before in
+    let row = c .before .before in
+    let part = row .before .before .before .before in
+    (rw (part .part-named .ensures) at (rw (row .row-of .ensures) at (c .step .ensures))) _
+    (laws.walk-asked (r .before .before .loop .inv .0) (r .before .loop-test .taken) _ (r .read-step .ensures) (q .read2 .given .1) (ready (kept c)))
+
+unmet : tie.Need-returns-2 Inv-loop μ-loop
+unmet c first =
+    let s = c .before .before in
+    let q = read (kept s) in
+    let r = q .before .before in
+    rw (c .stop2 .ensures)
+    (laws.walk-unmet (r .before .before .loop .inv .0) (r .before .loop-test .taken) _ (r .read-step .ensures) (q .read2 .given .1) (ready (kept s))
+    (asked s .told)
+    (not-true _ (c .before .if1 .taken)) first)
 
 loop-again : tie.Need-loop-again Inv-loop μ-loop
 loop-again c =
-    let told = c .before in
-    let step = told .before .before in
-    let l = step .before .before .before in
-    let a = l .before .before .before .before .before .args in (
-      search needs,
-      λ (first : ℕ → ℕ).
-          laws.walk-on (problemOf (a .circuit .now) first) (a .derivation .now) _ (l .loop .k) (view (a .sizes .p) (l .loop .standing)) _
-          (l .loop .inv .1 first)
-          (step .before .before .loop-test .taken) _
-          (rw (told .enum-told .given .1) at (step .take-step .ensures first)),
+    let s = c .before in
+    let q = read (kept s) in
+    let r = q .before .before in
+    let inv = r .before .before .loop .inv in (
+      laws.walk-on (inv .0) (r .before .loop-test .taken) _ (r .read-step .ensures) (q .read2 .given .1) (ready (kept s))
+          (asked s .told)
+          (not-false _ (c .if1 .left))
+          (asked s .next),
+      ends-long (kept s),
+      rows-long (kept s),
     )
-
-returns-2 : tie.Need-returns-2 Inv-loop μ-loop
-returns-2 c =
-    let l = c .before in
-    let a = l .before .before .before .before .before .args in
-    λ (first : ℕ → ℕ).
-    laws.walk-ended (problemOf (a .circuit .now) first) (a .derivation .now) _ (l .loop .k) (view (a .sizes .p) (l .loop .standing)) _
-    (l .loop .inv .1 first)
-    (c .loop-test .left)
 
 pub walk-spec : {M : Type 1} → statement M
 walk-spec =
@@ -72,10 +120,15 @@ walk-spec =
     μ-loop
     (λ c κs. search needs) (λ c κs. search needs) (λ c. search needs)
     loop-holds
-    (λ c. search needs)
-    take-step-requires
-    (λ c. search needs) (λ c. search needs)
-    returns
-    (λ c. search needs) (λ c. search needs)
+    (λ c κs. search needs) (λ c. search needs) (λ c. search needs) (λ c κs. search needs) (λ c. search needs)
+    refused
+    (λ c. search needs) (λ c. search needs) (λ c. search needs) (λ c κs. search needs) (λ c. search needs) (λ c κs. search needs)
+    (λ c. let long = table-long (read (c .before .before .before .before .before .before) .before .before .before .before .before .before) in search needs)
+    (λ c. let long = ends-long (c .before .before .before .before .before .before .before) in search needs)
+    (λ c κs. search needs) (λ c κs. search needs) (λ c κs. search needs)
+    (λ c. rows-long (kept (c .before .before)))
+    unmet
+    (λ c. omega (arith, read (kept (c .before)) .before .before .before .loop-test .taken))
     loop-again
-    returns-2)
+    (λ c. search needs)
+    (λ c. laws.walk-ended (c .before .before .loop .inv .0) (c .before .loop-test .left)))

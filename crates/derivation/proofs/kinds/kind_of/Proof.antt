@@ -1,30 +1,25 @@
 -- `derivation::kinds::kind_of`: each number by the table.
+use mathlib.Core.Path.{sym}
+use borrow.Author.Tests.{ne-eqb}
 use Rattle.laws.specs.Step.{Root, Sum, Zero, Product, Digits}
-use Rattle.derivation.proofs.KindLaws as laws
+use Rattle.derivation.specs.Steps.{numbered, kindOf}
+use Rattle.derivation.proofs.Encoding.{kind-found}
 use Rattle.derivation.proofs.kinds.kind_of.Statement.{statement}
 use Rattle.derivation.proofs.kinds.kind_of.Tie as tie
 
-returns : tie.Need-returns
-returns c = laws.kind-found Root _ (c .if1 .taken)
-
-returns-2 : tie.Need-returns-2
-returns-2 c = laws.kind-found Sum _ (c .if2 .taken)
-
-returns-3 : tie.Need-returns-3
-returns-3 c = laws.kind-found Zero _ (c .if3 .taken)
-
-returns-4 : tie.Need-returns-4
-returns-4 c = laws.kind-found Product _ (c .if4 .taken)
-
-returns-5 : tie.Need-returns-5
-returns-5 c = laws.kind-found Digits _ (c .if5 .taken)
-
-returns-6 : tie.Need-returns-6
-returns-6 c =
-    let four = c .before in
-    let three = four .before in
-    let two = three .before in
-    laws.no-kind _ (two .before .if1 .left) (two .if2 .left) (three .if3 .left) (four .if4 .left) (c .if5 .left)
+none-left : tie.Need-returns-6
+unfolding kindOf numbered
+none-left c =
+    let r = c .match .rest in
+    sym (rw (ne-eqb _ 1 (r .0 .0 .0 .0 .1), ne-eqb _ 2 (r .0 .0 .0 .1), ne-eqb _ 3 (r .0 .0 .1), ne-eqb _ 4 (r .0 .1), ne-eqb _ 5 (r .1)))
 
 pub kind-of-spec : {M : Type 1} → statement M
-kind-of-spec = tie.close (tie.spec returns returns-2 returns-3 returns-4 returns-5 returns-6)
+kind-of-spec =
+    tie.close
+    (tie.spec
+    (λ c. kind-found Root _ (c .match .keys1))
+    (λ c. kind-found Sum _ (c .match .keys2))
+    (λ c. kind-found Zero _ (c .match .keys3))
+    (λ c. kind-found Product _ (c .match .keys4))
+    (λ c. kind-found Digits _ (c .match .keys5))
+    none-left)

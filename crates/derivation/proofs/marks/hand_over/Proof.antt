@@ -12,11 +12,6 @@ write-marks-requires c κs =
     let long : length (c .before .before .before .before .args .last .marks) ≡ 257 = search needs in
     (omega (arith, long, e .pre .0), e .pre .1)
 
-returns : tie.Need-returns
-returns c =
-    let m = c .before .before .before .before in
-    (rw (m .write-marks .ensures .0, c .verdict-of .ensures), m .write-marks .ensures .1)
-
 pub hand-over-spec : {M : Type 1} → statement M
 hand-over-spec =
     tie.close
@@ -24,4 +19,6 @@ hand-over-spec =
     (λ c. search needs)
     write-marks-requires
     (λ c. search needs) (λ c κs. search needs) (λ c. search needs)
-    returns)
+    (λ c.
+    let m = c .before .before .before .before in
+    (rw (m .write-marks .ensures .0, c .verdict-of .ensures), m .write-marks .ensures .1)))

@@ -1,10 +1,8 @@
--- `derivation::marks::verdict_of`: all outputs passed are marked.
-use Prim.Native.Nat.{ℕ, _-_, _≤_, _<_}
-use mathlib.Core.Bool.{true}
-use mathlib.Core.Path.{_≡_, sym, _∙_}
-use native.Mathlib.Omega.{arith}
-use borrow.Author.Tests.{not-true, not-false}
+-- `derivation::marks::verdict_of`: whether all outputs passed are marked.
+use Prim.Native.Nat.{_-_, _≤_}
+use mathlib.Core.Path.{_≡_}
 use borrow.Author.Needs.{needs}
+use Rattle.laws.specs.Sum.{all}
 use Rattle.rules.specs.View.{markIn}
 use Rattle.derivation.specs.Call.{outputMarked}
 use Rattle.derivation.proofs.MarkLaws as laws
@@ -12,29 +10,14 @@ use Rattle.derivation.proofs.marks.verdict_of.Statement.{statement}
 use Rattle.derivation.proofs.marks.verdict_of.Tie as tie
 
 abbrev Inv-loop : tie.InvT-loop
-Inv-loop marks i o inputs outputs j₀ j =
-    (j ≤ outputs) × ((k : ℕ) → k < j → outputMarked (markIn marks) i k ≡ true)
+Inv-loop marks i o inputs outputs fixed₀ j₀ fixed j = (j ≤ outputs) × (fixed ≡ all j (outputMarked (markIn marks) i))
 
 abbrev μ-loop : tie.MeasureT-loop
-μ-loop marks i o inputs outputs j₀ j = outputs - j
+μ-loop marks i o inputs outputs fixed₀ j₀ fixed j = outputs - j
 
 loop-holds : tie.Need-loop-holds Inv-loop μ-loop
-loop-holds c = (search needs, λ (k : ℕ) (h : k < 0). absurd (omega arith))
-
-returns : tie.Need-returns Inv-loop μ-loop
-returns c =
-    laws.one-unmarked _ _ (c .before .before .before .loop .j) (search needs)
-    (laws.output-at _ _ _ (sym (c .before .mark-at .ensures) ∙ not-true _ (c .if1 .taken)))
-
-loop-again : tie.Need-loop-again Inv-loop μ-loop
-loop-again c = (
-  search needs,
-  laws.marked-more _ _ _ (c .before .before .before .loop .inv .1)
-      (laws.output-at _ _ _ (sym (c .before .mark-at .ensures) ∙ not-false _ (c .if1 .left))),
-)
-
-returns-2 : tie.Need-returns-2 Inv-loop μ-loop
-returns-2 c = laws.all-marked _ _ λ (k : ℕ) (h : k < c .before .before .before .args .o). c .before .loop .inv .1 k (omega arith)
+unfolding all
+loop-holds c = search needs
 
 pub verdict-of-spec : {M : Type 1} → statement M
 verdict-of-spec =
@@ -43,8 +26,7 @@ verdict-of-spec =
     Inv-loop
     μ-loop
     loop-holds
-    (λ c. search needs) (λ c. search needs) (λ c κs. search needs)
-    returns
-    (λ c. search needs) (λ c. search needs)
-    loop-again
-    returns-2)
+    (λ c. search needs) (λ c. search needs) (λ c κs. search needs) (λ c. search needs) (λ c. search needs)
+    (λ c. (search needs, laws.output-more _ _ _ (c .before .before .loop .inv .1) (c .mark-at .ensures)))
+    (λ c. let l = c .before .before .loop in laws.verdict-told _ _ (l .j) (l .inv .1) (l .inv .0) (c .before .loop-test .left) (c .if1 .taken))
+    (λ c. let l = c .before .before .loop in laws.verdict-told _ _ (l .j) (l .inv .1) (l .inv .0) (c .before .loop-test .left) (c .if1 .left)))

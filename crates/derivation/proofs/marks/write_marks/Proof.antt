@@ -11,20 +11,10 @@ use Rattle.derivation.proofs.marks.write_marks.Statement.{statement}
 use Rattle.derivation.proofs.marks.write_marks.Tie as tie
 
 abbrev Inv-loop : tie.InvT-loop
-Inv-loop out₀ marks n end count₀ s₀ out count s =
-    laws.Written (markIn marks) out₀ end out count s
+Inv-loop out₀ marks n end count₀ s₀ out count s = laws.Written (markIn marks) out₀ end out count s
 
 abbrev μ-loop : tie.MeasureT-loop
 μ-loop out₀ marks n end count₀ s₀ out count s = end - s
-
-loop-holds : tie.Need-loop-holds Inv-loop μ-loop
-loop-holds c =
-    record { most = search needs; room = refl; few = search needs; counted = laws.none-counted _; written = laws.none-written _ _ }
-
-add-count : tie.Need-add-count Inv-loop μ-loop
-add-count c =
-    let l = c .before .before .before in
-    omega (arith, laws.bit-most (getD (l .before .before .before .args .marks .now) (l .loop .s + 1) false))
 
 loop-again : tie.Need-loop-again Inv-loop μ-loop
 unfolding markIn
@@ -38,21 +28,20 @@ loop-again c =
       written = laws.marks-stored _ _ _ _ (search needs) (l .inv .written) _ (c .bit-of .ensures);
     }
 
-returns : tie.Need-returns Inv-loop μ-loop
-returns c =
-    let inv = c .before .loop .inv in
-    laws.all-written _ _ _ _ _ _ (inv .most) (c .loop-test .left) (inv .counted) (inv .written)
-
 pub write-marks-spec : {M : Type 1} → statement M
 write-marks-spec =
     tie.close
     (tie.spec
     Inv-loop
     μ-loop
-    loop-holds
+    (λ c. record { most = search needs; room = refl; few = search needs; counted = laws.none-counted _; written = laws.none-written _ _ })
     (λ c. search needs) (λ c. search needs) (λ c κs. search needs) (λ c. search needs) (λ c. search needs)
-    add-count
+    (λ c.
+    let l = c .before .before .before in
+    omega (arith, laws.bit-most (getD (l .before .before .before .args .marks .now) (l .loop .s + 1) false)))
     (λ c. search needs) (λ c. search needs)
     loop-again
     (λ c. search needs)
-    returns)
+    (λ c.
+    let inv = c .before .loop .inv in
+    laws.all-written _ _ _ _ _ _ (inv .most) (c .loop-test .left) (inv .counted) (inv .written)))

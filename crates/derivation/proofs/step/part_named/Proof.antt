@@ -7,15 +7,14 @@ use Rattle.derivation.proofs.step.part_named.Tie as tie
 returns : tie.Need-returns
 returns c =
     let told = c .before in
-    rw (told .enum-told .given .1) (laws.nothing-named (told .before .before .before .before .args .circuit .now))
-
-returns-2 : tie.Need-returns-2
-returns-2 c = rw (c .before .enum-told2 .given .1) (c .part-of .ensures)
+    let e = told .before .before in
+    rw (← e .entry-of .ensures .names, told .enum-told .given .1) (laws.nothing-named (e .before .before .before .args .circuit .now))
 
 pub part-named-spec : {M : Type 1} → statement M
 part-named-spec =
     tie.close
     (tie.spec
-    (λ c. search needs) (λ c. search needs) (λ c. search needs) (λ c. search needs) (λ c. search needs) (λ c κs. search needs)
+    (λ c κs. search needs) (λ c. search needs) (λ c. search needs) (λ c. search needs) (λ c. search needs) (λ c. search needs)
+    (λ c κs. search needs)
     returns
-    returns-2)
+    (λ c. rw (← c .before .before .before .entry-of .ensures .names, c .before .enum-told2 .given .1) (c .part-of .ensures)))

@@ -5,11 +5,10 @@ use Rattle.rules.proofs.Products.{product-room}
 use Rattle.rules.proofs.arith.multiply_add.Statement.{statement}
 use Rattle.rules.proofs.arith.multiply_add.Tie as tie
 
-mul-residue : tie.Need-mul-residue
-mul-residue c = let room = product-room (c .args .a) (c .args .b) (omega arith) (omega arith) in omega arith
-
-add-residue : tie.Need-add-residue
-add-residue c = let room = product-room (c .args .a) (c .args .b) (omega arith) (omega arith) in omega arith
-
 pub multiply-add-spec : {M : Type 1} → statement M
-multiply-add-spec = tie.close (tie.spec mul-residue add-residue (λ c κs. search needs) (λ c. search needs))
+multiply-add-spec =
+    tie.close
+    (tie.spec
+    (λ c. let room = product-room (c .args .a) (c .args .b) (omega arith) (omega arith) in omega arith)
+    (λ c. let room = product-room (c .args .a) (c .args .b) (omega arith) (omega arith) in omega arith)
+    (λ c κs. search needs) (λ c. search needs))

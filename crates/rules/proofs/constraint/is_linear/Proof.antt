@@ -4,9 +4,6 @@ use Rattle.rules.proofs.FormTests as tests
 use Rattle.rules.proofs.constraint.is_linear.Statement.{statement}
 use Rattle.rules.proofs.constraint.is_linear.Tie as tie
 
-returns : tie.Need-returns
-returns c = tests.linear-first _ _ (c .before .names-none .ensures) (c .if1 .taken)
-
 returns-2 : tie.Need-returns-2
 returns-2 c =
     let c₃ = c .before .before .before in
@@ -16,4 +13,8 @@ returns-2 c =
 pub is-linear-spec : {M : Type 1} → statement M
 is-linear-spec =
     tie.close
-    (tie.spec (λ c κs. search needs) returns (λ c κs. search needs) (λ c κs. search needs) returns-2)
+    (tie.spec
+    (λ c κs. search needs)
+    (λ c. tests.linear-first _ _ (c .before .names-none .ensures) (c .if1 .taken))
+    (λ c κs. search needs) (λ c κs. search needs)
+    returns-2)

@@ -4,8 +4,5 @@ use Rattle.rules.proofs.FormTests as tests
 use Rattle.rules.proofs.constraint.is_zero.Statement.{statement}
 use Rattle.rules.proofs.constraint.is_zero.Tie as tie
 
-returns : tie.Need-returns
-returns c = tests.found-zero 1 _ _ (c .stays-out .ensures)
-
 pub is-zero-spec : {M : Type 1} → statement M
-is-zero-spec = tie.close (tie.spec (λ c. search needs) (λ c κs. search needs) returns)
+is-zero-spec = tie.close (tie.spec (λ c. search needs) (λ c κs. search needs) (λ c. tests.found-zero 1 _ _ (c .stays-out .ensures)))

@@ -5,9 +5,6 @@ use Rattle.rules.proofs.FormTests as tests
 use Rattle.rules.proofs.constraint.product_met.Statement.{statement}
 use Rattle.rules.proofs.constraint.product_met.Tie as tie
 
-returns : tie.Need-returns
-returns c = tests.product-linear _ _ _ _ (c .before .is-linear .ensures) (c .if1 .taken)
-
 returns-2 : tie.Need-returns-2
 returns-2 c =
     let b = c .before .before .before in
@@ -35,7 +32,7 @@ product-met-spec =
     tie.close
     (tie.spec
     (λ c κs. search needs)
-    returns
+    (λ c. tests.product-linear _ _ _ _ (c .before .is-linear .ensures) (c .if1 .taken))
     (λ c κs. search needs) (λ c κs. search needs) (λ c κs. search needs)
     returns-2
     (λ c κs. search needs)

@@ -15,5 +15,4 @@ returns-2 c =
     tests.larger-first _ _ _ _ _ _ (c .before .before .after-form .ensures) (c₃ .root-of .ensures) (c .before .root-of2 .ensures) (c .if1 .left)
 
 pub root-bound-spec : {M : Type 1} → statement M
-root-bound-spec =
-    tie.close (tie.spec (λ c κs. search needs) (λ c κs. search needs) (λ c κs. search needs) returns returns-2)
+root-bound-spec = tie.close (tie.spec (λ c κs. search needs) (λ c κs. search needs) (λ c κs. search needs) returns returns-2)

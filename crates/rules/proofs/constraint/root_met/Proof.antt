@@ -7,26 +7,21 @@ use Rattle.rules.proofs.constraint.root_met.Tie as tie
 
 returns : tie.Need-returns
 returns c =
-    let c₃ = c .before .before .before in
-    tests.root-zero _ _ _ (c₃ .after-form .ensures) (c .before .before .after-form2 .ensures) _ _ (c .before .is-zero .ensures)
-    (not-true _ (c .if1 .taken))
+    let z = c .before in
+    tests.root-zero _ _ _ (z .before .before .after-form .ensures) (z .before .after-form2 .ensures) _ _ (z .is-zero .ensures) (not-true _ (c .if1 .taken))
 
 returns-2 : tie.Need-returns-2
 returns-2 c =
-    let c₃ = c .before .before .before in
-    let c₄ = c₃ .before in
-    let c₅ = c₄ .before in
-    tests.root-first _ _ _ (c₅ .after-form .ensures) (c₄ .after-form2 .ensures) _ _ (c₃ .is-zero .ensures)
+    let z = c .before .before .before in
+    tests.root-first _ _ _ (z .before .before .after-form .ensures) (z .before .after-form2 .ensures) _ _ (z .is-zero .ensures)
     (not-false _ (c .before .before .if1 .left)) _ (c .before .names-just .ensures) (not-true _ (c .if2 .taken))
 
 returns-3 : tie.Need-returns-3
 returns-3 c =
-    let c₃ = c .before .before .before in
-    let c₄ = c₃ .before in
-    let c₅ = c₄ .before in
-    let c₆ = c₅ .before in
-    tests.root-second _ _ _ (c₆ .after-form .ensures) (c₅ .after-form2 .ensures) _ _ (c₄ .is-zero .ensures) (not-false _ (c₃ .if1 .left)) _
-    (c .before .before .names-just .ensures) (not-false _ (c .before .if2 .left)) _ (c .names-just2 .ensures)
+    let z = c .before .before .before .before in
+    tests.root-second _ _ _ (z .before .before .after-form .ensures) (z .before .after-form2 .ensures) _ _ (z .is-zero .ensures)
+    (not-false _ (c .before .before .before .if1 .left)) _ (c .before .before .names-just .ensures) (not-false _ (c .before .if2 .left)) _
+    (c .names-just2 .ensures)
 
 pub root-met-spec : {M : Type 1} → statement M
 root-met-spec =

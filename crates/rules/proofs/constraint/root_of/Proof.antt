@@ -9,9 +9,6 @@ use Rattle.circuit.specs.Circuit.{coef}
 use Rattle.rules.proofs.constraint.root_of.Statement.{statement}
 use Rattle.rules.proofs.constraint.root_of.Tie as tie
 
-returns : tie.Need-returns
-returns c = tests.root-small _ _ _ (c .if1 .taken)
-
 sub-multiply-add : tie.Need-sub-multiply-add
 sub-multiply-add c =
     let c₅ = c .before .before .before .before .before in
@@ -27,7 +24,7 @@ pub root-of-spec : {M : Type 1} → statement M
 root-of-spec =
     tie.close
     (tie.spec
-    returns
+    (λ c. tests.root-small _ _ _ (c .if1 .taken))
     (λ c κs. search needs) (λ c κs. search needs) (λ c κs. search needs)
     sub-multiply-add
     (λ c κs. search needs)

@@ -5,15 +5,10 @@ use Rattle.rules.proofs.FormTests as tests
 use Rattle.rules.proofs.constraint.stands_in.Statement.{statement}
 use Rattle.rules.proofs.constraint.stands_in.Tie as tie
 
-returns : tie.Need-returns
-returns c =
-    let seen = c .before .before .survey .ensures in
-    tests.survey-in-no _ _ _ _ _ (seen .0) (seen .1) (not-true _ (c .if1 .taken))
-
-returns-2 : tie.Need-returns-2
-returns-2 c =
-    let seen = c .before .before .survey .ensures in
-    tests.survey-in _ _ _ _ _ (seen .0) (seen .1) (not-false _ (c .if1 .left))
-
 pub stands-in-spec : {M : Type 1} → statement M
-stands-in-spec = tie.close (tie.spec (λ c κs. search needs) returns returns-2)
+stands-in-spec =
+    tie.close
+    (tie.spec
+    (λ c κs. search needs)
+    (λ c. let seen = c .before .before .survey .ensures in tests.survey-no _ _ _ _ (seen .0) (seen .1) (not-true _ (c .if1 .taken)))
+    (λ c. let seen = c .before .before .survey .ensures in tests.survey-yes _ _ _ _ (seen .0) (seen .1) (not-false _ (c .if1 .left))))

@@ -6,33 +6,24 @@ use mathlib.Core.Path.{_≡_, sym, _∙_}
 use mathlib.Core.Logic.{⊎-elim}
 use native.Mathlib.Omega.{arith}
 use Rattle.laws.proofs.Sum.{true-or-false}
-use Rattle.rules.proofs.WeightLaws as laws
-use Rattle.rules.specs.View.{coefIn}
+use borrow.Author.Count.{below-more}
+use Rattle.rules.specs.Rows.{coefOn}
 use Rattle.rules.proofs.digits.is_among.Statement.{statement}
 use Rattle.rules.proofs.digits.is_among.Tie as tie
 
 abbrev Inv-loop : tie.InvT-loop
-Inv-loop form count x found₀ s₀ found s = (s ≤ count) × (found ≡ false → (u : ℕ) → u < s → coefIn form u ≡ x → ⊥)
+Inv-loop row count x found₀ u₀ found u = (u ≤ count) × (found ≡ false → (s : ℕ) → s < u → coefOn row s ≡ x → ⊥)
 
 abbrev μ-loop : tie.MeasureT-loop
-μ-loop form count x found₀ s₀ found s = count - s
-
-loop-holds : tie.Need-loop-holds Inv-loop μ-loop
-loop-holds c = (omega arith, λ e u l g. omega arith)
-
-loop-less : tie.Need-loop-less Inv-loop μ-loop
-loop-less c = omega arith
+μ-loop row count x found₀ u₀ found u = count - u
 
 loop-again : tie.Need-loop-again Inv-loop μ-loop
-unfolding coefIn
 loop-again c =
     let l = c .before .before .before .loop in (
       omega arith,
-      ⊎-elim (λ w e. true-or-false _ (w .1) e) (λ w e. laws.one-more _ (l .inv .1 (sym (w .1) ∙ e)) (w .0 .left)) (c .if1 .came),
+      ⊎-elim (λ w e. true-or-false _ (w .1) e)
+          (λ w e. below-more _ _ (l .inv .1 (sym (w .1) ∙ e)) (λ g. w .0 .left (c .before .coef-on .ensures ∙ g))) (c .if1 .came),
     )
-
-returns : tie.Need-returns Inv-loop μ-loop
-returns c = λ e u l. c .before .loop .inv .1 e u (omega arith)
 
 pub is-among-spec : {M : Type 1} → statement M
 is-among-spec =
@@ -40,8 +31,7 @@ is-among-spec =
     (tie.spec
     Inv-loop
     μ-loop
-    loop-holds
-    (λ c. search needs) (λ c. search needs) (λ c. search needs)
-    loop-less
+    (λ c. (omega arith, λ e s l g. omega arith))
+    (λ c κs. search needs) (λ c. search needs) (λ c. omega arith)
     loop-again
-    returns)
+    (λ c e s l. c .before .loop .inv .1 e s (omega arith)))

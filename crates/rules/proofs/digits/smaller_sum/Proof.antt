@@ -5,6 +5,7 @@ use mathlib.Core.Path.{_≡_, refl}
 use native.Mathlib.Omega.{arith}
 use Rattle.laws.specs.Sum.{sum}
 use Rattle.rules.proofs.DigitsLaws as laws
+use Rattle.rules.proofs.SumLaws.{sum-start}
 use Rattle.rules.specs.View.{coefIn}
 use Rattle.rules.specs.Weights.{smallerAt}
 use Rattle.rules.proofs.digits.smaller_sum.Statement.{statement}
@@ -17,9 +18,6 @@ Inv-loop weights products count w below₀ j₀ below j =
 abbrev μ-loop : tie.MeasureT-loop
 μ-loop weights products count w below₀ j₀ below j = count - j
 
-loop-holds : tie.Need-loop-holds Inv-loop μ-loop
-loop-holds c = (omega arith, laws.smaller-start _ _ _)
-
 add-below : tie.Need-add-below Inv-loop μ-loop
 unfolding coefIn
 add-below c =
@@ -28,17 +26,11 @@ add-below c =
     laws.smaller-room _ _ _ _ _ _ _ _ _ (c .before .before .before .loop-test .taken) (l .loop .inv .1) refl refl (c .smaller-product .ensures) in
     omega (arith, room, l .before .pre .1)
 
-loop-less : tie.Need-loop-less Inv-loop μ-loop
-loop-less c = omega arith
-
 loop-again : tie.Need-loop-again Inv-loop μ-loop
 unfolding coefIn
 loop-again c =
     let l = c .before .before .before .before .loop in
     (omega arith, laws.smaller-on _ _ _ _ _ _ _ _ (l .inv .1) refl refl (c .smaller-product .ensures))
-
-returns : tie.Need-returns Inv-loop μ-loop
-returns c = laws.smaller-end _ _ _ _ _ (c .before .loop .inv .0) (c .loop-test .left) _ (c .before .loop .inv .1)
 
 pub smaller-sum-spec : {M : Type 1} → statement M
 smaller-sum-spec =
@@ -46,10 +38,9 @@ smaller-sum-spec =
     (tie.spec
     Inv-loop
     μ-loop
-    loop-holds
+    (λ c. (omega arith, sum-start _))
     (λ c. search needs) (λ c. search needs) (λ c. search needs) (λ c. search needs) (λ c κs. search needs)
     add-below
-    (λ c. search needs)
-    loop-less
+    (λ c. search needs) (λ c. omega arith)
     loop-again
-    returns)
+    (λ c. laws.smaller-end _ _ _ _ _ (c .before .loop .inv .0) (c .loop-test .left) _ (c .before .loop .inv .1)))

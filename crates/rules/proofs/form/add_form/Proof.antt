@@ -29,15 +29,6 @@ loop-holds c =
           (walk.form-start _ _ (c .byte-at .ensures .0)),
     )
 
-add-u32-at : tie.Need-add-u32-at Inv-loop μ-loop
-add-u32-at c = omega arith
-
-add-at : tie.Need-add-at Inv-loop μ-loop
-add-at c = omega arith
-
-loop-less : tie.Need-loop-less Inv-loop μ-loop
-loop-less c = omega arith
-
 loop-again : tie.Need-loop-again Inv-loop μ-loop
 unfolding coefIn
 loop-again c =
@@ -50,12 +41,6 @@ loop-again c =
       ⊎-elim (λ w. rw (w .4) (hit (w .0 .taken) _ _ (w .2 .ensures) (w .3 .ensures .0))) (λ w. rw (w .1) (on (w .0 .left))) (c .if1 .came),
     )
 
-same-length : tie.Need-same-length Inv-loop μ-loop
-same-length c = c .before .loop .inv .1
-
-returns : tie.Need-returns Inv-loop μ-loop
-returns c = walk.added-end _ _ _ (c .loop-test .left) _ _ _ _ (c .before .loop .inv .2)
-
 pub add-form-spec : {M : Type 1} → statement M
 add-form-spec =
     tie.close
@@ -64,12 +49,8 @@ add-form-spec =
     μ-loop
     (λ c κs. search needs)
     loop-holds
-    (λ c κs. search needs) (λ c. search needs) (λ c. search needs) (λ c. search needs)
-    add-u32-at
-    (λ c κs. search needs) (λ c κs. search needs) (λ c. search needs) (λ c. search needs)
-    add-at
-    (λ c. search needs)
-    loop-less
+    (λ c κs. search needs) (λ c. search needs) (λ c. search needs) (λ c. search needs) (λ c. omega arith) (λ c κs. search needs)
+    (λ c κs. search needs) (λ c. search needs) (λ c. search needs) (λ c. omega arith) (λ c. search needs) (λ c. omega arith)
     loop-again
-    same-length
-    returns)
+    (λ c. c .before .loop .inv .1)
+    (λ c. walk.added-end _ _ _ (c .loop-test .left) _ _ _ _ (c .before .loop .inv .2)))

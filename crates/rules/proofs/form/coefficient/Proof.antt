@@ -19,22 +19,10 @@ Inv-loop part t p left₀ at₀ total₀ left at total =
 abbrev μ-loop : tie.MeasureT-loop
 μ-loop part t p left₀ at₀ total₀ left at total = left
 
-returns : tie.Need-returns Inv-loop μ-loop
-returns c = sym (ap (λ k. k % c .before .before .args .p) (walk.form-coef-beyond _ _ (c .if1 .taken)) ∙ zero-mod _)
-
 loop-holds : tie.Need-loop-holds Inv-loop μ-loop
 loop-holds c =
     let c₃ = c .before .before .before in
     (omega arith, omega arith, omega (arith, ap (λ f. coef f (c₃ .args .t)) (walk.form-start _ _ (c .byte-at .ensures .0))))
-
-add-total : tie.Need-add-total Inv-loop μ-loop
-add-total c = omega arith
-
-add-at : tie.Need-add-at Inv-loop μ-loop
-add-at c = omega arith
-
-loop-less : tie.Need-loop-less Inv-loop μ-loop
-loop-less c = omega arith
 
 loop-again : tie.Need-loop-again Inv-loop μ-loop
 loop-again c =
@@ -48,12 +36,6 @@ loop-again c =
       ⊎-elim (λ w. omega (arith, hit (w .0 .taken) _ (w .1 .ensures), w .2)) (λ w. omega (arith, on (w .0 .left), w .1)) (c .if2 .came),
     )
 
-rem-result : tie.Need-rem-result Inv-loop μ-loop
-rem-result c = omega arith
-
-cast-result : tie.Need-cast-result Inv-loop μ-loop
-cast-result c = omega (arith, mod-lt (c .before .loop .total) (c .before .before .before .before .before .pre))
-
 returns-2 : tie.Need-returns-2 Inv-loop μ-loop
 returns-2 c =
     let c₅ = c .before .before .before .before .before in
@@ -65,15 +47,12 @@ coefficient-spec =
     (tie.spec
     Inv-loop
     μ-loop
-    returns
+    (λ c. sym (ap (λ k. k % c .before .before .args .p) (walk.form-coef-beyond _ _ (c .if1 .taken)) ∙ zero-mod _))
     (λ c κs. search needs)
     loop-holds
-    (λ c κs. search needs) (λ c. search needs) (λ c κs. search needs) (λ c. search needs)
-    add-total
-    add-at
-    (λ c. search needs)
-    loop-less
+    (λ c κs. search needs) (λ c. search needs) (λ c κs. search needs) (λ c. search needs) (λ c. omega arith) (λ c. omega arith) (λ c. search needs)
+    (λ c. omega arith)
     loop-again
-    rem-result
-    cast-result
+    (λ c. omega arith)
+    (λ c. omega (arith, mod-lt (c .before .loop .total) (c .before .before .before .before .before .pre)))
     returns-2)

@@ -3,11 +3,5 @@ use borrow.Author.Tests.{lt-leb, le-leb}
 use Rattle.rules.proofs.form.is_on.Statement.{statement}
 use Rattle.rules.proofs.form.is_on.Tie as tie
 
-returns : tie.Need-returns
-returns c = rw (lt-leb _ _ (c .if1 .taken))
-
-returns-2 : tie.Need-returns-2
-returns-2 c = rw (le-leb _ _ (c .if1 .left))
-
 pub is-on-spec : {M : Type 1} → statement M
-is-on-spec = tie.close (tie.spec returns returns-2)
+is-on-spec = tie.close (tie.spec (λ c. rw (lt-leb _ _ (c .if1 .taken))) (λ c. rw (le-leb _ _ (c .if1 .left))))

@@ -23,10 +23,6 @@ returns c =
     (first .add-form .ensures) (second .add-form2 .ensures) (third .add-form3 .ensures) _ (made .multiply-add .ensures .0) _
     (c .before .before .take-off .ensures) s (omega arith)
 
-returns-2 : tie.Need-returns-2
-returns-2 c =
-    λ s l. laws.reduced-small _ _ _ (c .if1 .left) s (c .before .before .before .clear .ensures s)
-
 pub reduce-into-spec : {M : Type 1} → statement M
 reduce-into-spec =
     tie.close
@@ -35,4 +31,4 @@ reduce-into-spec =
     (λ c κs. search needs) (λ c. search needs) (λ c κs. search needs) (λ c κs. search needs) (λ c κs. search needs) (λ c. search needs)
     returns
     (λ c. search needs)
-    returns-2)
+    (λ c s l. laws.reduced-small _ _ _ (c .if1 .left) s (c .before .before .before .clear .ensures s)))

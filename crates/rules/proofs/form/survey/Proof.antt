@@ -37,9 +37,6 @@ returns c =
       λ e. true-or-false _ e refl,
     )
 
-loop-less : tie.Need-loop-less Inv-loop μ-loop
-loop-less c = omega arith
-
 loop-again : tie.Need-loop-again Inv-loop μ-loop
 loop-again c =
     let asked = c .before .before .before in
@@ -69,7 +66,6 @@ survey-spec =
     loop-holds
     (λ c κs. search needs) (λ c κs. search needs)
     returns
-    (λ c κs. search needs) (λ c. search needs) (λ c. search needs)
-    loop-less
+    (λ c κs. search needs) (λ c. search needs) (λ c. search needs) (λ c. omega arith)
     loop-again
     returns-2)

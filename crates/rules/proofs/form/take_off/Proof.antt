@@ -12,13 +12,10 @@ returns : tie.Need-returns
 unfolding coefIn
 returns c = ap (λ (x : ℕ). set (c .before .before .before .before .args .form .now) 0 x) (c .multiply-add .ensures .0)
 
-returns-2 : tie.Need-returns-2
-returns-2 c = sym (set-out _ 0 _ (c .if1 .left))
-
 pub take-off-spec : {M : Type 1} → statement M
 take-off-spec =
     tie.close
     (tie.spec
     (λ c. search needs) (λ c. search needs) (λ c κs. search needs) (λ c. search needs) (λ c. search needs)
     returns
-    returns-2)
+    (λ c. sym (set-out _ 0 _ (c .if1 .left))))

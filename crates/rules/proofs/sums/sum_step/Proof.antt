@@ -1,35 +1,22 @@
--- `rules::sums::sum_step`: the sum, where the constraint is linear and the target occurs.
+-- `rules::sums::sum_step`: the sum for the place of the target, where the constraint is linear.
 use borrow.Author.Needs.{needs}
 use mathlib.Core.Path.{sym, _∙_}
 use borrow.Author.Tests.{not-true, not-false}
-use Rattle.rules.proofs.LinearRules as laws
+use Rattle.rules.proofs.SumPlaces as laws
 use Rattle.rules.proofs.sums.sum_step.Statement.{statement}
 use Rattle.rules.proofs.sums.sum_step.Tie as tie
 
-returns : tie.Need-returns
-returns c = laws.sum-crooked _ _ _ _ _ (sym (c .before .is-linear .ensures) ∙ not-true _ (c .if1 .taken))
-
 returns-2 : tie.Need-returns-2
 returns-2 c =
-    let c₃ = c .before .before .before in
-    laws.sum-no-target _ _ _ (c₃ .reduced-form .ensures) _ _ _ (sym (c .before .coef-at .ensures) ∙ c .if2 .taken)
-
-returns-3 : tie.Need-returns-3
-returns-3 c =
-    let c₃ = c .before .before .before in
-    let c₅ = c₃ .before .before in
-    let c₆ = c₅ .before in
-    let c₇ = c₆ .before in
-    laws.sum-made _ _ _ (c₅ .reduced-form .ensures) _ _ _ (sym (c₇ .is-linear .ensures) ∙ not-false _ (c₆ .if1 .left))
-    (λ e. c .before .before .if2 .left (c₃ .coef-at .ensures ∙ e)) _ (c .sum-bound .ensures)
+    let b = c .before .before in
+    λ n P L l m. laws.step-is P L _ (sym (b .before .is-linear .ensures) ∙ not-false _ (b .if1 .left)) l m (c .before .place-in .ensures)
+    (c .sum-at .ensures)
 
 pub sum-step-spec : {M : Type 1} → statement M
 sum-step-spec =
     tie.close
     (tie.spec
     (λ c κs. search needs)
-    returns
-    (λ c κs. search needs) (λ c. search needs) (λ c κs. search needs)
-    returns-2
-    (λ c. search needs) (λ c κs. search needs)
-    returns-3)
+    (λ c n P L l m. laws.step-crooked _ _ _ _ _ (sym (c .before .is-linear .ensures) ∙ not-true _ (c .if1 .taken)))
+    (λ c κs. search needs) (λ c κs. search needs)
+    returns-2)

@@ -10,8 +10,5 @@ returns : tie.Need-returns
 unfolding coefIn
 returns c = refl
 
-returns-2 : tie.Need-returns-2
-returns-2 c = sym (coef-past _ _ (c .if1 .left))
-
 pub coef-at-spec : {M : Type 1} → statement M
-coef-at-spec = tie.close (tie.spec (λ c. search needs) (λ c. search needs) returns returns-2)
+coef-at-spec = tie.close (tie.spec (λ c. search needs) (λ c. search needs) returns (λ c. sym (coef-past _ _ (c .if1 .left))))

@@ -10,8 +10,5 @@ returns : tie.Need-returns
 unfolding markIn
 returns c = refl
 
-returns-2 : tie.Need-returns-2
-returns-2 c = sym (mark-past _ _ (c .if1 .left))
-
 pub mark-at-spec : {M : Type 1} → statement M
-mark-at-spec = tie.close (tie.spec (λ c. search needs) returns returns-2)
+mark-at-spec = tie.close (tie.spec (λ c. search needs) returns (λ c. sym (mark-past _ _ (c .if1 .left))))

@@ -5,6 +5,7 @@ use native.Mathlib.Omega.{arith}
 use borrow.Author.Needs.{needs}
 use Rattle.rules.specs.View.{markIn}
 use Rattle.derivation.specs.Call.{marksFrom, total}
+use Rattle.derivation.proofs.MarkLaws.{none-counted}
 use Rattle.solver.proofs.SolveLaws as laws
 use Rattle.solver.proofs.call.count_marks.Statement.{statement}
 use Rattle.solver.proofs.call.count_marks.Tie as tie
@@ -15,36 +16,21 @@ Inv-loop marks n count₀ s₀ count s = (s ≤ n) × (count ≤ s) × (count �
 abbrev μ-loop : tie.MeasureT-loop
 μ-loop marks n count₀ s₀ count s = n - s
 
-loop-holds : tie.Need-loop-holds Inv-loop μ-loop
-loop-holds c = (omega arith, omega arith, laws.none-counted _)
-
-add-count : tie.Need-add-count Inv-loop μ-loop
-add-count c = omega arith
-
-loop-again : tie.Need-loop-again Inv-loop μ-loop
-loop-again c =
-    let at-loop = c .before .before .before in
-    (omega arith, omega arith, laws.marked-counted _ _ _ (at-loop .loop .inv .2) (sym (c .before .mark-at .ensures) ∙ c .if1 .taken))
-
-loop-again-2 : tie.Need-loop-again-2 Inv-loop μ-loop
-loop-again-2 c =
-    let at-loop = c .before .before .before in
-    (omega arith, omega arith, laws.unmarked-counted _ _ _ (at-loop .loop .inv .2) (sym (c .before .mark-at .ensures) ∙ c .if1 .left))
-
-returns : tie.Need-returns Inv-loop μ-loop
-returns c = let z : c .before .loop .s ≡ c .before .before .before .args .n = omega arith in rw z at (c .before .loop .inv .2)
-
 pub count-marks-spec : {M : Type 1} → statement M
 count-marks-spec =
     tie.close
     (tie.spec
     Inv-loop
     μ-loop
-    loop-holds
+    (λ c. (omega arith, omega arith, none-counted _))
     (λ c. search needs) (λ c. search needs) (λ c κs. search needs)
-    add-count
+    (λ c. omega arith)
     (λ c. search needs)
-    loop-again
+    (λ c.
+    let at-loop = c .before .before .before in
+    (omega arith, omega arith, laws.marked-counted _ _ _ (at-loop .loop .inv .2) (sym (c .before .mark-at .ensures) ∙ c .if1 .taken)))
     (λ c. search needs)
-    loop-again-2
-    returns)
+    (λ c.
+    let at-loop = c .before .before .before in
+    (omega arith, omega arith, laws.unmarked-counted _ _ _ (at-loop .loop .inv .2) (sym (c .before .mark-at .ensures) ∙ c .if1 .left)))
+    (λ c. let z : c .before .loop .s ≡ c .before .before .before .args .n = omega arith in rw z at (c .before .loop .inv .2)))

@@ -5,21 +5,19 @@ use borrow.Author.Needs.{needs}
 use Rattle.solver.proofs.call.solve_on.Statement.{statement}
 use Rattle.solver.proofs.call.solve_on.Tie as tie
 
-returns : tie.Need-returns
-returns c = laws.room-short _ _ (c .before .before .before .before .pre) _ (c .if1 .taken)
-
-solve-with-requires-2 : tie.Need-solve-with-requires-2
-solve-with-requires-2 c κs =
-    let Z = c .before .before .before .before .before .before .before .before .before .before .pre in
-    (Z, record { signals-room = omega (arith, Z .most); coefs-room = omega arith; befores-room = omega arith; owners-room = omega arith }, c .before .before .before .before .before .before .if1 .left)
-
 pub solve-on-spec : {M : Type 1} → statement M
 solve-on-spec =
     tie.close
     (tie.spec
     (λ c. search needs) (λ c. search needs) (λ c. search needs)
-    returns
+    (λ c. laws.room-short _ _ (c .before .before .before .before .pre) _ (c .if1 .taken))
     (λ c. search needs) (λ c. search needs) (λ c. search needs) (λ c. search needs) (λ c. search needs) (λ c. search needs)
-    (λ c κs. search needs) (λ c. search needs) (λ c. search needs) (λ c. search needs) (λ c. search needs) (λ c. search needs) (λ c. search needs)
-    solve-with-requires-2
+    (λ c κs.
+    let roomy = c .before .before .before .before .before .before in
+    (roomy .before .before .before .before .pre, laws.entries-for 512 (c .before .before .before .before .if2 .taken), roomy .if1 .left))
+    (λ c. search needs) (λ c. search needs) (λ c. search needs) (λ c. search needs) (λ c. search needs)
+    (λ c κs.
+    let roomy = c .before .before .before .before .before .before in
+    let Z = roomy .before .before .before .before .pre in
+    (Z, laws.entries-for 10513 (omega (arith, Z .most, Z .is-m, Z .formed .m-most)), roomy .if1 .left))
     (λ c. search needs) (λ c. search needs))

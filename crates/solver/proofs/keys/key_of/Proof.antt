@@ -5,9 +5,10 @@ use Rattle.solver.specs.Bounds.{keyOf}
 use Rattle.solver.proofs.keys.key_of.Statement.{statement}
 use Rattle.solver.proofs.keys.key_of.Tie as tie
 
-returns : tie.Need-returns
-unfolding keyOf
-returns c = refl
-
 pub key-of-spec : {M : Type 1} → statement M
-key-of-spec = tie.close (tie.spec (λ c. search needs) (λ c. search needs) (λ c. search needs) (λ c. search needs) returns)
+unfolding keyOf
+key-of-spec =
+    tie.close
+    (tie.spec
+    (λ c. search needs) (λ c. search needs) (λ c. search needs) (λ c. search needs)
+    (λ c. refl))

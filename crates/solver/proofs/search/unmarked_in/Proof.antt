@@ -14,9 +14,6 @@ Inv-loop part marks left₀ at₀ left at = (at + 6 * left ≤ 1 + 6 * 255) × l
 abbrev μ-loop : tie.MeasureT-loop
 μ-loop part marks left₀ at₀ left at = left
 
-loop-holds : tie.Need-loop-holds Inv-loop μ-loop
-loop-holds c = (omega arith, laws.unfound-start _ _ _ (c .byte-at .ensures .0))
-
 returns : tie.Need-returns Inv-loop μ-loop
 returns c =
     let at-u16-at = c .before .before in
@@ -35,9 +32,6 @@ loop-again c =
           (c .before .is-unmarked .ensures) (c .if1 .left),
     )
 
-returns-2 : tie.Need-returns-2 Inv-loop μ-loop
-returns-2 c = laws.unmarked-none _ _ _ _ _ (c .before .loop .inv .1) (c .loop-test .left)
-
 pub unmarked-in-spec : {M : Type 1} → statement M
 unmarked-in-spec =
     tie.close
@@ -45,9 +39,9 @@ unmarked-in-spec =
     Inv-loop
     μ-loop
     (λ c κs. search needs)
-    loop-holds
+    (λ c. (omega arith, laws.unfound-start _ _ _ (c .byte-at .ensures .0)))
     (λ c κs. search needs) (λ c κs. search needs)
     returns
     (λ c. search needs) (λ c. search needs) (λ c. search needs)
     loop-again
-    returns-2)
+    (λ c. laws.unmarked-none _ _ _ _ _ (c .before .loop .inv .1) (c .loop-test .left)))

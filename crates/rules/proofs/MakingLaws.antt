@@ -1,0 +1,281 @@
+-- How a row is made: what stands in it, its entries put one after the other, and what is kept of the rows made before.
+use Prim.Native.Nat.{ℕ, zero, suc, _+_, _*_, _-_, _≤_, _<_, min}
+use mathlib.Core.Path.{_≡_, refl, sym, ap, _∙_}
+use mathlib.Core.Bool.{Bool, true, false, _&&_, _||_}
+use mathlib.Core.List.{List}
+use mathlib.Core.Logic.{_⊎_, inl, inr, ⊎-elim}
+use native.Mathlib.Numerals.{add-one}
+use native.Mathlib.Omega.{arith}
+use borrow.Author.Count.{below-more}
+use lib.Dec.{leb, ltb, eqb}
+use lib.ListN.{length, getD, set, take, drop, length-set, length-take, length-drop}
+use lib.Seq.{getD-take, getD-drop, getD-set-same, getD-set-other, ext-getD}
+use borrow.Author.Tests.{eq-eqb, ne-eqb, le-leb, lt-leb, lt-ltb}
+use Rattle.circuit.specs.Bytes.{u16At}
+use Rattle.circuit.specs.Circuit.{Circuit, Constraint, constraintAt, names}
+use Rattle.circuit.specs.Reader.{formIn, afterForm, constraintIn}
+use Rattle.circuit.specs.Offsets.{Offsets, partOf}
+use Rattle.circuit.specs.Call.{circuitOf, Sized}
+use Rattle.circuit.specs.declared.reader.Sizes.{Sizes}
+use Rattle.circuit.proofs.OffsetLaws.{sized-part}
+use Rattle.laws.specs.Rules.{reduced}
+use Rattle.laws.specs.Sum.{keep}
+use Rattle.laws.proofs.Sum.{true-or-false, by-equal, by-order, keep-true}
+use Rattle.rules.specs.View.{coefIn, markIn}
+use Rattle.rules.specs.Rows.{at, rank, involves, stands, signalOn, coefOn, Row, startOf, rowSize, rowOf, Rows, Roomy, Put, RowMade}
+use Rattle.rules.proofs.Ranks.{and-false, rank-zero, rank-passed, rank-failed, rank-below}
+use Rattle.rules.proofs.RowLaws.{constant-stands}
+use Rattle.rules.proofs.RoomLaws.{rows-apart, row-inside}
+use Rattle.rules.proofs.Walk.{termsFrom, names-hit, names-on}
+
+-- What stands
+
+-- a turn over the terms of a form: what was to be named is named so far or by a term that is left
+module _ (part : List ℕ) (left offset : ℕ) (some : 0 < left) (signal : ℕ) (known : signal ≡ u16At part offset) (whole : ℕ → Bool) (named : List Bool)
+    (wide : length named ≡ 257) (inv : (s : ℕ) → s ≤ 256 → whole s ≡ (markIn named s || names (termsFrom part left offset) s)) where
+  abbrev Named : List Bool → ℕ → Type 0
+  Named marks s = whole s ≡ (markIn marks s || names (termsFrom part (left - 1) (offset + 6)) s)
+
+  pub naming-set : signal < length named → (s : ℕ) → s ≤ 256 → Named (set named signal true) s
+  unfolding markIn
+  naming-set h s m =
+      let here : true ≡ (leb signal 256 && eqb signal signal) = rw (le-leb signal 256 (omega arith), eq-eqb signal signal refl) in
+      by-equal signal s
+      (λ e.
+      rw (← e, getD-set-same named signal true false h)
+      (names-hit part left offset some signal known signal (whole signal) (markIn named signal) true (inv signal (omega arith)) here refl))
+      (λ d.
+      rw (getD-set-other named signal s true false (λ (e : s ≡ signal). d (sym e)))
+      (names-on part left offset some signal known s (whole s) (markIn named s) false (inv s m)
+      (rw (ne-eqb signal s d) (sym (and-false (leb signal 256)))) refl))
+
+  pub naming-on : length named ≤ signal → (s : ℕ) → s ≤ 256 → Named named s
+  naming-on h s m = names-on part left offset some signal known s (whole s) (markIn named s) false (inv s m) (rw (lt-leb signal 256 (omega arith))) refl
+
+-- the three forms one after the other, from nothing, and the constant
+module _ (part b c : List ℕ) (is-b : b ≡ afterForm part) (is-c : c ≡ afterForm b) (m₀ m₁ m₂ m₃ : List Bool) (none : (s : ℕ) → markIn m₀ s ≡ false)
+    (A : (s : ℕ) → s ≤ 256 → markIn m₁ s ≡ (markIn m₀ s || names (formIn part) s))
+    (B : (s : ℕ) → s ≤ 256 → markIn m₂ s ≡ (markIn m₁ s || names (formIn b) s))
+    (C : (s : ℕ) → s ≤ 256 → markIn m₃ s ≡ (markIn m₂ s || names (formIn c) s)) where
+  pub all-stand : 0 < length m₃ → (s : ℕ) → s ≤ 256 → markIn (set m₃ 0 true) s ≡ stands (constraintIn part) s
+  unfolding stands involves constraintIn markIn
+  all-stand h zero m = getD-set-same m₃ 0 true false h
+  all-stand h (suc s) m =
+      getD-set-other m₃ 0 (suc s) true false (λ (e : suc s ≡ 0). omega arith)
+      ∙ C (suc s) m ∙ rw (B (suc s) m, A (suc s) m, none (suc s), is-c, is-b) refl
+
+-- Entries put
+
+pub put-start : (p : ℕ) (K : Constraint) (start : ℕ) (rows : List ℕ) → Put p 0 K start start rows rows
+put-start p K start rows =
+    record {
+      ends = omega (arith, rank-zero (stands K));
+      signal = λ s h e. absurd (omega arith);
+      coef = λ s h e. absurd (omega arith);
+      others = λ i h. refl;
+    }
+
+-- two stores side by side
+module _ (rows : List ℕ) (end s x : ℕ) (h : end + 1 < length rows) where
+  abbrev both : List ℕ
+  both = set (set rows end s) (end + 1) x
+
+  first : at both end ≡ s
+  unfolding at
+  first = getD-set-other (set rows end s) (end + 1) end x 0 (λ (e : end ≡ end + 1). omega arith) ∙ getD-set-same rows end s 0 (omega arith)
+
+  second : at both (end + 1) ≡ x
+  unfolding at
+  second = getD-set-same (set rows end s) (end + 1) x 0 (omega (arith, length-set rows end s))
+
+  apart : (i : ℕ) → (i < end) ⊎ (end + 2 ≤ i) → at both i ≡ at rows i
+  unfolding at
+  apart i o = getD-set-other (set rows end s) (end + 1) i x 0 (off (end + 1) o (omega arith)) ∙ getD-set-other rows end i s 0 (off end o (omega arith))
+    where
+      off : (j : ℕ) → (i < end) ⊎ (end + 2 ≤ i) → (end ≤ j) × (j ≤ end + 1) → i ≡ j → ⊥
+      off j (inl l) n e = omega arith
+      off j (inr l) n e = omega arith
+
+-- the signal s after those below it
+module _ {p s : ℕ} {K : Constraint} {start end : ℕ} {rows₀ rows : List ℕ} (P : Put p s K start end rows₀ rows) where
+  pub put-on : stands K s ≡ false → Put p (s + 1) K start end rows₀ rows
+  put-on f =
+      record {
+        ends = rw (add-one s) (omega (arith, P .ends, rank-failed (stands K) s f));
+        signal = below-more _ s (P .signal) (λ e. true-or-false (stands K s) e f);
+        coef = below-more _ s (P .coef) (λ e. true-or-false (stands K s) e f);
+        others = P .others;
+      }
+
+  module _ (e : stands K s ≡ true) where
+    -- one more has room where all have
+    pub put-room : (n : ℕ) → s ≤ n → start + 2 * rank (stands K) (suc n) ≤ length rows → end + 1 < length rows
+    put-room n l h = omega (arith, P .ends, rank-below (stands K) s (suc n) (omega arith) e)
+
+    pub put-one : (x : ℕ) → x ≡ reduced p K s → end + 1 < length rows → Put p (s + 1) K start (end + 2) rows₀ (set (set rows end s) (end + 1) x)
+    put-one x is h =
+        let here : start + 2 * rank (stands K) s ≡ end = sym (P .ends) in
+        record {
+          ends = rw (add-one s) (omega (arith, P .ends, rank-passed (stands K) s e));
+          signal =
+              below-more _ s (λ u l f. apart rows end s x h _ (inl (omega (arith, P .ends, rank-below (stands K) u s l f))) ∙ P .signal u l f)
+              (λ f. rw here (first rows end s x h));
+          coef =
+              below-more _ s (λ u l f. apart rows end s x h _ (inl (omega (arith, P .ends, rank-below (stands K) u s l f))) ∙ P .coef u l f)
+              (λ f. rw here (second rows end s x h ∙ is));
+          others = λ i o. ⊎-elim
+              (λ (l : i < start). apart rows end s x h i (inl (omega (arith, P .ends))) ∙ P .others i (inl l))
+              (λ (l : end + 2 ≤ i). apart rows end s x h i (inr l) ∙ P .others i (inr (omega arith)))
+              o;
+        }
+
+-- the turns of the code, which puts nothing where there is no room
+module _ (p n : ℕ) (K : Constraint) (start : ℕ) (rows₀ : List ℕ) (named : List Bool) (form : List ℕ) (small : n ≤ 256)
+    (is-named : (s : ℕ) → s ≤ 256 → markIn named s ≡ stands K s) (is-form : (s : ℕ) → coefIn form s ≡ keep (ltb 1 p) (reduced p K s)) where
+  abbrev Puts : ℕ → ℕ → List ℕ → Type 0
+  Puts s end rows = 1 < p → start + 2 * rank (stands K) (suc n) ≤ length rows₀ → Put p s K start end rows₀ rows
+
+  module _ (s end : ℕ) (rows : List ℕ) (P : Puts s end rows) (l : s ≤ n) where
+    tested : (b : Bool) → getD named s false ≡ b → stands K s ≡ b
+    unfolding markIn
+    tested b e = sym (is-named s (omega arith)) ∙ e
+
+    pub puts-one : getD named s false ≡ true → end + 1 < length rows → Puts (s + 1) (end + 2) (set (set rows end s) (end + 1) (getD form s 0))
+    unfolding coefIn
+    puts-one e h above room = put-one (P above room) (tested true e) _ (is-form s ∙ keep-true (ltb 1 p) _ (lt-ltb 1 p above)) h
+
+    pub puts-full : getD named s false ≡ true → length rows ≡ length rows₀ → length rows ≤ end + 1 → Puts (s + 1) end rows
+    puts-full e z h above room = absurd (omega (arith, put-room (P above room) (tested true e) n l (omega arith)))
+
+    pub puts-on : getD named s false ≡ false → Puts (s + 1) end rows
+    puts-on e above room = put-on (P above room) (tested false e)
+
+-- Cuts
+
+cut-at : (n start : ℕ) (rows : List ℕ) (i : ℕ) → i < n → at (take n (drop start rows)) i ≡ at rows (start + i)
+unfolding at
+cut-at n start rows i h = getD-take n (drop start rows) i 0 h ∙ getD-drop start rows i 0
+
+-- two cuts that agree
+cut-same : (n start m first : ℕ) (rows rows′ : List ℕ) → min n (length rows - start) ≡ min m (length rows′ - first)
+    → ((i : ℕ) → i < min n (length rows - start) → at rows (start + i) ≡ at rows′ (first + i)) → take n (drop start rows) ≡ take m (drop first rows′)
+unfolding at
+cut-same n start m first rows rows′ e f =
+    let size : length (take n (drop start rows)) ≡ min n (length rows - start) = simp (length-take, length-drop) in
+    ext-getD 0 (take n (drop start rows)) (take m (drop first rows′))
+    (simp (length-take, length-drop) e)
+    (λ i h. cut-at n start rows i (omega arith) ∙ f i (omega arith) ∙ sym (cut-at m first rows′ i (omega arith)))
+
+-- a cut whose start and end were clipped
+clip : (a e size : ℕ) → min (e - a) (size - a) ≡ min e size - a
+clip a e size = omega arith
+
+pub row-cut : (table ends rows : List ℕ) (k a e start end : ℕ) → a ≡ startOf table k → e ≡ at ends k → end ≡ min e (length rows) → start ≡ min a end
+    → take (end - start) (drop start rows) ≡ rowOf table ends rows k
+unfolding rowOf
+row-cut table ends rows k a e start end is-a is-e is-end is-start =
+    let size : min (end - start) (length rows - start) ≡ end - a = omega arith in
+    rw (← is-a, ← is-e)
+    (cut-same (end - start) start (e - a) a rows rows
+    (size ∙ ap (λ (x : ℕ). x - a) is-end ∙ sym (clip a e (length rows)))
+    (λ i h. ap (at rows) (omega (arith, rw size at h))))
+
+-- Rows
+
+row-put : {p n : ℕ} {K : Constraint} {start end : ℕ} {rows₀ rows : List ℕ} → Put p (suc n) K start end rows₀ rows → end ≤ length rows
+    → Row p n K (take (end - start) (drop start rows))
+unfolding signalOn coefOn
+row-put {p} {n} {K} {start} {end} {rows₀} {rows} P h =
+    record {
+      counted = simp (length-take, length-drop) (omega (arith, P .ends));
+      signal = λ s l e. cut-at (end - start) start rows (2 * rank (stands K) s) (omega (arith, near s l e)) ∙ P .signal s (omega arith) e;
+      coef = λ s l e. cut-at (end - start) start rows _ (near s l e) ∙ ap (at rows) (omega arith) ∙ P .coef s (omega arith) e;
+    }
+  where
+    near : (s : ℕ) → s ≤ n → stands K s ≡ true → 2 * rank (stands K) s + 1 < end - start
+    near s l e = omega (arith, P .ends, rank-below (stands K) s (suc n) (omega arith) e)
+
+module _ {c : List ℕ} {z : Sizes} {table ends rows : List ℕ} (k : ℕ) (Z : Sized c z) (O : Offsets c (z .m) table) (R : Roomy (length c) (z .m) ends rows)
+    (l : 1 ≤ k) (h : k ≤ z .m) (A : Rows (circuitOf c) table ends rows) where
+  abbrev C : Circuit
+  C = circuitOf c
+
+  pub made-before : (at ends k ≡ 0 → ⊥) → RowMade C table k ends rows ends rows
+  made-before d =
+      record {
+        all = A;
+        made = d;
+        kept = λ j a b e. refl;
+        ends-kept = λ j e. refl;
+        end = λ e. absurd (d e);
+        others = λ i o. refl;
+      }
+
+  module _ (fresh : at ends k ≡ 0) (end : ℕ) (rows′ : List ℕ) (size : length rows′ ≡ length rows)
+      (P : Put (C .p) (suc (C .n)) (constraintAt C k) (startOf table k) end rows rows′) where
+    abbrev ends′ : List ℕ
+    ends′ = set ends k end
+
+    end-is : at ends′ k ≡ end
+    unfolding at
+    end-is = getD-set-same ends k end 0 (omega (arith, R .ends-room))
+
+    end-other : (j : ℕ) → (j ≡ k → ⊥) → at ends′ j ≡ at ends j
+    unfolding at
+    end-other j d = getD-set-other ends k j end 0 d
+
+    end-place : end ≡ startOf table k + rowSize C k
+    unfolding rowSize
+    end-place = P .ends
+
+    some : 0 < rowSize C k
+    unfolding rowSize
+    some = omega (arith, rank-below (stands (constraintAt C k)) 0 (suc (C .n)) (omega arith) (constant-stands (constraintAt C k)))
+
+    row-new : Row (C .p) (C .n) (constraintAt C k) (rowOf table ends′ rows′ k)
+    unfolding rowOf
+    row-new = rw end-is (row-put P (omega (arith, row-inside Z O R k l h, end-place)))
+
+    -- a row that is there lies outside
+    row-old : (j : ℕ) → 1 ≤ j → j ≤ C .m → (j ≡ k → ⊥) → Row (C .p) (C .n) (constraintAt C j) (rowOf table ends rows j)
+        → rowOf table ends′ rows′ j ≡ rowOf table ends rows j
+    unfolding rowOf rowSize
+    row-old j a b d W =
+        rw (end-other j d)
+        (cut-same (at ends j - startOf table j) (startOf table j) (at ends j - startOf table j) (startOf table j) rows′ rows (rw size)
+        (λ i g. P .others (startOf table j + i) (outside i (rw size at g))))
+      where
+        counted : min (at ends j - startOf table j) (length rows - startOf table j) ≡ rowSize C j
+        counted = simp (length-take, length-drop) at (W .counted)
+
+        outside : (i : ℕ) → i < min (at ends j - startOf table j) (length rows - startOf table j)
+            → (startOf table j + i < startOf table k) ⊎ (end ≤ startOf table j + i)
+        outside i g =
+            by-order j k (λ s. inl (omega (arith, rw counted at g, rows-apart Z O j k a s h)))
+            (λ s. inr (omega (arith, end-place, rows-apart Z O k j l (omega arith) (omega (arith, Z .is-m)))))
+
+    pub made-now : RowMade C table k ends rows ends′ rows′
+    made-now =
+        record {
+          all =
+              record {
+                each = λ j a b.
+                    by-equal j k (λ e. inr (rw e row-new))
+                    (λ d. ⊎-elim (λ e. inl (end-other j d ∙ e)) (λ W. inr (rw (row-old j a b d W) W)) (A .each j a b));
+              };
+          made = λ e. absurd (omega (arith, end-is, end-place, some));
+          kept = λ j a b n. ⊎-elim (λ e. absurd (n e)) (row-old j a b (λ e. n (ap (at ends) e ∙ fresh))) (A .each j a b);
+          ends-kept = end-other;
+          end = λ e. end-is ∙ end-place;
+          others = λ i o. P .others i (rw end-is at o);
+        }
+
+  -- what the code puts
+  pub row-made : at ends k ≡ 0 → (part : List ℕ) → part ≡ partOf c table k → (start : ℕ) → start ≡ startOf table k → (end : ℕ) (rows′ : List ℕ)
+      → length rows′ ≡ length rows
+      → (1 < z .p → start + 2 * rank (stands (constraintIn part)) (suc (z .n)) ≤ length rows → Put (z .p) (suc (z .n)) (constraintIn part) start end rows rows′)
+      → RowMade C table k ends rows (set ends k end) rows′
+  unfolding rowSize
+  row-made fresh part is-part start is-start end rows′ size put =
+      let K : constraintIn part ≡ constraintAt C k = ap constraintIn is-part ∙ sized-part Z O k l h in
+      made-now fresh end rows′ size ((rw (Z .is-p, Z .is-n, K, is-start) at put) (omega (arith, Z .formed .p-least)) (row-inside Z O R k l h))

@@ -1,0 +1,66 @@
+-- `rules::sums::highest`: at each turn the place with the highest bound is still to come, or found.
+use borrow.Author.Needs.{needs}
+use Prim.Native.Nat.{_-_, _≤_}
+use mathlib.Core.Path.{sym, _∙_}
+use native.Mathlib.Omega.{arith}
+use Rattle.rules.specs.Rows.{entries, at, coefOn, boundOn}
+use Rattle.rules.specs.Steps.{Target}
+use Rattle.rules.proofs.SumLaws as laws
+use Rattle.rules.proofs.sums.highest.Statement.{statement}
+use Rattle.rules.proofs.sums.highest.Tie as tie
+
+abbrev Inv-loop : tie.InvT-loop
+Inv-loop row bounds p count found₀ top₀ next₀ found top next =
+    (1 ≤ next) × (found ≤ count) × laws.Seen (coefOn row) (boundOn p bounds row) count next found top
+
+abbrev μ-loop : tie.MeasureT-loop
+μ-loop row bounds p count found₀ top₀ next₀ found top next = count - next
+
+-- an entry with a coefficient
+target :
+    (c : tie.After-bound-on Inv-loop μ-loop)
+    → let l = c .before .before .before .before in
+    Target (coefOn (l .before .before .before .args .row .now)) (entries (l .before .before .before .args .row .now)) (l .loop .next)
+unfolding coefOn at
+target c = record { least = omega arith; before = omega arith; present = c .before .if1 .taken }
+
+loop-again : tie.Need-loop-again Inv-loop μ-loop
+loop-again c =
+    let b = c .before in
+    let l = b .before .before .before .before in
+    (omega arith, omega arith, rw (b .bound-on .ensures) (laws.seen-new (l .loop .inv .2) (target b) (rw (b .bound-on .ensures) at (c .if2 .taken))))
+
+loop-again-2 : tie.Need-loop-again-2 Inv-loop μ-loop
+loop-again-2 c =
+    let b = c .before .before in
+    let l = b .before .before .before .before in
+    (omega arith, omega arith, laws.seen-tied (l .loop .inv .2) (target b) (sym (b .bound-on .ensures) ∙ c .if3 .taken))
+
+loop-again-3 : tie.Need-loop-again-3 Inv-loop μ-loop
+loop-again-3 c =
+    let b = c .before .before in
+    let l = b .before .before .before .before in
+    (omega arith, l .loop .inv .1, laws.seen-same (l .loop .inv .2) (λ d. omega (arith, b .bound-on .ensures)))
+
+loop-again-4 : tie.Need-loop-again-4 Inv-loop μ-loop
+unfolding coefOn at
+loop-again-4 c =
+    let l = c .before .before .before in
+    (omega arith, l .loop .inv .1, laws.seen-same (l .loop .inv .2) (λ d. absurd (d (c .if1 .left))))
+
+pub highest-spec : {M : Type 1} → statement M
+highest-spec =
+    tie.close
+    (tie.spec
+    Inv-loop
+    μ-loop
+    (λ c. (omega arith, omega arith, laws.seen-start))
+    (λ c. search needs) (λ c. search needs) (λ c. search needs) (λ c. search needs) (λ c. search needs) (λ c κs. search needs) (λ c. search needs)
+    loop-again
+    (λ c. search needs)
+    loop-again-2
+    (λ c. search needs)
+    loop-again-3
+    (λ c. search needs)
+    loop-again-4
+    (λ c. (c .before .loop .inv .1, laws.seen-end (c .before .loop .inv .2) (c .loop-test .left))))

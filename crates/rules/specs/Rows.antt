@@ -1,0 +1,97 @@
+-- Rows: for a constraint the constant and the signals that it names, rising, each with its coefficient in the reduced form, also where that is 0.
+-- A row is made once per call and then read. How calls run, not what they mean.
+use Prim.Native.Nat.{ℕ, zero, suc, _+_, _*_, _-_, _/_, _≤_, _<_}
+use mathlib.Core.Path.{_≡_}
+use mathlib.Core.Bool.{Bool, true, _||_}
+use mathlib.Core.List.{List}
+use mathlib.Core.Logic.{_⊎_}
+use lib.ListN.{length, getD, take, drop}
+use Rattle.circuit.specs.Circuit.{Circuit, Constraint, constraintAt, names}
+use Rattle.laws.specs.Sum.{sum, keep}
+use Rattle.laws.specs.Rules.{reduced}
+use Rattle.rules.specs.View.{boundIn, markIn}
+
+-- the number at a place, 0 past the end
+unfoldable pub at : List ℕ → ℕ → ℕ
+at list i = getD list i 0
+
+unfoldable pub one : (ℕ → Bool) → ℕ → ℕ
+one q s = keep (q s) 1
+
+-- how many indices below s pass
+unfoldable pub rank : (ℕ → Bool) → ℕ → ℕ
+rank q s = sum s (one q)
+
+-- one of the three forms names the signal
+unfoldable pub involves : Constraint → ℕ → Bool
+involves K s = names (K .a) s || names (K .b) s || names (K .c) s
+
+-- what a row has an entry for: the constant, and each signal that is named
+unfoldable pub stands : Constraint → ℕ → Bool
+stands K zero = true
+stands K (suc s) = involves K (suc s)
+
+-- how many entries a row has
+abbrev pub entries : List ℕ → ℕ
+entries row = length row / 2
+
+-- entry i of a row is two numbers, a signal (0 for the constant) and its coefficient
+unfoldable pub signalOn : List ℕ → ℕ → ℕ
+signalOn row i = at row (2 * i)
+
+unfoldable pub coefOn : List ℕ → ℕ → ℕ
+coefOn row i = at row (2 * i + 1)
+
+-- bound and mark of the signal of entry i
+unfoldable pub boundOn : ℕ → List ℕ → List ℕ → ℕ → ℕ
+boundOn p bounds row i = boundIn p bounds (signalOn row i)
+
+unfoldable pub markOn : List Bool → List ℕ → ℕ → Bool
+markOn marks row i = markIn marks (signalOn row i)
+
+-- The row of a constraint: what stands in it, in rising order, and nothing else.
+pub record Row (p n : ℕ) (K : Constraint) (row : List ℕ) : Type 0 where
+  pub counted : length row ≡ 2 * rank (stands K) (suc n)
+  pub signal : (s : ℕ) → s ≤ n → stands K s ≡ true → signalOn row (rank (stands K) s) ≡ s
+  pub coef : (s : ℕ) → s ≤ n → stands K s ≡ true → coefOn row (rank (stands K) s) ≡ reduced p K s
+
+-- Rows of all constraints in one array
+
+-- Where row k starts: a term takes six bytes, so that what the constraints before it need lies before it.
+unfoldable pub startOf : List ℕ → ℕ → ℕ
+startOf table k = 2 * (at table k / 6 + k)
+
+-- how many numbers row k has
+unfoldable pub rowSize : Circuit → ℕ → ℕ
+rowSize C k = 2 * rank (stands (constraintAt C k)) (suc (C .n))
+
+-- the numbers of row k, which ends where `ends` says
+unfoldable pub rowOf : List ℕ → List ℕ → List ℕ → ℕ → List ℕ
+rowOf table ends rows k = take (at ends k - startOf table k) (drop (startOf table k) rows)
+
+-- the row of each constraint that has been made; `ends` is 0 at the others
+pub record Rows (C : Circuit) (table ends rows : List ℕ) : Type 0 where
+  pub each : (k : ℕ) → 1 ≤ k → k ≤ C .m → (at ends k ≡ 0) ⊎ Row (C .p) (C .n) (constraintAt C k) (rowOf table ends rows k)
+
+-- room for the rows of every circuit of so many bytes, and for m ends
+pub record Roomy (bytes m : ℕ) (ends rows : List ℕ) : Type 0 where
+  pub ends-room : m < length ends
+  pub rows-room : 2 * (bytes / 6 + m + 1) ≤ length rows
+
+-- Making rows
+
+-- From `start` to `end` the entries of the signals below n are put, and the other places are as before.
+pub record Put (p n : ℕ) (K : Constraint) (start end : ℕ) (rows rows′ : List ℕ) : Type 0 where
+  pub ends : end ≡ start + 2 * rank (stands K) n
+  pub signal : (s : ℕ) → s < n → stands K s ≡ true → at rows′ (start + 2 * rank (stands K) s) ≡ s
+  pub coef : (s : ℕ) → s < n → stands K s ≡ true → at rows′ (start + 2 * rank (stands K) s + 1) ≡ reduced p K s
+  pub others : (i : ℕ) → (i < start) ⊎ (end ≤ i) → at rows′ i ≡ at rows i
+
+-- Row k is there. It was made now, unless it was there before; the rows that were there before are as they were.
+pub record RowMade (C : Circuit) (table : List ℕ) (k : ℕ) (ends rows ends′ rows′ : List ℕ) : Type 0 where
+  pub all : Rows C table ends′ rows′
+  pub made : at ends′ k ≡ 0 → ⊥
+  pub kept : (j : ℕ) → 1 ≤ j → j ≤ C .m → (at ends j ≡ 0 → ⊥) → rowOf table ends′ rows′ j ≡ rowOf table ends rows j
+  pub ends-kept : (j : ℕ) → (j ≡ k → ⊥) → at ends′ j ≡ at ends j
+  pub end : at ends k ≡ 0 → at ends′ k ≡ startOf table k + rowSize C k
+  pub others : (i : ℕ) → (i < startOf table k) ⊎ (at ends′ k ≤ i) → at rows′ i ≡ at rows i

@@ -1,0 +1,134 @@
+// Rows of constraints, made when they are first asked for: the constant and the signals that a constraint names, each with its coefficient.
+
+use crate::form::reduced_form;
+use crate::view::coef_at;
+use circuit::bytes::byte_at;
+use circuit::bytes::u16_at;
+use circuit::offsets::part_of;
+use circuit::reader::Sizes;
+use circuit::reader::after_form;
+ghost use mathlib.Core.Path.{_≡_};
+ghost use mathlib.Core.Bool.{_||_};
+ghost use Prim.Native.Nat.{ℕ, suc, _+_, _*_, _≤_, _<_, min};
+ghost use lib.ListN.{length};
+ghost use Rattle.circuit.specs.Circuit.{names};
+ghost use Rattle.circuit.specs.Reader.{signalsMost, formIn, constraintIn};
+ghost use Rattle.circuit.specs.Offsets.{Offsets};
+ghost use Rattle.circuit.specs.Call.{circuitOf, Sized};
+ghost use Rattle.rules.specs.View.{markIn};
+ghost use Rattle.rules.specs.Rows.{rank, stands, startOf, rowOf, Rows, Roomy, Put, RowMade};
+
+// Sets each signal that the form at the start of the part names.
+fn add_names(named: &mut [bool], part: &[u8])
+    requires { ⌜ length (now named) ≡ 1 + signalsMost ⌝ }
+    ensures { λ r. ⌜ ((s : ℕ) → s ≤ signalsMost
+        → markIn (now (named .exit)) s ≡ (markIn (now (named .entry)) s || names (formIn (now (part .entry))) s)) ⌝ }
+{
+    let mut left = byte_at(part, 0);
+    let mut at: usize = 1;
+    while 0 < left {
+        let signal = u16_at(part, at) as usize;
+        if signal < named.len() {
+            named[signal] = true;
+        }
+        at = at + 6;
+        left = left - 1;
+    }
+}
+
+// What stands in the row of the constraint at the start of the part.
+fn standing_in(part: &[u8]) -> [bool; 257]
+    ensures { λ r. ⌜ ((s : ℕ) → s ≤ signalsMost → markIn r s ≡ stands (constraintIn (now (part .entry))) s) ⌝ }
+{
+    let mut named = [false; 257];
+    add_names(&mut named, part);
+    let b = after_form(part);
+    add_names(&mut named, b);
+    let c = after_form(b);
+    add_names(&mut named, c);
+    named[0] = true;
+    named
+}
+
+// Puts the row of the constraint at the start of the part, as far as there is room, and answers its end.
+fn put_row(rows: &mut [u32], start: usize, part: &[u8], n: u32, p: u32) -> usize
+    requires { ⌜ (n ≤ signalsMost) × (start < 4294967296) ⌝ }
+    ensures { λ r. ⌜ (r ≤ start + 514)
+        × (1 < p → start + 2 * rank (stands (constraintIn (now (part .entry)))) (suc n) ≤ length (now (rows .entry))
+        → Put p (suc n) (constraintIn (now (part .entry))) start r (now (rows .entry)) (now (rows .exit))) ⌝ }
+{
+    let form = reduced_form(part, p);
+    let named = standing_in(part);
+    let mut end = start;
+    let mut s: u32 = 0;
+    while s <= n {
+        let signal = s;
+        s = s + 1;
+        if named[signal as usize] {
+            if end + 1 < rows.len() {
+                rows[end] = signal;
+                rows[end + 1] = form[signal as usize];
+                end = end + 2;
+            }
+        }
+    }
+    end
+}
+
+// Where row k starts.
+pub fn start_of(table: &[u32], k: u32) -> usize
+    ensures { λ r. ⌜ (r ≡ startOf (now (table .entry)) k) × (r ≤ 1431655764 + 2 * k) ⌝ }
+{
+    2 * (coef_at(table, k as usize) as usize / 6 + k as usize)
+}
+
+// Makes the row of constraint k, unless it has been made.
+pub fn make_row(
+    circuit: &[u8],
+    table: &[u32],
+    ends: &mut [u32],
+    rows: &mut [u32],
+    sizes: Sizes,
+    k: u32,
+)
+    ensures { λ r. ⌜ (Sized (now (circuit .entry)) sizes → Offsets (now (circuit .entry)) (sizes .m) (now (table .entry))
+        → Roomy (length (now (circuit .entry))) (sizes .m) (now (ends .entry)) (now (rows .entry)) → 1 ≤ k → k ≤ sizes .m
+        → Rows (circuitOf (now (circuit .entry))) (now (table .entry)) (now (ends .entry)) (now (rows .entry))
+        → RowMade (circuitOf (now (circuit .entry))) (now (table .entry)) k (now (ends .entry)) (now (rows .entry)) (now (ends .exit))
+        (now (rows .exit))) ⌝ }
+{
+    let n = sizes.n;
+    let place = k as usize;
+    if 256 < n {
+        return;
+    }
+    if 512 < k {
+        return;
+    }
+    if ends.len() <= place {
+        return;
+    }
+    if ends[place] != 0 {
+        return;
+    }
+    let part = part_of(circuit, table, k);
+    let start = start_of(table, k);
+    let end = put_row(rows, start, part, n, sizes.p);
+    ends[place] = end as u32;
+}
+
+// The lesser of two places.
+fn nearer(a: usize, b: usize) -> usize
+    ensures { λ r. ⌜ r ≡ min a b ⌝ }
+{
+    if a < b { a } else { b }
+}
+
+// The numbers of row k; for all arguments.
+pub fn row_of<'a>(table: &[u32], ends: &[u32], rows: &'a [u32], k: u32) -> &'a [u32]
+    ensures { λ r. ⌜ now r ≡ rowOf (now (table .entry)) (now (ends .entry)) (now (rows .entry)) k ⌝ }
+{
+    let end = nearer(coef_at(ends, k as usize) as usize, rows.len());
+    let start = nearer(start_of(table, k), end);
+    &rows[start..end]
+}
