@@ -65,6 +65,3 @@ module _ (s : List ℕ) (C : Circuit) (size : ℕ) (e : readCircuit s ≡ whole 
   unfolding offsetAt
   offset-near zero h = circuit-whole s e .least
   offset-near (suc k) h = next-near s k (part-read k (omega arith) .1)
-
-  pub offset-most : (k : ℕ) → k ≤ C .m → offsetAt s k ≤ 60000
-  offset-most k h = omega (arith, offset-near k h, circuit-whole s e .most)

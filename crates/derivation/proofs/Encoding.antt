@@ -7,10 +7,12 @@ use native.Mathlib.Nat.{div-add-mod'}
 use native.Mathlib.Omega.{arith}
 use lib.ListN.{length, drop}
 use lib.Seq.{drop-drop}
+use borrow.Author.Tests.{eq-eqb, ne-eqb}
 use Rattle.circuit.specs.Bytes.{byteAt, u16At}
 use Rattle.circuit.specs.Reader.{hasMark}
 use Rattle.circuit.proofs.ByteLaws.{byte-drop, u16-drop}
-use Rattle.laws.specs.Step.{Kind, Root, Sum, Zero, Product, Digits, kindNumber, Step}
+use Rattle.laws.specs.Step.{Kind, kindNumber, Step}
+use Rattle.laws.proofs.KindLaws.{Listed, here, there, listed}
 use Rattle.derivation.specs.Steps.{numbered, kindOf, stepStart, stepAt, readStep, stepsFrom, stepsOf}
 use Rattle.derivation.specs.Encoded.{low, high, stepBytes, stepsBytes, encoded}
 use Rattle.derivation.proofs.Walks.{steps-known}
@@ -19,14 +21,15 @@ use Rattle.derivation.proofs.Exact.{Lists}
 low-high : (x : ℕ) → low x + 256 * high x ≡ x
 low-high x = omega (arith, div-add-mod' x 256)
 
--- each kind is found by its number
+-- each kind is found by its number: those before it in the table have smaller ones
+listed-numbered : {q : Kind} {qs : List Kind} → Listed q qs → numbered qs (kindNumber q) ≡ some q
+unfolding numbered
+listed-numbered {q} here = rw (eq-eqb (kindNumber q) (kindNumber q) refl) refl
+listed-numbered {q} (there x l m) = rw (ne-eqb (kindNumber q) (kindNumber x) (λ (e : kindNumber q ≡ kindNumber x). omega arith)) (listed-numbered m)
+
 kind-numbered : (q : Kind) → kindOf (kindNumber q) ≡ some q
-unfolding kindOf numbered
-kind-numbered Root = refl
-kind-numbered Sum = refl
-kind-numbered Zero = refl
-kind-numbered Product = refl
-kind-numbered Digits = refl
+unfolding kindOf
+kind-numbered q = listed-numbered (listed q)
 
 pub kind-found : (q : Kind) (x : ℕ) → x ≡ kindNumber q → some q ≡ kindOf x
 kind-found q x e = sym (ap kindOf e ∙ kind-numbered q)

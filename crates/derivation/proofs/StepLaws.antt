@@ -10,7 +10,7 @@ use native.Mathlib.Omega.{arith}
 use lib.ListN.{length, drop, take, getD}
 use lib.Seq.{drop-length}
 use Rattle.circuit.specs.Bytes.{byteAt, u16At}
-use Rattle.circuit.specs.Circuit.{noConstraint}
+use Rattle.circuit.specs.Circuit.{noConstraint, constraintAt}
 use Rattle.circuit.specs.Reader.{afterForm, termsIn, formIn, constraintIn}
 use Rattle.circuit.specs.Answer.{refused, given, ask, andThen}
 use Rattle.circuit.specs.Offsets.{Offsets}
@@ -20,12 +20,12 @@ use Rattle.circuit.proofs.ReaderLaws.{part-drop}
 use Rattle.circuit.proofs.OffsetLaws.{sized-part}
 use Rattle.laws.specs.Problem.{Problem, Names, nothing, aConstraint, equationAt}
 use Rattle.laws.specs.Standing.{Standing, apply}
-use Rattle.laws.specs.Step.{Kind, Root, Sum, Zero, Product, Digits, namesOf, Step, within, inside, named, constraints, references}
+use Rattle.laws.specs.Step.{Kind, namesOf, Step, within, inside, named, constraints, references}
 use Rattle.laws.specs.Step.{inRange, ruleOf, met, change, after}
 use Rattle.laws.proofs.Sum.{and-left, and-right, true-or-false}
 use Rattle.laws.proofs.Sound.{within-least, within-most}
 use Rattle.rules.specs.Promise.{reduces, Asked}
-use Rattle.rules.specs.Rows.{at, rowOf, RowMade}
+use Rattle.rules.specs.Rows.{at, Row, rowOf, RowMade}
 use Rattle.derivation.specs.Steps.{kindOf, stepStart, stepAt, readStep, tried, walkFrom}
 use Rattle.derivation.specs.Inner.{problemOf, stepIn, Reads, Kept, Ready, partNamed, ruleIn}
 use Rattle.derivation.specs.declared.kinds.Step as code
@@ -69,13 +69,6 @@ no-constraint : constraintIn [] ≡ noConstraint
 unfolding constraintIn afterForm formIn termsIn byteAt
 no-constraint = refl
 
-pub reduces-names : (q : Kind) → reduces q ≡ true → namesOf q ≡ aConstraint
-reduces-names Root e = true-or-false true refl (sym e)
-reduces-names Sum e = refl
-reduces-names Zero e = true-or-false true refl (sym e)
-reduces-names Product e = true-or-false true refl (sym e)
-reduces-names Digits e = refl
-
 module _ {c : List ℕ} {z : Sizes} {table : List ℕ} (Z : Sized c z) (O : Offsets c (z .m) table) (first : ℕ → ℕ) where
   equation-is : (f : Names) (k : ℕ) → inside (named f (problemOf c first)) k ≡ true → constraintIn (partNamed f c table k) ≡ equationAt f (problemOf c first) k
   equation-is nothing k e = no-constraint
@@ -93,21 +86,22 @@ module _ {c : List ℕ} {z : Sizes} {table : List ℕ} (Z : Sized c z) (O : Offs
           reference = and-right (inside (constraints (x .kind) P) (x .constraint)) _ f;
         }
 
-    -- a step that looks at a row names a constraint
-    pub row-named : reduces (x .kind) ≡ true → (1 ≤ x .constraint) × (x .constraint ≤ z .m)
-    row-named e =
-        let k : within (circuitOf c .m) (x .constraint) ≡ true = rw (reduces-names (x .kind) e) at (fields .constraint) in
+    -- the constraint that a step names is one of the circuit's
+    pub constraint-named : namesOf (x .kind) ≡ aConstraint → (1 ≤ x .constraint) × (x .constraint ≤ z .m)
+    constraint-named e =
+        let k : within (circuitOf c .m) (x .constraint) ≡ true = rw e at (fields .constraint) in
         (within-least _ _ k, omega (arith, within-most _ _ k, Z .is-m))
 
     -- what the code asks is the rule of the step
-    rule-is : (S : Standing) → ruleIn (z .p) (z .n) c table S x ≡ ruleOf (problemOf c first) S x
+    pub rule-is : (S : Standing) → ruleIn (z .p) (z .n) c table S x ≡ ruleOf (problemOf c first) S x
     unfolding ruleIn ruleOf
     rule-is S = rw (Z .is-p, Z .is-n, equation-is (namesOf (x .kind)) (x .constraint) (fields .constraint))
 
-    step-asked : {ends rows : List ℕ} → Ready (x .kind) (x .constraint) c z table ends rows
-        → Asked (x .kind) (z .p) (z .n) (partNamed (namesOf (x .kind)) c table (x .constraint)) (rowOf table ends rows (x .constraint)) (x .target)
-        (x .reference)
-    step-asked R =
+    pub step-asked : {row : List ℕ}
+        → (namesOf (x .kind) ≡ aConstraint → reduces (x .kind) ≡ true
+        → Row (circuitOf c .p) (circuitOf c .n) (constraintAt (circuitOf c) (x .constraint)) row)
+        → Asked (x .kind) (z .p) (z .n) (partNamed (namesOf (x .kind)) c table (x .constraint)) row (x .target) (x .reference)
+    step-asked known =
         record {
           prime = rw (Z .is-p) (Z .formed .prime);
           few = omega (arith, Z .formed .n-most, Z .is-n);
@@ -116,8 +110,7 @@ module _ {c : List ℕ} {z : Sizes} {table : List ℕ} (Z : Sized c z) (O : Offs
           reference = λ e.
               let r : within (circuitOf c .n) (x .reference) ≡ true = rw e at (fields .reference) in
               (within-least _ _ r, omega (arith, within-most _ _ r, Z .is-n));
-          by-row = λ e.
-              rw (Z .is-p, Z .is-n, equation-is (namesOf (x .kind)) (x .constraint) (fields .constraint), reduces-names (x .kind) e) (R .row e);
+          by-row = λ e f. rw (Z .is-p, Z .is-n, equation-is (namesOf (x .kind)) (x .constraint) (fields .constraint), e) (known e f);
         }
 
 -- no row is made yet
@@ -146,12 +139,17 @@ row-ready {k = k} K e f h M =
             roomy = record { ends-room = omega (arith, K .roomy .ends-room); rows-room = omega (arith, K .roomy .rows-room) };
             made = M .all;
           };
-      row = λ _. ⊎-elim (λ z. absurd (M .made z)) (λ r. r) (M .all .each k (h .0) (omega (arith, h .1, K .sized .is-m)));
+      row = λ _ _. ⊎-elim (λ z. absurd (M .made z)) (λ r. r) (M .all .each k (h .0) (omega (arith, h .1, K .sized .is-m)));
     }
+
+-- a row at which no step of this kind looks need not be there, since it names nothing or its rule looks at no row
+pub row-unnamed : {q : Kind} {k : ℕ} {c : List ℕ} {z : Sizes} {table ends rows : List ℕ} → Kept c z table ends rows → nothing ≡ namesOf q
+    → Ready q k c z table ends rows
+row-unnamed K n = record { kept = K; row = λ e f. let none : nothing ≡ aConstraint = n ∙ e in let z : _≡_ {A = ℕ} 0 1 = cc in absurd (omega arith) }
 
 pub row-idle : {q : Kind} {k : ℕ} {c : List ℕ} {z : Sizes} {table ends rows : List ℕ} → Kept c z table ends rows → reduces q ≡ false
     → Ready q k c z table ends rows
-row-idle {q = q} K e = record { kept = K; row = λ h. true-or-false (reduces q) h e }
+row-idle {q = q} K i = record { kept = K; row = λ e f. true-or-false (reduces q) f i }
 
 -- The turns of the loop
 
@@ -186,14 +184,14 @@ module _ {c d table : List ℕ} {z : Sizes} {ends rows : List ℕ} {S₀ : Stand
 
       module _ {x : code.Step} (e : r ≡ Fine x) where
         -- the row of the step is made ..
-        pub walk-named : reduces (stepIn x .kind) ≡ true → (1 ≤ x .constraint) × (x .constraint ≤ z .m)
-        walk-named = row-named (W .kept .sized) (W .kept .offsets) _ (stepIn x) (reads e (λ s. 0) .1)
+        pub walk-named : namesOf (stepIn x .kind) ≡ aConstraint → (1 ≤ x .constraint) × (x .constraint ≤ z .m)
+        walk-named = constraint-named (W .kept .sized) (W .kept .offsets) _ (stepIn x) (reads e (λ s. 0) .1)
 
         module _ {ends′ rows′ : List ℕ} (M : Ready (stepIn x .kind) (x .constraint) c z table ends′ rows′) where
           pub walk-asked :
               Asked (stepIn x .kind) (z .p) (z .n) (partNamed (namesOf (stepIn x .kind)) c table (x .constraint)) (rowOf table ends′ rows′ (x .constraint))
               (x .target) (x .reference)
-          walk-asked = step-asked (W .kept .sized) (W .kept .offsets) _ (stepIn x) (reads e (λ s. 0) .1) M
+          walk-asked = step-asked (W .kept .sized) (W .kept .offsets) _ (stepIn x) (reads e (λ s. 0) .1) (M .row)
 
           -- .. and its rule is asked, with the answer b
           module _ {b : Bool} (told : b ≡ ruleIn (z .p) (z .n) c table S (stepIn x) .met) where

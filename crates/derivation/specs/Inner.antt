@@ -90,7 +90,8 @@ pub record Kept (c : List ℕ) (z : Sizes) (table ends rows : List ℕ) : Type 0
   pub roomy : Roomy (length c) (z .m) ends rows
   pub made : Rows (circuitOf c) table ends rows
 
--- and row k is one of them, if a step of this kind looks at it
+-- and row k is one of them, if a step of this kind names constraint k and looks at its row
 pub record Ready (q : step.Kind) (k : ℕ) (c : List ℕ) (z : Sizes) (table ends rows : List ℕ) : Type 0 where
   pub kept : Kept c z table ends rows
-  pub row : reduces q ≡ true → Row (circuitOf c .p) (circuitOf c .n) (constraintAt (circuitOf c) k) (rowOf table ends rows k)
+  pub row : step.namesOf q ≡ laws.aConstraint → reduces q ≡ true
+      → Row (circuitOf c .p) (circuitOf c .n) (constraintAt (circuitOf c) k) (rowOf table ends rows k)

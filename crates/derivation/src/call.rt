@@ -113,8 +113,9 @@ fn walk(start: Standing, circuit: &[u8], derivation: &[u8], rows: &mut [u32], si
                 keep_row(kind, circuit, &table, &mut ends, rows, sizes, named);
                 let part = part_named(kind, circuit, &table, named);
                 let row = row_of(&table, &ends, rows, named);
-                let standing = outcome.next;
-                outcome = standing.step(kind, part, row, sizes.p, step.target, step.reference);
+                outcome = outcome
+                    .next
+                    .step(kind, part, row, sizes.p, step.target, step.reference);
                 let met = outcome.met;
                 if !met {
                     return stop(start, 17, k);

@@ -4,5 +4,5 @@ pub mod answer;
 pub mod call;
 mod kinds;
 pub mod marks;
-mod step;
+pub mod step;
 pub mod writer;

@@ -14,11 +14,10 @@ use rules::rows::make_row;
 use rules::standing::Kind;
 use rules::standing::reads_row;
 ghost use mathlib.Core.Path.{_≡_};
-ghost use mathlib.Core.Bool.{true};
 ghost use Prim.Native.Nat.{_≤_, _<_};
-ghost use Rattle.laws.specs.Problem.{Problem};
+ghost use Rattle.laws.specs.Problem.{Problem, aConstraint};
 ghost use Rattle.laws.specs.Step.{namesOf};
-ghost use Rattle.rules.specs.Promise.{kindOf, reduces};
+ghost use Rattle.rules.specs.Promise.{kindOf};
 ghost use Rattle.derivation.specs.Inner.{Reads, Kept, Ready, partNamed};
 
 // A step that is known and in range, or the number of its refusal.
@@ -53,7 +52,7 @@ pub(crate) fn read_step(derivation: &[u8], k: usize, n: u32, m: u32) -> StepRead
 }
 
 // The part of the circuit bytes that a step of this kind looks at; nothing where it names no constraint.
-pub(crate) fn part_named<'a>(kind: Kind, circuit: &'a [u8], table: &[u32], k: u32) -> &'a [u8]
+pub fn part_named<'a>(kind: Kind, circuit: &'a [u8], table: &[u32], k: u32) -> &'a [u8]
     ensures { λ r. ⌜ now r ≡ partNamed (namesOf (kindOf kind)) (now (circuit .entry)) (now (table .entry)) k ⌝ }
 {
     let entry = entry_of(kind);
@@ -64,7 +63,7 @@ pub(crate) fn part_named<'a>(kind: Kind, circuit: &'a [u8], table: &[u32], k: u3
     }
 }
 
-// Makes the row of constraint k, unless it is there, if a step of this kind looks at it.
+// Makes the row of constraint k, unless it is there, if a step of this kind names a constraint and looks at its row.
 pub(crate) fn keep_row(
     kind: Kind,
     circuit: &[u8],
@@ -75,9 +74,14 @@ pub(crate) fn keep_row(
     k: u32,
 )
     ensures { λ r. ⌜ (Kept (now (circuit .entry)) sizes (now (table .entry)) (now (ends .entry)) (now (rows .entry))
-        → (reduces (kindOf kind) ≡ true → (1 ≤ k) × (k ≤ sizes .m))
+        → (namesOf (kindOf kind) ≡ aConstraint → (1 ≤ k) × (k ≤ sizes .m))
         → Ready (kindOf kind) k (now (circuit .entry)) sizes (now (table .entry)) (now (ends .exit)) (now (rows .exit))) ⌝ }
 {
+    let entry = entry_of(kind);
+    let names = entry.names;
+    let Names::AConstraint = names else {
+        return;
+    };
     if reads_row(kind) {
         make_row(circuit, table, ends, rows, sizes, k);
     }

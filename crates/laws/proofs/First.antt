@@ -1,22 +1,16 @@
 -- The search by target, kind, constraint and reference finds the first step in this order that adds by a sort of change, if there is one.
 use Prim.Native.Nat.{ℕ, zero, suc, _+_, _≤_, _<_}
 use mathlib.Core.Path.{_≡_, refl, sym, ap, _∙_}
-use mathlib.Core.Bool.{Bool, true, false, cond}
+use mathlib.Core.Bool.{Bool, true, false}
 use mathlib.Core.List.{List, [], _∷_}
 use mathlib.Core.Option.{Option, none, some}
 use native.Mathlib.Omega.{arith}
 use native.Mathlib.Decide.{ℕ-discrete}
-use lib.Dec.{eqb}
 use borrow.Author.Tests.{ltb-false, le-ltb, eqb-true}
 use Rattle.laws.specs.Problem.{Problem}
 use Rattle.laws.specs.Standing.{Standing, Change}
 use Rattle.laws.specs.Step.{
   Kind,
-  Root,
-  Sum,
-  Zero,
-  Product,
-  Digits,
   kinds,
   kindNumber,
   Step,
@@ -33,6 +27,7 @@ use Rattle.laws.specs.Step.{
   adds,
 }
 use Rattle.laws.specs.Solver.{step, addsBy, firstBy, earlier, pick, firstUp, firstIn, try, tryReferences, tryKind, tryKinds, firstAdding}
+use Rattle.laws.proofs.KindLaws.{Listed, here, there, listed, number-is}
 use Rattle.laws.proofs.Sum.{and-left, and-right, true-or-false, false-by}
 use Rattle.laws.proofs.Best.{first-by-says, first-by-holds}
 use Rattle.laws.proofs.Turns.{within-says, adds-says, adds-target}
@@ -61,18 +56,6 @@ by-reference q t k r r′ l =
     first-by-holds _ _ _ (omega arith)
     (λ e. first-by-holds _ _ _ (omega arith) (λ e. first-by-holds _ _ _ (omega arith) (λ e. le-ltb r′ r l)))
 
--- the kind with a number
-numbered : ℕ → Kind
-numbered x = cond (eqb x 1) Root (cond (eqb x 2) Sum (cond (eqb x 3) Zero (cond (eqb x 4) Product Digits)))
-
-numbered-is : (q : Kind) → numbered (kindNumber q) ≡ q
-unfolding numbered
-numbered-is Root = refl
-numbered-is Sum = refl
-numbered-is Zero = refl
-numbered-is Product = refl
-numbered-is Digits = refl
-
 first-by-neither : (a b : ℕ) {r r′ : Bool} → firstBy a b r ≡ false → firstBy b a r′ ≡ false → (a ≡ b) × (r ≡ false) × (r′ ≡ false)
 first-by-neither a b {r} {r′} e f =
     let x = first-by-says a b r e in
@@ -90,7 +73,7 @@ neither x y e f =
     let last : x .reference ≡ y .reference
     = omega (arith, ltb-false (x .reference) (y .reference) (d .1), ltb-false (y .reference) (x .reference) (d .2)) in
     ap (λ (t : ℕ). step (x .kind) t (x .constraint) (x .reference)) (a .0)
-    ∙ ap (λ (q : Kind). step q (y .target) (x .constraint) (x .reference)) (sym (numbered-is (x .kind)) ∙ ap numbered (b .0) ∙ numbered-is (y .kind))
+    ∙ ap (λ (q : Kind). step q (y .target) (x .constraint) (x .reference)) (number-is (b .0))
     ∙ ap (λ (k : ℕ). step (y .kind) (y .target) k (x .reference)) (d .0)
     ∙ ap (λ (r : ℕ). step (y .kind) (y .target) (y .constraint) r) last
 
@@ -125,18 +108,6 @@ module _ (Q : Option Step → Type 0) where
       → ((later : Option Step) → Q (f i later)) → (later : Option Step) → Q (firstIn R f later)
   in-reaches only-zero f i e h g later = rw (eqb-true i 0 e) at (g later)
   in-reaches (from-one n) f i e h g later = let w = within-says n i e in up-reaches f i h g 0 n (w .0) (omega arith) later
-
--- a kind in the list, after kinds with smaller numbers
-data Listed (q : Kind) : List Kind → Type 0 where
-  here : {qs : List Kind} → Listed q (q ∷ qs)
-  there : (x : Kind) {qs : List Kind} → kindNumber x < kindNumber q → Listed q qs → Listed q (x ∷ qs)
-
-listed : (q : Kind) → Listed q kinds
-listed Root = here
-listed Sum = there Root (omega arith) here
-listed Zero = there Root (omega arith) (there Sum (omega arith) here)
-listed Product = there Root (omega arith) (there Sum (omega arith) (there Zero (omega arith) here))
-listed Digits = there Root (omega arith) (there Sum (omega arith) (there Zero (omega arith) (there Product (omega arith) here)))
 
 module _ (c : Change → Bool) (P : Problem) (S : Standing) where
   module _ (Q : Option Step → Type 0) where

@@ -14,6 +14,7 @@ pub mod Optimum
 pub mod Turns
 pub mod Best
 pub mod Greedy
+pub mod KindLaws
 pub mod First
 pub mod Marks
 pub mod Solution

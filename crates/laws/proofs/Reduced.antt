@@ -143,9 +143,6 @@ module _ {n p : ℕ} {K : Constraint} (W : WellFormedConstraint n p K) (h : 0 < 
     pub reduced-zero : Satisfies p K v → Congruent p (sum (suc n) (λ s. reduced p K s * v s)) 0
     reduced-zero sat = congruent-shift _ _ (congruent-trans reduced-value sat) (omega (arith, no-product))
 
-    pub reduced-satisfies : Congruent p (sum (suc n) (λ s. reduced p K s * v s)) 0 → Satisfies p K v
-    reduced-satisfies z = congruent-shift _ _ (congruent-plus (congruent-sym reduced-value) z) (omega (arith, no-product))
-
 -- a signal that no form names does not occur
 pub reduced-unnamed : (p : ℕ) (K : Constraint) (s : ℕ) → 0 < p
     → names (K .a) (suc s) ≡ false → names (K .b) (suc s) ≡ false → names (K .c) (suc s) ≡ false → reduced p K (suc s) ≡ 0

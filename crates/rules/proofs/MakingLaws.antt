@@ -20,49 +20,107 @@ use Rattle.circuit.specs.declared.reader.Sizes.{Sizes}
 use Rattle.circuit.proofs.OffsetLaws.{sized-part}
 use Rattle.laws.specs.Rules.{reduced}
 use Rattle.laws.specs.Sum.{keep}
-use Rattle.laws.proofs.Sum.{true-or-false, by-equal, by-order, keep-true}
-use Rattle.rules.specs.View.{coefIn, markIn}
-use Rattle.rules.specs.Rows.{at, rank, involves, stands, signalOn, coefOn, Row, startOf, rowSize, rowOf, Rows, Roomy, Put, RowMade}
+use Rattle.laws.proofs.Sum.{true-or-false, by-equal, by-order, keep-true, keep-le}
+use Rattle.rules.specs.View.{coefIn}
+use Rattle.rules.specs.Rows.{at, rank, involves, stands, formsOf, signalOn, formsOn, coefOn, Row, startOf, rowSize, rowOf, Rows, Roomy, Put, RowMade}
 use Rattle.rules.proofs.Ranks.{and-false, rank-zero, rank-passed, rank-failed, rank-below}
 use Rattle.rules.proofs.RowLaws.{constant-stands}
 use Rattle.rules.proofs.RoomLaws.{rows-apart, row-inside}
 use Rattle.rules.proofs.Walk.{termsFrom, names-hit, names-on}
 
--- What stands
+-- Which forms name a signal
 
--- a turn over the terms of a form: what was to be named is named so far or by a term that is left
-module _ (part : List ℕ) (left offset : ℕ) (some : 0 < left) (signal : ℕ) (known : signal ≡ u16At part offset) (whole : ℕ → Bool) (named : List Bool)
-    (wide : length named ≡ 257) (inv : (s : ℕ) → s ≤ 256 → whole s ≡ (markIn named s || names (termsFrom part left offset) s)) where
-  abbrev Named : List Bool → ℕ → Type 0
-  Named marks s = whole s ≡ (markIn marks s || names (termsFrom part (left - 1) (offset + 6)) s)
+forms-few : (K : Constraint) (s : ℕ) → formsOf K s ≤ 7
+unfolding formsOf
+forms-few K s = omega (arith, keep-le (names (K .a) s) 1, keep-le (names (K .b) s) 2, keep-le (names (K .c) s) 4)
 
-  pub naming-set : signal < length named → (s : ℕ) → s ≤ 256 → Named (set named signal true) s
-  unfolding markIn
-  naming-set h s m =
-      let here : true ≡ (leb signal 256 && eqb signal signal) = rw (le-leb signal 256 (omega arith), eq-eqb signal signal refl) in
-      by-equal signal s
-      (λ e.
-      rw (← e, getD-set-same named signal true false h)
-      (names-hit part left offset some signal known signal (whole signal) (markIn named signal) true (inv signal (omega arith)) here refl))
-      (λ d.
-      rw (getD-set-other named signal s true false (λ (e : s ≡ signal). d (sym e)))
-      (names-on part left offset some signal known s (whole s) (markIn named s) false (inv s m)
-      (rw (ne-eqb signal s d) (sym (and-false (leb signal 256)))) refl))
+pub few-at : (K : Constraint) (forms : List ℕ) → ((s : ℕ) → s ≤ 256 → coefIn forms s ≡ formsOf K s) → (s : ℕ) → s ≤ 256 → getD forms s 0 ≤ 7
+unfolding coefIn
+few-at K forms is s m = rw (is s m) (forms-few K s)
 
-  pub naming-on : length named ≤ signal → (s : ℕ) → s ≤ 256 → Named named s
-  naming-on h s m = names-on part left offset some signal known s (whole s) (markIn named s) false (inv s m) (rw (lt-leb signal 256 (omega arith))) refl
+-- what has an entry is the constant, or named by some form
+entry-stands : (K : Constraint) (s : ℕ) → stands K s ≡ (eqb s 0 || ltb 0 (formsOf K s))
+unfolding stands involves formsOf keep
+entry-stands K zero = refl
+entry-stands K (suc s) =
+    rw (ne-eqb (suc s) 0 (λ (e : suc s ≡ 0). omega arith)) (go (names (K .a) (suc s)) (names (K .b) (suc s)) (names (K .c) (suc s)))
+  where
+    go : (a b c : Bool) → (a || b || c) ≡ ltb 0 (keep a 1 + keep b 2 + keep c 4)
+    go true b c = sym (lt-ltb 0 (1 + keep b 2 + keep c 4) (omega arith))
+    go false true c = sym (lt-ltb 0 (0 + 2 + keep c 4) (omega arith))
+    go false false true = refl
+    go false false false = refl
 
--- the three forms one after the other, from nothing, and the constant
-module _ (part b c : List ℕ) (is-b : b ≡ afterForm part) (is-c : c ≡ afterForm b) (m₀ m₁ m₂ m₃ : List Bool) (none : (s : ℕ) → markIn m₀ s ≡ false)
-    (A : (s : ℕ) → s ≤ 256 → markIn m₁ s ≡ (markIn m₀ s || names (formIn part) s))
-    (B : (s : ℕ) → s ≤ 256 → markIn m₂ s ≡ (markIn m₁ s || names (formIn b) s))
-    (C : (s : ℕ) → s ≤ 256 → markIn m₃ s ≡ (markIn m₂ s || names (formIn c) s)) where
-  pub all-stand : 0 < length m₃ → (s : ℕ) → s ≤ 256 → markIn (set m₃ 0 true) s ≡ stands (constraintIn part) s
-  unfolding stands involves constraintIn markIn
-  all-stand h zero m = getD-set-same m₃ 0 true false h
-  all-stand h (suc s) m =
-      getD-set-other m₃ 0 (suc s) true false (λ (e : suc s ≡ 0). omega arith)
-      ∙ C (suc s) m ∙ rw (B (suc s) m, A (suc s) m, none (suc s), is-c, is-b) refl
+-- the bit is added to x or not, and so far it is or a term that is left names the signal, as in the whole form
+pub record Adding (x bit : ℕ) (whole left : Bool) (y : ℕ) : Type 0 where
+  pub is : y ≡ x + keep (leb bit y) bit
+  pub names : whole ≡ (leb bit y || left)
+
+-- a turn over the terms of a form
+module _ (part : List ℕ) (left offset : ℕ) (some : 0 < left) (signal : ℕ) (known : signal ≡ u16At part offset) (bit : ℕ) where
+  module _ {x y : ℕ} {whole : Bool} (s : ℕ) (A : Adding x bit whole (names (termsFrom part left offset) s) y) where
+    adding-hit : s ≤ 256 → signal ≡ s → (y′ : ℕ) → y′ ≡ x + bit → Adding x bit whole (names (termsFrom part (left - 1) (offset + 6)) s) y′
+    unfolding keep
+    adding-hit m e y′ is =
+        let there : leb bit y′ ≡ true = le-leb bit y′ (omega arith) in
+        let here : true ≡ (leb signal 256 && eqb signal s) = rw (le-leb signal 256 (omega arith), eq-eqb signal s e) in
+        record { is = rw there is; names = rw there (names-hit part left offset some signal known s whole (leb bit y) true (A .names) here refl) }
+
+    adding-off : (leb signal 256 && eqb signal s) ≡ false → Adding x bit whole (names (termsFrom part (left - 1) (offset + 6)) s) y
+    adding-off f = record { is = A .is; names = names-on part left offset some signal known s whole (leb bit y) false (A .names) (sym f) refl }
+
+  module _ (forms₀ forms : List ℕ) (wide : length forms ≡ 257) (whole : ℕ → Bool)
+      (inv : (s : ℕ) → s ≤ 256 → coefIn forms₀ s < bit → Adding (coefIn forms₀ s) bit (whole s) (names (termsFrom part left offset) s) (coefIn forms s))
+    where
+      abbrev Added : List ℕ → Type 0
+      Added later = (s : ℕ) → s ≤ 256 → coefIn forms₀ s < bit
+          → Adding (coefIn forms₀ s) bit (whole s) (names (termsFrom part (left - 1) (offset + 6)) s) (coefIn later s)
+
+      other : (s : ℕ) → (signal ≡ s → ⊥) → (leb signal 256 && eqb signal s) ≡ false
+      other s d = rw (ne-eqb signal s d) (and-false (leb signal 256))
+
+      -- v has the bit
+      pub added-at : (v : ℕ) → (getD forms signal 0 < bit → v ≡ getD forms signal 0 + bit) × (bit ≤ getD forms signal 0 → v ≡ getD forms signal 0)
+          → signal < length forms → Added (set forms signal v)
+      unfolding coefIn keep
+      added-at v is-v h s m low =
+          let A = inv s m low in
+          by-equal signal s
+          (λ e.
+          let y = getD forms s 0 in
+          let g : (y < bit → v ≡ y + bit) × (bit ≤ y → v ≡ y) = rw e at is-v in
+          let here : getD (set forms signal v) s 0 ≡ v = ap (λ (u : ℕ). getD (set forms signal v) u 0) (sym e) ∙ getD-set-same forms signal v 0 h in
+          adding-hit s A m e _
+          (by-order y bit
+          (λ l. omega (arith, here, g .0 l, rw (lt-leb bit y l) at (A .is)))
+          (λ l. omega (arith, here, g .1 l, rw (le-leb bit y l) at (A .is)))))
+          (λ d. rw (getD-set-other forms signal s v 0 (λ (e : s ≡ signal). d (sym e))) (adding-off s A (other s d)))
+
+      pub added-none : length forms ≤ signal → Added forms
+      added-none h s m low = adding-off s (inv s m low) (rw (lt-leb signal 256 (omega arith)))
+
+pub adding-start : {x bit : ℕ} {whole left : Bool} → x < bit → whole ≡ left → Adding x bit whole left x
+unfolding keep
+adding-start {x} {bit} l e = let none = lt-leb bit x l in record { is = rw none (omega arith); names = rw none e }
+
+pub adding-end : {x bit y : ℕ} {whole left : Bool} → Adding x bit whole left y → whole ≡ leb bit y → y ≡ x + keep whole bit
+adding-end {x} {bit} A e = A .is ∙ ap (λ (b : Bool). x + keep b bit) (sym e)
+
+-- the three forms one after the other, from nothing
+pub all-forms : (part b c : List ℕ) → b ≡ afterForm part → c ≡ afterForm b → (f₀ f₁ f₂ f₃ : List ℕ) → ((s : ℕ) → coefIn f₀ s ≡ 0)
+    → ((s : ℕ) → s ≤ 256 → coefIn f₀ s < 1 → coefIn f₁ s ≡ coefIn f₀ s + keep (names (formIn part) s) 1)
+    → ((s : ℕ) → s ≤ 256 → coefIn f₁ s < 2 → coefIn f₂ s ≡ coefIn f₁ s + keep (names (formIn b) s) 2)
+    → ((s : ℕ) → s ≤ 256 → coefIn f₂ s < 4 → coefIn f₃ s ≡ coefIn f₂ s + keep (names (formIn c) s) 4)
+    → (s : ℕ) → s ≤ 256 → coefIn f₃ s ≡ formsOf (constraintIn part) s
+unfolding formsOf constraintIn
+all-forms part b c is-b is-c f₀ f₁ f₂ f₃ none A B C s m =
+    let a = A s m (omega (arith, none s)) in
+    let few = keep-le (names (formIn part) s) 1 in
+    let b-is = B s m (omega (arith, none s)) in
+    let few′ = keep-le (names (formIn b) s) 2 in
+    let c-is = C s m (omega (arith, none s)) in
+    let all : coefIn f₃ s ≡ keep (names (formIn part) s) 1 + keep (names (formIn b) s) 2 + keep (names (formIn c) s) 4 = omega (arith, none s) in
+    all ∙ rw (is-c, is-b) refl
 
 -- Entries put
 
@@ -112,43 +170,47 @@ module _ {p s : ℕ} {K : Constraint} {start end : ℕ} {rows₀ rows : List ℕ
     pub put-room : (n : ℕ) → s ≤ n → start + 2 * rank (stands K) (suc n) ≤ length rows → end + 1 < length rows
     put-room n l h = omega (arith, P .ends, rank-below (stands K) s (suc n) (omega arith) e)
 
-    pub put-one : (x : ℕ) → x ≡ reduced p K s → end + 1 < length rows → Put p (s + 1) K start (end + 2) rows₀ (set (set rows end s) (end + 1) x)
-    put-one x is h =
+    pub put-one : (v x : ℕ) → v ≡ 512 * formsOf K s + s → x ≡ reduced p K s → end + 1 < length rows
+        → Put p (s + 1) K start (end + 2) rows₀ (set (set rows end v) (end + 1) x)
+    put-one v x is-v is h =
         let here : start + 2 * rank (stands K) s ≡ end = sym (P .ends) in
         record {
           ends = rw (add-one s) (omega (arith, P .ends, rank-passed (stands K) s e));
           signal =
-              below-more _ s (λ u l f. apart rows end s x h _ (inl (omega (arith, P .ends, rank-below (stands K) u s l f))) ∙ P .signal u l f)
-              (λ f. rw here (first rows end s x h));
+              below-more _ s (λ u l f. apart rows end v x h _ (inl (omega (arith, P .ends, rank-below (stands K) u s l f))) ∙ P .signal u l f)
+              (λ f. rw here (first rows end v x h ∙ is-v));
           coef =
-              below-more _ s (λ u l f. apart rows end s x h _ (inl (omega (arith, P .ends, rank-below (stands K) u s l f))) ∙ P .coef u l f)
-              (λ f. rw here (second rows end s x h ∙ is));
+              below-more _ s (λ u l f. apart rows end v x h _ (inl (omega (arith, P .ends, rank-below (stands K) u s l f))) ∙ P .coef u l f)
+              (λ f. rw here (second rows end v x h ∙ is));
           others = λ i o. ⊎-elim
-              (λ (l : i < start). apart rows end s x h i (inl (omega (arith, P .ends))) ∙ P .others i (inl l))
-              (λ (l : end + 2 ≤ i). apart rows end s x h i (inr l) ∙ P .others i (inr (omega arith)))
+              (λ (l : i < start). apart rows end v x h i (inl (omega (arith, P .ends))) ∙ P .others i (inl l))
+              (λ (l : end + 2 ≤ i). apart rows end v x h i (inr l) ∙ P .others i (inr (omega arith)))
               o;
         }
 
 -- the turns of the code, which puts nothing where there is no room
-module _ (p n : ℕ) (K : Constraint) (start : ℕ) (rows₀ : List ℕ) (named : List Bool) (form : List ℕ) (small : n ≤ 256)
-    (is-named : (s : ℕ) → s ≤ 256 → markIn named s ≡ stands K s) (is-form : (s : ℕ) → coefIn form s ≡ keep (ltb 1 p) (reduced p K s)) where
+module _ (p n : ℕ) (K : Constraint) (start : ℕ) (rows₀ : List ℕ) (forms form : List ℕ) (small : n ≤ 256)
+    (is-forms : (s : ℕ) → s ≤ 256 → coefIn forms s ≡ formsOf K s) (is-form : (s : ℕ) → coefIn form s ≡ keep (ltb 1 p) (reduced p K s)) where
   abbrev Puts : ℕ → ℕ → List ℕ → Type 0
   Puts s end rows = 1 < p → start + 2 * rank (stands K) (suc n) ≤ length rows₀ → Put p s K start end rows₀ rows
 
-  module _ (s end : ℕ) (rows : List ℕ) (P : Puts s end rows) (l : s ≤ n) where
-    tested : (b : Bool) → getD named s false ≡ b → stands K s ≡ b
-    unfolding markIn
-    tested b e = sym (is-named s (omega arith)) ∙ e
-
-    pub puts-one : getD named s false ≡ true → end + 1 < length rows → Puts (s + 1) (end + 2) (set (set rows end s) (end + 1) (getD form s 0))
+  module _ (s : ℕ) (l : s ≤ n) (end : ℕ) (rows : List ℕ) (P : Puts s end rows) {b : Bool} (told : b ≡ (eqb s 0 || ltb 0 (getD forms s 0))) where
+    tested : stands K s ≡ b
     unfolding coefIn
-    puts-one e h above room = put-one (P above room) (tested true e) _ (is-form s ∙ keep-true (ltb 1 p) _ (lt-ltb 1 p above)) h
+    tested = entry-stands K s ∙ ap (λ (x : ℕ). eqb s 0 || ltb 0 x) (sym (is-forms s (omega arith))) ∙ sym told
 
-    pub puts-full : getD named s false ≡ true → length rows ≡ length rows₀ → length rows ≤ end + 1 → Puts (s + 1) end rows
-    puts-full e z h above room = absurd (omega (arith, put-room (P above room) (tested true e) n l (omega arith)))
+    pub puts-one : b ≡ true → end + 1 < length rows
+        → Puts (s + 1) (end + 2) (set (set rows end (512 * getD forms s 0 + s)) (end + 1) (getD form s 0))
+    unfolding coefIn
+    puts-one e h above room =
+        put-one (P above room) (tested ∙ e) _ _ (ap (λ (x : ℕ). 512 * x + s) (is-forms s (omega arith)))
+        (is-form s ∙ keep-true (ltb 1 p) _ (lt-ltb 1 p above)) h
 
-    pub puts-on : getD named s false ≡ false → Puts (s + 1) end rows
-    puts-on e above room = put-on (P above room) (tested false e)
+    pub puts-full : b ≡ true → length rows ≡ length rows₀ → length rows ≤ end + 1 → Puts (s + 1) end rows
+    puts-full e z h above room = absurd (omega (arith, put-room (P above room) (tested ∙ e) n l (omega arith)))
+
+    pub puts-on : b ≡ false → Puts (s + 1) end rows
+    puts-on e above room = put-on (P above room) (tested ∙ e)
 
 -- Cuts
 
@@ -182,18 +244,22 @@ row-cut table ends rows k a e start end is-a is-e is-end is-start =
 
 -- Rows
 
-row-put : {p n : ℕ} {K : Constraint} {start end : ℕ} {rows₀ rows : List ℕ} → Put p (suc n) K start end rows₀ rows → end ≤ length rows
+row-put : {p n : ℕ} {K : Constraint} {start end : ℕ} {rows₀ rows : List ℕ} → Put p (suc n) K start end rows₀ rows → end ≤ length rows → n ≤ 256
     → Row p n K (take (end - start) (drop start rows))
-unfolding signalOn coefOn
-row-put {p} {n} {K} {start} {end} {rows₀} {rows} P h =
+unfolding signalOn formsOn coefOn
+row-put {p} {n} {K} {start} {end} {rows₀} {rows} P h few =
     record {
       counted = simp (length-take, length-drop) (omega (arith, P .ends));
-      signal = λ s l e. cut-at (end - start) start rows (2 * rank (stands K) s) (omega (arith, near s l e)) ∙ P .signal s (omega arith) e;
+      signal = λ s l e. omega (arith, entry s l e);
+      forms = λ s l e. omega (arith, entry s l e);
       coef = λ s l e. cut-at (end - start) start rows _ (near s l e) ∙ ap (at rows) (omega arith) ∙ P .coef s (omega arith) e;
     }
   where
     near : (s : ℕ) → s ≤ n → stands K s ≡ true → 2 * rank (stands K) s + 1 < end - start
     near s l e = omega (arith, P .ends, rank-below (stands K) s (suc n) (omega arith) e)
+
+    entry : (s : ℕ) → s ≤ n → stands K s ≡ true → at (take (end - start) (drop start rows)) (2 * rank (stands K) s) ≡ 512 * formsOf K s + s
+    entry s l e = cut-at (end - start) start rows (2 * rank (stands K) s) (omega (arith, near s l e)) ∙ P .signal s (omega arith) e
 
 module _ {c : List ℕ} {z : Sizes} {table ends rows : List ℕ} (k : ℕ) (Z : Sized c z) (O : Offsets c (z .m) table) (R : Roomy (length c) (z .m) ends rows)
     (l : 1 ≤ k) (h : k ≤ z .m) (A : Rows (circuitOf c) table ends rows) where
@@ -234,7 +300,7 @@ module _ {c : List ℕ} {z : Sizes} {table ends rows : List ℕ} (k : ℕ) (Z : 
 
     row-new : Row (C .p) (C .n) (constraintAt C k) (rowOf table ends′ rows′ k)
     unfolding rowOf
-    row-new = rw end-is (row-put P (omega (arith, row-inside Z O R k l h, end-place)))
+    row-new = rw end-is (row-put P (omega (arith, row-inside Z O R k l h, end-place)) (Z .formed .n-most))
 
     -- a row that is there lies outside
     row-old : (j : ℕ) → 1 ≤ j → j ≤ C .m → (j ≡ k → ⊥) → Row (C .p) (C .n) (constraintAt C j) (rowOf table ends rows j)

@@ -1,40 +1,56 @@
 -- What a step has shown where it ends: the rule is met or not, and the arrays are the next standing.
 use Prim.Native.Nat.{ℕ, zero, suc, _+_, _-_, _≤_, _<_, min}
 use mathlib.Core.Path.{_≡_, refl, sym, ap, _∙_, fun-ext}
-use mathlib.Core.Bool.{Bool, true, false, _&&_, _||_}
+use mathlib.Core.Bool.{Bool, true, false, _&&_, _||_, or-true}
 use mathlib.Core.List.{List}
 use native.Mathlib.Decide.{ℕ-discrete, decLe}
 use native.Mathlib.Omega.{arith}
 use lib.Dec.{leb, eqb}
 use lib.ListN.{length, getD, set, replicate}
+use lib.Seq.{set-getD}
 use borrow.Author.Tests.{eq-eqb, ne-eqb, le-leb, lt-leb}
 use Rattle.laws.specs.Problem.{largest}
 use Rattle.laws.specs.Standing.{add, lower, isInput}
 use Rattle.laws.specs.Standing as laws
 use Rattle.laws.specs.Step.{Rule}
+use Rattle.laws.proofs.Sum.{or-false}
 use Rattle.rules.specs.View.{boundIn, markIn, viewOf}
-use Rattle.rules.specs.Promise.{view, Gives}
-use Rattle.rules.specs.declared.standing.Standing.{Standing}
-use Rattle.rules.specs.declared.standing.Outcome.{Outcome}
-use Rattle.rules.proofs.ViewLaws.{bound-within, bound-largest, mark-none, mark-set, view-lower}
+use Rattle.rules.specs.Promise.{Gives, Says, isMet, boundAfter}
+use Rattle.rules.specs.declared.standing.Verdict.{Verdict}
+use Rattle.rules.specs.declared.standing.Verdict.the-variants.{Unmet, AtMost}
+use Rattle.rules.proofs.ViewLaws.{bound-within, bound-largest, mark-none, mark-set, view-lower, view-mark}
 use Rattle.rules.proofs.Ranks.{and-false}
 
--- Outcomes
+module _ {told : Bool} {before after : laws.Standing} {t : ℕ} {x : Rule} where
+  gives-no : told ≡ false → after ≡ before → x .met ≡ false → Gives told before after t x
+  gives-no is same e = record { told-met = is ∙ sym e; next = same ∙ rw e }
 
-module _ {p : ℕ} {before : Standing} {o : Outcome} {t : ℕ} {x : Rule} where
-  pub gives-no : o .met ≡ false → o .next ≡ before → x .met ≡ false → Gives p before o t x
-  gives-no told same e = record { told = told ∙ sym e; next = ap (view p) same ∙ rw e }
-
-  pub gives-yes : {change : laws.Change} → o .met ≡ true → view p (o .next) ≡ laws.apply change (view p before) t
-      → (x .met ≡ true) × (x .change ≡ change) → Gives p before o t x
-  gives-yes told same e = record { told = told ∙ sym (e .0); next = same ∙ rw (e .0, e .1) }
+  gives-yes : {change : laws.Change} → told ≡ true → after ≡ laws.apply change before t
+      → (x .met ≡ true) × (x .change ≡ change) → Gives told before after t x
+  gives-yes is same e = record { told-met = is ∙ sym (e .0); next = same ∙ rw (e .0, e .1) }
 
 -- Stores
 
-pub lowered-view : (p : ℕ) (bounds : List ℕ) (marks : List Bool) (t x v : ℕ) → t < length bounds → v ≡ min (getD bounds t 0) x
+lowered-view : (p : ℕ) (bounds : List ℕ) (marks : List Bool) (t x v : ℕ) → t < length bounds → v ≡ min (getD bounds t 0) x
     → viewOf p (set bounds t v) marks ≡ lower (viewOf p bounds marks) t x
 lowered-view p bounds marks t x v h e =
     ap (λ (k : ℕ). viewOf p (set bounds t k) marks) (e ∙ ap (λ (k : ℕ). min k x) (bound-within p bounds t h)) ∙ view-lower p bounds marks t x h
+
+-- the target's bound is what the verdict makes of it
+pub gives-bound : (p : ℕ) (bounds : List ℕ) (marks : List Bool) (t v : ℕ) (verdict : Verdict) {x : Rule} → t < length bounds
+    → v ≡ boundAfter verdict (getD bounds t 0) → Says verdict x → Gives (isMet verdict) (viewOf p bounds marks) (viewOf p (set bounds t v) marks) t x
+gives-bound p bounds marks t v Unmet h e says =
+    gives-no refl (ap (λ (l : List ℕ). viewOf p l marks) (ap (λ (k : ℕ). set bounds t k) e ∙ set-getD bounds t 0)) says
+gives-bound p bounds marks t v (AtMost y) h e says = gives-yes refl (lowered-view p bounds marks t y v h e) says
+
+-- the target is marked if it was or the rule is met
+pub gives-mark : (p : ℕ) (bounds : List ℕ) (marks : List Bool) (t : ℕ) (v b : Bool) {x : Rule} → t < length marks → v ≡ (getD marks t false || b)
+    → b ≡ x .met → x .change ≡ laws.fixed → Gives b (viewOf p bounds marks) (viewOf p bounds (set marks t v)) t x
+gives-mark p bounds marks t v true h e met change =
+    gives-yes refl (ap (λ (a : Bool). viewOf p bounds (set marks t a)) (e ∙ or-true (getD marks t false)) ∙ view-mark p bounds marks t h) (sym met, change)
+gives-mark p bounds marks t v false h e met change =
+    gives-no refl
+    (ap (λ (l : List Bool). viewOf p bounds l) (ap (λ (a : Bool). set marks t a) (e ∙ or-false (getD marks t false)) ∙ set-getD marks t false)) (sym met)
 
 -- The start
 

@@ -8,7 +8,7 @@ use Rattle.circuit.specs.Circuit.{Constraint, names}
 use Rattle.laws.specs.Rules.{reduced}
 use Rattle.laws.proofs.Sum.{true-or-false, by-test, by-order, or-false-left, or-false-right}
 use Rattle.laws.proofs.Reduced.{reduced-unnamed}
-use Rattle.rules.specs.Rows.{entries, rank, involves, stands, signalOn, coefOn, Row}
+use Rattle.rules.specs.Rows.{entries, rank, involves, stands, formsOf, signalOn, formsOn, coefOn, Row}
 use Rattle.rules.proofs.Ranks.{rank-zero, rank-passed, rank-failed, rank-grows, rank-below}
 
 -- a signal that isn't named has no coefficient
@@ -25,6 +25,11 @@ pub uninvolved : (p : ℕ) (K : Constraint) (s : ℕ) → 0 < p → stands K s �
 unfolding stands
 uninvolved p K zero h e = true-or-false _ refl e
 uninvolved p K (suc s) h e = uninvolved-reduced p K (suc s) h (omega arith) e
+
+pub stands-is : (K : Constraint) (s : ℕ) → 1 ≤ s → stands K s ≡ involves K s
+unfolding stands
+stands-is K zero l = absurd (omega arith)
+stands-is K (suc s) l = refl
 
 pub constant-stands : (K : Constraint) → stands K 0 ≡ true
 unfolding stands
@@ -65,6 +70,7 @@ pub record Entry (p n : ℕ) (K : Constraint) (row : List ℕ) (i : ℕ) : Type 
   pub within : signalOn row i ≤ n
   pub standing : stands K (signalOn row i) ≡ true
   pub place : rank (stands K) (signalOn row i) ≡ i
+  pub forms : formsOn row i ≡ formsOf K (signalOn row i)
   pub coef : coefOn row i ≡ reduced p K (signalOn row i)
 
 module _ {p n : ℕ} {K : Constraint} {row : List ℕ} (R : Row p n K row) where
@@ -76,8 +82,9 @@ module _ {p n : ℕ} {K : Constraint} {row : List ℕ} (R : Row p n K row) where
       let r = rank-onto (stands K) (suc n) i (omega (arith, entries-are)) in
       let near : r .index ≤ n = omega (arith, r .below) in
       let is : signalOn row i ≡ r .index = rw (r .is) at (R .signal (r .index) near (r .passes)) in
+      let forms : formsOn row i ≡ formsOf K (r .index) = rw (r .is) at (R .forms (r .index) near (r .passes)) in
       let coef : coefOn row i ≡ reduced p K (r .index) = rw (r .is) at (R .coef (r .index) near (r .passes)) in
-      record { within = rw is near; standing = rw is (r .passes); place = rw is (r .is); coef = rw is coef }
+      record { within = rw is near; standing = rw is (r .passes); place = rw is (r .is); forms = rw is forms; coef = rw is coef }
 
   pub row-rising : (i j : ℕ) → i < j → j < rank (stands K) (suc n) → signalOn row i < signalOn row j
   row-rising i j l h =

@@ -1,5 +1,5 @@
 -- Sums that end early; the terms of the sum rule as the code makes them, over coefficients R and bounds b by place; the highest bound.
-use Prim.Native.Nat.{ℕ, zero, suc, _+_, _*_, _%_, _≤_, _<_}
+use Prim.Native.Nat.{ℕ, zero, suc, _+_, _*_, _-_, _%_, _≤_, _<_}
 use mathlib.Core.Path.{_≡_, refl, sym, ap, _∙_}
 use mathlib.Core.Bool.{not}
 use native.Mathlib.Nat.{mod-lt, zero-mod, zero-add, sub-zero, mul-mod-right, mul-one, mul-comm}
@@ -147,3 +147,11 @@ module _ {R b : ℕ → ℕ} {count : ℕ} where
           go e H (ahead l t) (no d) = ahead (omega arith) t
           go e H (behind l f t) (yes q) = absurd (omega arith)
           go e H (behind l f t) (no d) = absurd (omega (arith, H .above i T d))
+
+      -- where p - 1 stands twice, no bound below p is above all others
+      pub seen-full : b i ≡ top → {p : ℕ} → p - 1 ≤ b i → (e : ℕ) → Highest R b count e → b e < p → 0 ≡ e
+      seen-full tied {p} full e H below = go (seen-tied tied .each e H)
+        where
+          go : Sought b (i + 1) 0 top e → 0 ≡ e
+          go (ahead l t) = absurd (omega arith)
+          go (behind l f t) = f

@@ -179,7 +179,8 @@ module _ {p n : ℕ} {K : Constraint} {row : List ℕ} (P : Prime p) (L : Row p 
             (λ h. omega (arith, F .most)))
 
   -- The one sum that lowers a bound
-  module _ {found limit x : ℕ} (H : (e : ℕ) → Highest R′ b′ (entries row) e → found ≡ e) (F : Summed p R′ b′ (entries row) found limit x)
+  module _ {found limit x : ℕ} (low : (s : ℕ) → b s < p) (H : (e : ℕ) → Highest R′ b′ (entries row) e → b′ e < p → found ≡ e)
+      (F : Summed p R′ b′ (entries row) found limit x)
       (limit-is : limit ≡ min (b (signalOn row found)) p) where
     -- the sum that the search comes to
     record Met (t : ℕ) : Type 0 where
@@ -188,9 +189,10 @@ module _ {p n : ℕ} {K : Constraint} {row : List ℕ} (P : Prime p) (L : Row p 
       lowers : x < limit
 
     lowering : (t : ℕ) → 1 ≤ t → t ≤ n → occurs R t ≡ true → sumBound p n R b t < p → sumBound p n R b t < b t → Met t
+    unfolding boundOn
     lowering t l m o below less =
         let signal : signalOn row (place t) ≡ t = L .signal t m (named t l m o) in
-        let at-place = H (place t) (highest-at t l m o less) in
+        let at-place = H (place t) (highest-at t l m o less) (low _) in
         let T : Target R′ (entries row) found = rw at-place (signal-target t l m o) in
         let is-target : signalOn row found ≡ t = rw at-place signal in
         let is : x ≡ min limit (sumBound p n R b t) = rw is-target at (sum-is found T F) in

@@ -42,6 +42,10 @@ pub getD-repeated : {A : Type 0} (n i : ℕ) (a : A) → getD (replicate n a) i 
 getD-repeated n i a =
     by-order i n (λ h. getD-replicate n i a a h) (λ h. List·getD-eq-default (replicate n a) a (rw (length-replicate n a) h))
 
+pub coef-none : (n s : ℕ) → coefIn (replicate n 0) s ≡ 0
+unfolding coefIn
+coef-none n s = getD-repeated n s 0
+
 pub mark-none : (n s : ℕ) → markIn (replicate n false) s ≡ false
 unfolding markIn
 mark-none n s = getD-repeated n s false

@@ -1,6 +1,7 @@
--- Rows: for a constraint the constant and the signals that it names, rising, each with its coefficient in the reduced form, also where that is 0.
+-- Rows: for a constraint the constant and the signals that it names, rising, each with the forms that name it and its coefficient in the reduced
+-- form, also where that is 0.
 -- A row is made once per call and then read. How calls run, not what they mean.
-use Prim.Native.Nat.{ℕ, zero, suc, _+_, _*_, _-_, _/_, _≤_, _<_}
+use Prim.Native.Nat.{ℕ, zero, suc, _+_, _*_, _-_, _/_, _%_, _≤_, _<_}
 use mathlib.Core.Path.{_≡_}
 use mathlib.Core.Bool.{Bool, true, _||_}
 use mathlib.Core.List.{List}
@@ -31,13 +32,20 @@ unfoldable pub stands : Constraint → ℕ → Bool
 stands K zero = true
 stands K (suc s) = involves K (suc s)
 
+-- which forms name the signal: 1 for A, 2 for B and 4 for C, added
+unfoldable pub formsOf : Constraint → ℕ → ℕ
+formsOf K s = keep (names (K .a) s) 1 + keep (names (K .b) s) 2 + keep (names (K .c) s) 4
+
 -- how many entries a row has
 abbrev pub entries : List ℕ → ℕ
 entries row = length row / 2
 
--- entry i of a row is two numbers, a signal (0 for the constant) and its coefficient
+-- entry i of a row is two numbers: a signal (0 for the constant) with 512 times its forms, and its coefficient
 unfoldable pub signalOn : List ℕ → ℕ → ℕ
-signalOn row i = at row (2 * i)
+signalOn row i = at row (2 * i) % 512
+
+unfoldable pub formsOn : List ℕ → ℕ → ℕ
+formsOn row i = at row (2 * i) / 512
 
 unfoldable pub coefOn : List ℕ → ℕ → ℕ
 coefOn row i = at row (2 * i + 1)
@@ -53,6 +61,7 @@ markOn marks row i = markIn marks (signalOn row i)
 pub record Row (p n : ℕ) (K : Constraint) (row : List ℕ) : Type 0 where
   pub counted : length row ≡ 2 * rank (stands K) (suc n)
   pub signal : (s : ℕ) → s ≤ n → stands K s ≡ true → signalOn row (rank (stands K) s) ≡ s
+  pub forms : (s : ℕ) → s ≤ n → stands K s ≡ true → formsOn row (rank (stands K) s) ≡ formsOf K s
   pub coef : (s : ℕ) → s ≤ n → stands K s ≡ true → coefOn row (rank (stands K) s) ≡ reduced p K s
 
 -- Rows of all constraints in one array
@@ -83,7 +92,7 @@ pub record Roomy (bytes m : ℕ) (ends rows : List ℕ) : Type 0 where
 -- From `start` to `end` the entries of the signals below n are put, and the other places are as before.
 pub record Put (p n : ℕ) (K : Constraint) (start end : ℕ) (rows rows′ : List ℕ) : Type 0 where
   pub ends : end ≡ start + 2 * rank (stands K) n
-  pub signal : (s : ℕ) → s < n → stands K s ≡ true → at rows′ (start + 2 * rank (stands K) s) ≡ s
+  pub signal : (s : ℕ) → s < n → stands K s ≡ true → at rows′ (start + 2 * rank (stands K) s) ≡ 512 * formsOf K s + s
   pub coef : (s : ℕ) → s < n → stands K s ≡ true → at rows′ (start + 2 * rank (stands K) s + 1) ≡ reduced p K s
   pub others : (i : ℕ) → (i < start) ⊎ (end ≤ i) → at rows′ i ≡ at rows i
 

@@ -7,6 +7,7 @@ use crate::arith::lesser;
 use crate::arith::multiply_add;
 use crate::arith::product;
 use crate::constraint::is_linear;
+use crate::rows::FORMS;
 use crate::view::bound_at;
 use crate::view::mark_at;
 use field::modular::inverse;
@@ -37,7 +38,7 @@ fn signal_on(row: &[u32], i: usize) -> u32
     requires { ⌜ i < entries (now row) ⌝ }
     ensures { λ r. ⌜ r ≡ signalOn (now (row .entry)) i ⌝ }
 {
-    row[2 * i]
+    row[2 * i] % FORMS
 }
 
 // The coefficient of entry i.

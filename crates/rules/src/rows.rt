@@ -1,4 +1,5 @@
-// Rows of constraints, made when they are first asked for: the constant and the signals that a constraint names, each with its coefficient.
+// Rows of constraints, made when they are first asked for: the constant and the signals that a constraint names, each with the forms that name it
+// and its coefficient.
 
 use crate::form::reduced_form;
 use crate::view::coef_at;
@@ -9,45 +10,64 @@ use circuit::reader::Sizes;
 use circuit::reader::after_form;
 ghost use mathlib.Core.Path.{_≡_};
 ghost use mathlib.Core.Bool.{_||_};
+ghost use lib.Dec.{ltb, eqb};
 ghost use Prim.Native.Nat.{ℕ, suc, _+_, _*_, _≤_, _<_, min};
 ghost use lib.ListN.{length};
 ghost use Rattle.circuit.specs.Circuit.{names};
 ghost use Rattle.circuit.specs.Reader.{signalsMost, formIn, constraintIn};
 ghost use Rattle.circuit.specs.Offsets.{Offsets};
 ghost use Rattle.circuit.specs.Call.{circuitOf, Sized};
-ghost use Rattle.rules.specs.View.{markIn};
-ghost use Rattle.rules.specs.Rows.{rank, stands, startOf, rowOf, Rows, Roomy, Put, RowMade};
+ghost use Rattle.laws.specs.Sum.{keep};
+ghost use Rattle.rules.specs.View.{coefIn};
+ghost use Rattle.rules.specs.Rows.{rank, stands, formsOf, startOf, rowOf, Rows, Roomy, Put, RowMade};
 
-// Sets each signal that the form at the start of the part names.
-fn add_names(named: &mut [bool], part: &[u8])
-    requires { ⌜ length (now named) ≡ 1 + signalsMost ⌝ }
-    ensures { λ r. ⌜ ((s : ℕ) → s ≤ signalsMost
-        → markIn (now (named .exit)) s ≡ (markIn (now (named .entry)) s || names (formIn (now (part .entry))) s)) ⌝ }
+// The first number of an entry is its signal and so many times the forms that name it.
+pub const FORMS: u32 = 512;
+
+// The forms with this bit, the highest so far.
+fn with_bit(forms: u8, bit: u8) -> u8
+    requires { ⌜ bit ≤ 4 ⌝ }
+    ensures { λ r. ⌜ (forms < bit → r ≡ forms + bit) × (bit ≤ forms → r ≡ forms) ⌝ }
+{
+    if forms < bit { forms + bit } else { forms }
+}
+
+// Adds the bit to each signal that the form at the start of the part names. Bits are added from the lowest on.
+fn add_form(forms: &mut [u8], part: &[u8], bit: u8)
+    requires { ⌜ (length (now forms) ≡ 1 + signalsMost) × (bit ≤ 4) ⌝ }
+    ensures { λ r. ⌜ ((s : ℕ) → s ≤ signalsMost → coefIn (now (forms .entry)) s < bit
+        → coefIn (now (forms .exit)) s ≡ coefIn (now (forms .entry)) s + keep (names (formIn (now (part .entry))) s) bit) ⌝ }
 {
     let mut left = byte_at(part, 0);
     let mut at: usize = 1;
     while 0 < left {
         let signal = u16_at(part, at) as usize;
-        if signal < named.len() {
-            named[signal] = true;
+        if signal < forms.len() {
+            forms[signal] = with_bit(forms[signal], bit);
         }
         at = at + 6;
         left = left - 1;
     }
 }
 
-// What stands in the row of the constraint at the start of the part.
-fn standing_in(part: &[u8]) -> [bool; 257]
-    ensures { λ r. ⌜ ((s : ℕ) → s ≤ signalsMost → markIn r s ≡ stands (constraintIn (now (part .entry))) s) ⌝ }
+// Which forms of the constraint at the start of the part name each signal.
+fn forms_in(part: &[u8]) -> [u8; 257]
+    ensures { λ r. ⌜ ((s : ℕ) → s ≤ signalsMost → coefIn r s ≡ formsOf (constraintIn (now (part .entry))) s) ⌝ }
 {
-    let mut named = [false; 257];
-    add_names(&mut named, part);
+    let mut forms = [0u8; 257];
+    add_form(&mut forms, part, 1);
     let b = after_form(part);
-    add_names(&mut named, b);
+    add_form(&mut forms, b, 2);
     let c = after_form(b);
-    add_names(&mut named, c);
-    named[0] = true;
-    named
+    add_form(&mut forms, c, 4);
+    forms
+}
+
+// Whether a signal that these forms name has an entry; the constant has one in any case.
+fn has_entry(signal: u32, forms: u8) -> bool
+    ensures { λ r. ⌜ r ≡ (eqb signal 0 || ltb 0 forms) ⌝ }
+{
+    (signal == 0) | (0 < forms)
 }
 
 // Puts the row of the constraint at the start of the part, as far as there is room, and answers its end.
@@ -58,15 +78,16 @@ fn put_row(rows: &mut [u32], start: usize, part: &[u8], n: u32, p: u32) -> usize
         → Put p (suc n) (constraintIn (now (part .entry))) start r (now (rows .entry)) (now (rows .exit))) ⌝ }
 {
     let form = reduced_form(part, p);
-    let named = standing_in(part);
+    let forms = forms_in(part);
     let mut end = start;
     let mut s: u32 = 0;
     while s <= n {
         let signal = s;
         s = s + 1;
-        if named[signal as usize] {
+        let named = forms[signal as usize];
+        if has_entry(signal, named) {
             if end + 1 < rows.len() {
-                rows[end] = signal;
+                rows[end] = FORMS * named as u32 + signal;
                 rows[end + 1] = form[signal as usize];
                 end = end + 2;
             }

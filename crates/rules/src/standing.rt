@@ -9,14 +9,13 @@ use crate::sums::sum_step;
 use crate::view::bound_at;
 ghost use mathlib.Core.Path.{_≡_};
 ghost use mathlib.Core.List.{List, []};
-ghost use Prim.Native.Nat.{ℕ, _≤_, min};
-ghost use Rattle.circuit.specs.Reader.{signalsMost};
+ghost use Prim.Native.Nat.{ℕ, _<_, min};
 ghost use Rattle.laws.specs.Problem.{largest};
 ghost use Rattle.laws.specs.Standing.{isInput};
 ghost use Rattle.laws.specs.Step as laws;
 ghost use Rattle.laws.specs.Step.{Rule, rule};
 ghost use Rattle.rules.specs.View.{viewOf};
-ghost use Rattle.rules.specs.Promise.{view, subjectIn, Gives, Says, kindOf, reduces, Asked};
+ghost use Rattle.rules.specs.Promise.{view, subjectIn, Gives, Says, boundAfter, isMet, kindOf, reduces, Asked};
 
 // Rule 3.1. Signal 0 is the constant one; bounds and marks of signals above 256 are those of the start.
 pub struct Standing {
@@ -30,11 +29,10 @@ pub struct Outcome {
     pub met: bool,
 }
 
-// What a rule says of a step: not met, or met, and what its target then gets.
+// What a rule that gives bounds says of a step: not met, or met, and the bound that its target then has at most.
 enum Verdict {
     Unmet,
     AtMost { bound: u32 },
-    Fixed,
 }
 
 // Rule 2.2: the kinds of steps.
@@ -46,7 +44,7 @@ pub enum Kind {
     Digits,
 }
 
-// What each rule says of a target, by its row in the table of rules. What the rule does not look at is 0 or nothing there.
+// What the rules that give bounds say of a target, by their rows in the table of rules. What a rule does not look at is 0 or nothing there.
 
 // Rule 4.3.
 fn root_verdict(part: &[u8], p: u32, t: u32) -> Verdict
@@ -72,43 +70,23 @@ fn sum_verdict(part: &[u8], row: &[u32], bounds: &[u32], p: u32, t: u32) -> Verd
     Verdict::AtMost { bound }
 }
 
-// Rule 4.5.
-fn zero_verdict(bounds: &[u32], p: u32, t: u32) -> Verdict
-    ensures { λ v. ⌜ Says v (rule laws.Zero (subjectIn p 0 []) (viewOf p (now (bounds .entry)) []) t 0) ⌝ }
+// Rule 3.3: the bound after a step.
+fn bound_after(verdict: Verdict, bound: u32) -> u32
+    ensures { λ r. ⌜ r ≡ boundAfter verdict bound ⌝ }
 {
-    if bound_at(bounds, t as usize, p) != 0 {
-        return Verdict::Unmet;
+    match verdict {
+        Verdict::Unmet => bound,
+        Verdict::AtMost { bound: most } => lesser(bound, most),
     }
-    Verdict::Fixed
 }
 
-// Rule 4.6.
-fn product_verdict(part: &[u8], marks: &[bool], t: u32) -> Verdict
-    ensures { λ v. ⌜ Says v (rule laws.Product (subjectIn 0 0 (now (part .entry))) (viewOf 0 [] (now (marks .entry))) t 0) ⌝ }
+fn is_met(verdict: Verdict) -> bool
+    ensures { λ r. ⌜ r ≡ isMet verdict ⌝ }
 {
-    if !product_met(part, marks, t) {
-        return Verdict::Unmet;
+    match verdict {
+        Verdict::Unmet => false,
+        Verdict::AtMost { bound } => true,
     }
-    Verdict::Fixed
-}
-
-// Rule 4.7.
-fn digits_verdict<'a>(
-    part: &[u8],
-    row: &[u32],
-    bounds: &'a [u32],
-    marks: &'a [bool],
-    p: u32,
-    t: u32,
-    r: u32,
-) -> Verdict
-    ensures { λ v. ⌜ ((n : ℕ) → Asked laws.Digits p n (now (part .entry)) (now (row .entry)) t r
-        → Says v (rule laws.Digits (subjectIn p n (now (part .entry))) (viewOf p (now (bounds .entry)) (now (marks .entry))) t r)) ⌝ }
-{
-    if !digits_met(part, row, bounds, marks, p, t, r) {
-        return Verdict::Unmet;
-    }
-    Verdict::Fixed
 }
 
 impl Standing {
@@ -130,89 +108,74 @@ impl Standing {
         Standing { bounds, marks }
     }
 
-    // Rule 3.3: the target has what the verdict gives it. No target in range is above 256.
-    fn given(self, t: u32, verdict: Verdict) -> Outcome
-        ensures { λ o. ⌜ ((p : ℕ) (x : Rule) → t ≤ signalsMost → Says verdict x → Gives p self o t x) ⌝ }
-    {
-        if 256 < t {
-            return Outcome {
-                next: self,
-                met: false,
-            };
-        }
-        let at = t as usize;
-        match verdict {
-            Verdict::Unmet => Outcome {
-                next: self,
-                met: false,
-            },
-            Verdict::AtMost { bound } => {
-                let mut bounds = self.bounds;
-                let marks = self.marks;
-                bounds[at] = lesser(bounds[at], bound);
-                Outcome {
-                    next: Standing { bounds, marks },
-                    met: true,
-                }
-            }
-            Verdict::Fixed => {
-                let bounds = self.bounds;
-                let mut marks = self.marks;
-                marks[at] = true;
-                Outcome {
-                    next: Standing { bounds, marks },
-                    met: true,
-                }
-            }
-        }
-    }
+    // Rules 4.3 to 4.7: a method for each kind, by its row in the table of rules. No target in range is above 256.
 
-    // A method for each kind, by its row in the table of rules.
-
-    fn root(self, part: &[u8], p: u32, t: u32) -> Outcome
+    pub fn root(mut self, part: &[u8], p: u32, t: u32) -> Outcome
         ensures { λ o. ⌜ ((n r : ℕ) (row : List ℕ) → Asked laws.Root p n (now (part .entry)) row t r
-            → Gives p self o t (rule laws.Root (subjectIn p n (now (part .entry))) (view p self) t r)) ⌝ }
+            → Gives (o .met) (view p self) (view p (o .next)) t (rule laws.Root (subjectIn p n (now (part .entry))) (view p self) t r)) ⌝ }
     {
         let verdict = root_verdict(part, p, t);
-        self.given(t, verdict)
+        let met = is_met(verdict);
+        let at = t as usize;
+        if at < 257 {
+            self.bounds[at] = bound_after(verdict, self.bounds[at]);
+        }
+        Outcome { next: self, met }
     }
 
-    fn sum(self, part: &[u8], row: &[u32], p: u32, t: u32) -> Outcome
+    pub fn sum(mut self, part: &[u8], row: &[u32], p: u32, t: u32) -> Outcome
         ensures { λ o. ⌜ ((n r : ℕ) → Asked laws.Sum p n (now (part .entry)) (now (row .entry)) t r
-            → Gives p self o t (rule laws.Sum (subjectIn p n (now (part .entry))) (view p self) t r)) ⌝ }
+            → Gives (o .met) (view p self) (view p (o .next)) t (rule laws.Sum (subjectIn p n (now (part .entry))) (view p self) t r)) ⌝ }
     {
         let verdict = sum_verdict(part, row, &self.bounds, p, t);
-        self.given(t, verdict)
+        let met = is_met(verdict);
+        let at = t as usize;
+        if at < 257 {
+            self.bounds[at] = bound_after(verdict, self.bounds[at]);
+        }
+        Outcome { next: self, met }
     }
 
-    fn zero(self, p: u32, t: u32) -> Outcome
+    pub fn zero(mut self, p: u32, t: u32) -> Outcome
         ensures { λ o. ⌜ ((n r : ℕ) (part row : List ℕ) → Asked laws.Zero p n part row t r
-            → Gives p self o t (rule laws.Zero (subjectIn p n part) (view p self) t r)) ⌝ }
+            → Gives (o .met) (view p self) (view p (o .next)) t (rule laws.Zero (subjectIn p n part) (view p self) t r)) ⌝ }
     {
-        let verdict = zero_verdict(&self.bounds, p, t);
-        self.given(t, verdict)
+        let met = bound_at(&self.bounds, t as usize, p) == 0;
+        let at = t as usize;
+        if at < 257 {
+            self.marks[at] = self.marks[at] | met;
+        }
+        Outcome { next: self, met }
     }
 
-    fn product(self, part: &[u8], t: u32) -> Outcome
+    pub fn product(mut self, part: &[u8], t: u32) -> Outcome
         ensures { λ o. ⌜ ((p n r : ℕ) (row : List ℕ) → Asked laws.Product p n (now (part .entry)) row t r
-            → Gives p self o t (rule laws.Product (subjectIn p n (now (part .entry))) (view p self) t r)) ⌝ }
+            → Gives (o .met) (view p self) (view p (o .next)) t (rule laws.Product (subjectIn p n (now (part .entry))) (view p self) t r)) ⌝ }
     {
-        let verdict = product_verdict(part, &self.marks, t);
-        self.given(t, verdict)
+        let met = product_met(part, &self.marks, t);
+        let at = t as usize;
+        if at < 257 {
+            self.marks[at] = self.marks[at] | met;
+        }
+        Outcome { next: self, met }
     }
 
-    fn digits(self, part: &[u8], row: &[u32], p: u32, t: u32, r: u32) -> Outcome
+    pub fn digits(mut self, part: &[u8], row: &[u32], p: u32, t: u32, r: u32) -> Outcome
         ensures { λ o. ⌜ ((n : ℕ) → Asked laws.Digits p n (now (part .entry)) (now (row .entry)) t r
-            → Gives p self o t (rule laws.Digits (subjectIn p n (now (part .entry))) (view p self) t r)) ⌝ }
+            → Gives (o .met) (view p self) (view p (o .next)) t (rule laws.Digits (subjectIn p n (now (part .entry))) (view p self) t r)) ⌝ }
     {
-        let verdict = digits_verdict(part, row, &self.bounds, &self.marks, p, t, r);
-        self.given(t, verdict)
+        let met = digits_met(part, row, &self.bounds, &self.marks, p, t, r);
+        let at = t as usize;
+        if at < 257 {
+            self.marks[at] = self.marks[at] | met;
+        }
+        Outcome { next: self, met }
     }
 
     // A step of any kind, by the constraint at the start of the part and its row, at which only some rules look.
     pub fn step(self, kind: Kind, part: &[u8], row: &[u32], p: u32, t: u32, r: u32) -> Outcome
         ensures { λ o. ⌜ ((n : ℕ) → Asked (kindOf kind) p n (now (part .entry)) (now (row .entry)) t r
-            → Gives p self o t (rule (kindOf kind) (subjectIn p n (now (part .entry))) (view p self) t r)) ⌝ }
+            → Gives (o .met) (view p self) (view p (o .next)) t (rule (kindOf kind) (subjectIn p n (now (part .entry))) (view p self) t r)) ⌝ }
     {
         match kind {
             Kind::Root => self.root(part, p, t),

@@ -5,6 +5,7 @@ use crate::arith::multiply_add;
 use crate::arith::opposite;
 use crate::arith::product;
 use crate::constraint::is_linear;
+use crate::rows::FORMS;
 use crate::view::bound_at;
 use crate::view::bound_on;
 use crate::view::coef_at;
@@ -26,7 +27,7 @@ fn place_in(row: &[u32], t: u32) -> usize
     let count = row.len() / 2;
     let mut i: usize = 1;
     while i < count {
-        if row[2 * i] == t {
+        if row[2 * i] % FORMS == t {
             return i;
         }
         i = i + 1;
@@ -105,12 +106,17 @@ pub(crate) fn sum_step(part: &[u8], row: &[u32], bounds: &[u32], p: u32, t: u32)
     sum_at(row, bounds, p, place_in(row, t), p)
 }
 
-// The place whose bound is above those of all other signals with a coefficient, if there is one; 0 where the highest bound stands twice.
+// The place whose bound is above those of all other signals with a coefficient, if there is one and it is below p; 0 where the highest bound
+// stands twice. Where p - 1 stands twice nothing further is looked at.
 fn highest(row: &[u32], bounds: &[u32], p: u32) -> usize
     ensures { λ r. ⌜ (r ≤ entries (now (row .entry)))
         × ((e : ℕ) → Highest (coefOn (now (row .entry))) (boundOn p (now (bounds .entry)) (now (row .entry))) (entries (now (row .entry))) e
-        → r ≡ e) ⌝ }
+        → boundOn p (now (bounds .entry)) (now (row .entry)) e < p → r ≡ e) ⌝ }
 {
+    if p == 0 {
+        return 0;
+    }
+    let largest = p - 1;
     let count = row.len() / 2;
     let mut found: usize = 0;
     let mut top: u32 = 0;
@@ -124,6 +130,9 @@ fn highest(row: &[u32], bounds: &[u32], p: u32) -> usize
                 found = i;
                 top = bound;
             } else if bound == top {
+                if largest <= bound {
+                    return 0;
+                }
                 found = 0;
             }
         }
@@ -139,11 +148,11 @@ pub struct Lowering {
 
 // Only the signal with the highest bound may be its target, since a sum is at least every other bound.
 pub fn lowering_sum(row: &[u32], bounds: &[u32], p: u32) -> Lowering
-    ensures { λ r. ⌜ ((n : ℕ) (K : Constraint) → Prime p → Row p n K (now (row .entry))
+    ensures { λ r. ⌜ ((n : ℕ) (K : Constraint) → Prime p → Row p n K (now (row .entry)) → ((s : ℕ) → boundIn p (now (bounds .entry)) s < p)
         → OneSum p n (reduced p K) (boundIn p (now (bounds .entry))) (r .target) (r .bound)) ⌝ }
 {
     let e = highest(row, bounds, p);
-    let target = coef_at(row, 2 * e);
+    let target = coef_at(row, 2 * e) % FORMS;
     let limit = lesser(bound_at(bounds, target as usize, p), p);
     let bound = sum_at(row, bounds, p, e, limit);
     if limit <= bound {

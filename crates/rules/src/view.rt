@@ -1,5 +1,6 @@
 // Elements of arrays by signal, also past the end.
 
+use crate::rows::FORMS;
 ghost use mathlib.Core.Path.{_≡_};
 ghost use Prim.Native.Nat.{_<_};
 ghost use Rattle.rules.specs.View.{coefIn, boundIn, markIn};
@@ -27,7 +28,7 @@ pub(crate) fn bound_on(row: &[u32], bounds: &[u32], i: usize, p: u32) -> u32
     requires { ⌜ i < entries (now row) ⌝ }
     ensures { λ r. ⌜ r ≡ boundOn p (now (bounds .entry)) (now (row .entry)) i ⌝ }
 {
-    bound_at(bounds, row[2 * i] as usize, p)
+    bound_at(bounds, (row[2 * i] % FORMS) as usize, p)
 }
 
 // The mark of signal s.

@@ -4,7 +4,7 @@ use mathlib.Core.Path.{_≡_, refl, sym, ap, _∙_}
 use mathlib.Core.Bool.{true, false}
 use mathlib.Core.List.{List}
 use mathlib.Core.Option.{Option, none, some}
-use mathlib.Core.Logic.{_⊎_, ⊎-elim}
+use mathlib.Core.Logic.{⊎-elim}
 use native.Mathlib.Omega.{arith}
 use native.Mathlib.Nat.{mod-lt, div-add-mod'}
 use lib.Dec.{ltb}
@@ -12,11 +12,12 @@ use borrow.Author.Tests.{ltb-false, le-ltb}
 use Rattle.circuit.specs.Circuit.{Circuit, WellFormed, constraintAt}
 use Rattle.laws.specs.Problem.{Problem, given}
 use Rattle.laws.specs.Standing.{Standing}
-use Rattle.laws.specs.Step.{Kind, Root, Sum, Zero, Product, Digits, kindNumber, Step}
+use Rattle.laws.specs.Step.{Kind, kindNumber, Step}
 use Rattle.laws.specs.Solver.{step, newBound, lowers, firstBy, precedes, bestBound}
+use Rattle.laws.proofs.KindLaws.{number-is, number-below}
 use Rattle.laws.proofs.Sum.{true-or-false, by-order}
 use Rattle.laws.proofs.Best.{first-by-says, first-by-holds, lowers-says, bounding-fields, best-none, best-some}
-use Rattle.laws.proofs.Best.{Bounding, by-root, by-sum}
+use Rattle.laws.proofs.Best.{Bounding}
 use Rattle.rules.specs.Rows.{at}
 use Rattle.solver.specs.Bounds.{keyOf, noKey, LowersTo, Holder, Keys, Least}
 use Rattle.solver.proofs.KeyLaws.{lowers-bounding, lowers-below, lowers-to, lowers-step}
@@ -34,20 +35,9 @@ key-target b t q small few =
     let rest : (pair * 8 + q) / 8 ≡ pair = omega (arith, div-add-mod' (pair * 8 + q) 8, mod-lt (pair * 8 + q) {m = 8} (omega arith)) in
     ap (λ (x : ℕ). x % 65536) rest ∙ omega (arith, div-add-mod' pair 65536, mod-lt pair {m = 65536} (omega arith))
 
--- kinds have small numbers, and those that lower bounds different ones
-
+-- a key has three bits for the number of a kind
 pub kind-small : (q : Kind) → kindNumber q < 8
-kind-small Root = omega arith
-kind-small Sum = omega arith
-kind-small Zero = omega arith
-kind-small Product = omega arith
-kind-small Digits = omega arith
-
-same-kind : {q r : Kind} → Bounding q → Bounding r → kindNumber q ≡ kindNumber r → q ≡ r
-same-kind by-root by-root e = refl
-same-kind by-root by-sum e = absurd (omega arith)
-same-kind by-sum by-root e = absurd (omega arith)
-same-kind by-sum by-sum e = refl
+kind-small q = number-below 8 refl q
 
 same-step : (x y : Step) → x .kind ≡ y .kind → x .target ≡ y .target → x .constraint ≡ y .constraint → x .reference ≡ y .reference → x ≡ y
 same-step x y a b c d =
@@ -62,7 +52,6 @@ module _ (P : Problem) (S : Standing) (narrow : P .n < 65536) (positive : 0 < P 
 
   -- what a step that lowers a bound has
   record Small (x : Step) : Type 0 where
-    bounding : Bounding (x .kind)
     target : x .target < 65536
     constraint : (1 ≤ x .constraint) × (x .constraint ≤ P .m)
     reference : x .reference ≡ 0
@@ -75,7 +64,6 @@ module _ (P : Problem) (S : Standing) (narrow : P .n < 65536) (positive : 0 < P 
       let b = lowers-bounding _ _ _ _ L in
       let f = bounding-fields P S (x .target) (x .constraint) (x .reference) b (lowers-says P S x e .in-range) in
       record {
-        bounding = b;
         target = omega (arith, L .most);
         constraint = f .0;
         reference = f .1;
@@ -124,7 +112,7 @@ module _ (P : Problem) (S : Standing) (narrow : P .n < 65536) (positive : 0 < P 
       let a″ = first-by-says kx ky lx (a′ .1 target) in
       let b″ = first-by-says ky kx ly (b′ .1 (sym target)) in
       let number : kx ≡ ky = omega (arith, a″ .0, b″ .0) in
-      same-step x y (same-kind (sx .bounding) (sy .bounding) number) target
+      same-step x y (number-is number) target
       (omega (arith, ltb-false (x .constraint) (y .constraint) (a″ .1 number), ltb-false (y .constraint) (x .constraint) (b″ .1 (sym number))))
       (omega (arith, sx .reference, sy .reference))
 

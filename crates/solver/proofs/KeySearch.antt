@@ -1,18 +1,15 @@
 -- The keys of all constraints under way: found one after the other, the least kept; and what stays of them where a bound is lowered.
 use Prim.Native.Nat.{ℕ, suc, _+_, _≤_, _<_}
 use mathlib.Core.Path.{_≡_, refl, sym, ap, _∙_}
-use mathlib.Core.Bool.{true}
 use mathlib.Core.List.{List}
 use mathlib.Core.Logic.{_⊎_, inl, inr, ⊎-elim}
 use native.Mathlib.Omega.{arith}
 use lib.ListN.{length, getD, set, replicate}
 use lib.Seq.{getD-set-same, getD-set-other}
 use Rattle.field.specs.Prime.{Prime}
-use Rattle.circuit.specs.Circuit.{Circuit, Constraint, WellFormedConstraint, constraintAt}
+use Rattle.circuit.specs.Circuit.{Circuit, WellFormedConstraint, constraintAt}
 use Rattle.circuit.specs.Reader.{constraintIn}
-use Rattle.laws.specs.Step.{Kind, refers}
 use Rattle.laws.proofs.Sum.{true-or-false, by-equal, by-order}
-use Rattle.rules.specs.Promise.{reduces, Asked}
 use Rattle.rules.proofs.ViewLaws.{getD-repeated}
 use Rattle.rules.specs.Rows.{involves, at, Row, rowOf}
 use Rattle.circuit.specs.Call.{circuitOf}
@@ -35,27 +32,12 @@ module _ {c table ends rows : List ℕ} {z : Sizes} (D : Prepared c table ends r
 
   pub key-here : {row : List ℕ} → row ≡ rowOf table ends rows k → {b : ℕ → ℕ} {key : ℕ}
       → ((n : ℕ) → Prime (z .p) → WellFormedConstraint n (z .p) (constraintIn part) → Row (z .p) n (constraintIn part) row
-      → IsKey (z .p) n (constraintIn part) b key)
-      → IsKey (circuitOf c .p) (circuitOf c .n) (constraintAt (circuitOf c) k) b key
-  key-here e h =
+      → ((s : ℕ) → b s < z .p) → IsKey (z .p) n (constraintIn part) b key)
+      → ((s : ℕ) → b s < circuitOf c .p) → IsKey (circuitOf c .p) (circuitOf c .n) (constraintAt (circuitOf c) k) b key
+  key-here e h low =
       let Z = D .sized in
       rw (Z .is-p, Z .is-n, constraint-here) at
-      (h (z .n) (rw (Z .is-p) (Z .formed .prime)) (rw (constraint-here, Z .is-p, Z .is-n) (Z .formed .each k)) (row-here e))
-
--- what a step is asked with
-pub asked : {c table ends rows : List ℕ} {z : Sizes} → Prepared c table ends rows z → {q : Kind} {part row : List ℕ} {t r : ℕ} → 1 ≤ t → t ≤ circuitOf c .n
-    → (refers q ≡ true → (1 ≤ r) × (r ≤ circuitOf c .n)) → (reduces q ≡ true → Row (z .p) (z .n) (constraintIn part) row)
-    → Asked q (z .p) (z .n) part row t r
-asked D l h f g =
-    let Z = D .sized in
-    record {
-      prime = rw (Z .is-p) (Z .formed .prime);
-      few = omega (arith, Z .is-n, Z .formed .n-most);
-      least = l;
-      most = omega (arith, Z .is-n);
-      reference = λ i. (f i .0, omega (arith, f i .1, Z .is-n));
-      by-row = g;
-    }
+      (h (z .n) (rw (Z .is-p) (Z .formed .prime)) (rw (constraint-here, Z .is-p, Z .is-n) (Z .formed .each k)) (row-here e) (rw (Z .is-p) low))
 
 pub found-new : {C : Circuit} (b : ℕ → ℕ) (k : ℕ) (before : List ℕ) (key : ℕ) → k < length before → IsKey (C .p) (C .n) (constraintAt C k) b key
     → Found C b k key before (set before k key)
@@ -102,6 +84,7 @@ least-start keys =
 
 -- the keys of the constraints up to k are known, and that of r is the least of them
 pub record Finding (C : Circuit) (b : ℕ → ℕ) (k r lowest : ℕ) (keys : List ℕ) : Type 0 where
+  pub low : (s : ℕ) → b s < C .p
   pub top : at keys 0 ≡ noKey
   pub done : (j : ℕ) → 1 ≤ j → j ≤ k → IsKey (C .p) (C .n) (constraintAt C j) b (at keys j)
   pub rest : (j : ℕ) → k < j → j ≤ C .m → (at keys j ≡ 0) ⊎ IsKey (C .p) (C .n) (constraintAt C j) b (at keys j)
@@ -112,6 +95,7 @@ module _ (C : Circuit) (b : ℕ → ℕ) where
   pub finding-start : (keys : List ℕ) → SomeKeys C b keys → Finding C b 0 0 noKey keys
   finding-start keys K =
       record {
+        low = K .low;
         top = K .top;
         done = λ j l h. absurd (omega arith);
         rest = λ j l h. K .each j (omega arith) h;
@@ -121,7 +105,7 @@ module _ (C : Circuit) (b : ℕ → ℕ) where
 
   pub finding-known : (k r lowest : ℕ) (keys : List ℕ) → Finding C b k r lowest keys → SomeKeys C b keys
   finding-known k r lowest keys F =
-      record { top = F .top; each = λ j l h. by-order k j (λ d. F .rest j d h) (λ d. inr (F .done j l d)) }
+      record { low = F .low; top = F .top; each = λ j l h. by-order k j (λ d. F .rest j d h) (λ d. inr (F .done j l d)) }
 
   pub finding-end : (k r lowest : ℕ) (keys : List ℕ) → Finding C b k r lowest keys → C .m ≤ k → k ≤ C .m → Keys C b keys × Least keys (C .m) r
   finding-end k r lowest keys F h g =
@@ -138,6 +122,7 @@ module _ (C : Circuit) (b : ℕ → ℕ) where
     next : (r′ lowest′ : ℕ) → Least later (k + 1) r′ → lowest′ ≡ at later r′ → Finding C b (k + 1) r′ lowest′ later
     next r′ lowest′ L e =
         record {
+          low = F .low;
           top = kept 0 (omega arith) ∙ F .top;
           done = done;
           rest = λ j l h. rw (N .kept j (λ (z : j ≡ k + 1). omega arith)) (F .rest j (omega arith) h);
@@ -155,18 +140,19 @@ module _ (C : Circuit) (b : ℕ → ℕ) where
 -- Between turns
 
 -- at the start no key is known
-pub no-keys : (C : Circuit) (b : ℕ → ℕ) (n : ℕ) → SomeKeys C b (set (replicate (suc n) 0) 0 noKey)
+pub no-keys : (C : Circuit) (b : ℕ → ℕ) (n : ℕ) → ((s : ℕ) → b s < C .p) → SomeKeys C b (set (replicate (suc n) 0) 0 noKey)
 unfolding at
-no-keys C b n =
+no-keys C b n low =
     record {
+      low = low;
       top = getD-set-same (replicate (suc n) 0) 0 noKey 0 (omega arith);
       each = λ k l h. inl (getD-set-other (replicate (suc n) 0) 0 k noKey 0 (λ (z : k ≡ 0). omega arith) ∙ getD-repeated (suc n) k 0);
     }
 
 -- where the bound of a signal changes, keys are forgotten, but for constraints that don't name the signal, whose keys stay
 pub keys-kept : (C : Circuit) → 0 < C .p → (b b′ : ℕ → ℕ) (u : ℕ) → ((s : ℕ) → (s ≡ u → ⊥) → b s ≡ b′ s) → (before later : List ℕ)
-    → Keys C b before → Forgotten C u before later → SomeKeys C b′ later
-keys-kept C positive b b′ u same before later K F = record { top = F .top ∙ K .top; each = each }
+    → Keys C b before → Forgotten C u before later → ((s : ℕ) → b′ s < C .p) → SomeKeys C b′ later
+keys-kept C positive b b′ u same before later K F low = record { low = low; top = F .top ∙ K .top; each = each }
   where
     each : (k : ℕ) → 1 ≤ k → k ≤ C .m → (at later k ≡ 0) ⊎ IsKey (C .p) (C .n) (constraintAt C k) b′ (at later k)
     each k l m =

@@ -5,6 +5,7 @@ pub mod Progress
 pub mod KeyLaws
 pub mod Choice
 pub mod KeyWays
+pub mod AloneLaws
 pub mod KeySearch
 pub mod BoundsTurn
 pub mod MarkKeyLaws

@@ -1,5 +1,5 @@
 -- Links between entries: how they are made, and that a walk along them forgets what is kept of each constraint that names a signal.
-use Prim.Native.Nat.{ℕ, zero, suc, _+_, _*_, _-_, _/_, _≤_, _<_}
+use Prim.Native.Nat.{ℕ, zero, suc, _+_, _*_, _-_, _/_, _%_, _≤_, _<_}
 use mathlib.Core.Path.{_≡_, refl, sym, ap, _∙_}
 use mathlib.Core.Bool.{true, false}
 use mathlib.Core.List.{List}
@@ -7,10 +7,11 @@ use mathlib.Core.Logic.{_⊎_, inl, inr, ⊎-elim}
 use native.Mathlib.Omega.{arith}
 use lib.ListN.{length, getD, set, take, drop, length-take, length-set, List·getD-eq-default}
 use lib.Seq.{getD-take, getD-drop, getD-set-same, getD-set-other}
-use Rattle.circuit.specs.Circuit.{Circuit, Constraint, constraintAt}
+use Rattle.circuit.specs.Circuit.{Circuit, constraintAt}
 use Rattle.laws.proofs.Sum.{false-by, by-equal, by-order}
 use Rattle.rules.specs.Rows.{at, rank, signalOn, involves, stands, Row, startOf, rowOf}
 use Rattle.rules.proofs.Ranks.{rank-below}
+use Rattle.rules.proofs.RowLaws.{stands-is}
 use Rattle.solver.specs.Links.{AllRows, Last, Linked, Spread, Links, Walkable, Forgotten, cleared}
 
 pub at-past : (list : List ℕ) (i : ℕ) → length list ≤ i → at list i ≡ 0
@@ -54,7 +55,8 @@ linked-start rows lasts befores z =
       falls = λ i h. absurd (omega arith);
     }
 
-module _ (rows : List ℕ) (e : ℕ) (lasts befores : List ℕ) (P : Linked rows e lasts befores) (s : ℕ) (is : s ≡ getD rows (2 * e) 0) (room : e < length befores) where
+module _ (rows : List ℕ) (e : ℕ) (lasts befores : List ℕ) (P : Linked rows e lasts befores) (s : ℕ)
+    (is : s ≡ getD rows (2 * e) 0 % 512) (room : e < length befores) where
   -- the last entry with the signal of entry e
   nearest : at lasts s ≤ e
   unfolding at
@@ -70,7 +72,7 @@ module _ (rows : List ℕ) (e : ℕ) (lasts befores : List ℕ) (P : Linked rows
         before = λ i l k.
             by-equal i e
             (λ z.
-            let is-s : getD rows (2 * i) 0 ≡ s = ap (λ (v : ℕ). getD rows (2 * v) 0) z ∙ sym is in
+            let is-s : getD rows (2 * i) 0 % 512 ≡ s = ap (λ (v : ℕ). getD rows (2 * v) 0 % 512) z ∙ sym is in
             rw (is-s, z, here) (P .last s (omega arith)))
             (λ d. rw (getD-set-other befores e i (getD lasts s 0) 0 d) (P .before i (omega arith) (omega arith)));
         falls = λ i l. by-equal i e (λ z. rw (z, here) nearest) (λ d. rw (getD-set-other befores e i (getD lasts s 0) 0 d) (P .falls i (omega arith)));
@@ -93,7 +95,7 @@ module _ (rows : List ℕ) (e : ℕ) (lasts befores : List ℕ) (P : Linked rows
             before = omega (arith, X .before);
             holds = X .holds;
             later = λ j a b g.
-                by-equal j e (λ y. d (sym g ∙ ap (λ (v : ℕ). getD rows (2 * v) 0) y ∙ sym is)) (λ y. X .later j a (omega arith) g);
+                by-equal j e (λ y. d (sym g ∙ ap (λ (v : ℕ). getD rows (2 * v) 0 % 512) y ∙ sym is)) (λ y. X .later j a (omega arith) g);
           }
 
 -- Forgetting
@@ -134,16 +136,13 @@ entry-at : (table ends rows : List ℕ) (k i : ℕ) → 2 * i < length (rowOf ta
 unfolding rowOf signalOn at startOf
 entry-at table ends rows k i h =
     let start = 2 * (getD table k 0 / 6 + k) in
-    let size : length (take (getD ends k 0 - start) (drop start rows)) ≤ getD ends k 0 - start = rw (length-take (getD ends k 0 - start) (drop start rows)) (omega arith) in (
-      getD-take (getD ends k 0 - start) (drop start rows) (2 * i) 0 (omega (arith, size)) ∙ getD-drop start rows (2 * i) 0
-          ∙ ap (λ (j : ℕ). getD rows j 0) (omega arith),
+    let size : length (take (getD ends k 0 - start) (drop start rows)) ≤ getD ends k 0 - start
+    = rw (length-take (getD ends k 0 - start) (drop start rows)) (omega arith) in (
+      ap (λ (x : ℕ). x % 512)
+          (getD-take (getD ends k 0 - start) (drop start rows) (2 * i) 0 (omega (arith, size)) ∙ getD-drop start rows (2 * i) 0
+          ∙ ap (λ (j : ℕ). getD rows j 0) (omega arith)),
       omega (arith, size),
     )
-
-stands-named : (K : Constraint) (s : ℕ) → 1 ≤ s → involves K s ≡ true → stands K s ≡ true
-unfolding stands
-stands-named K zero l e = absurd (omega arith)
-stands-named K (suc s) l e = e
 
 module _ {C : Circuit} {table ends rows lasts befores owners : List ℕ} (R : AllRows C table ends rows) (L : Links C table ends rows lasts befores owners)
     {s : ℕ} (low : 1 ≤ s) (high : s ≤ C .n) where
@@ -165,9 +164,10 @@ module _ {C : Circuit} {table ends rows lasts befores owners : List ℕ} (R : Al
       false-by _
       (λ i.
       let K = constraintAt C k in
-      let here : stands K s ≡ true = stands-named K s low i in
+      let here : stands K s ≡ true = stands-is K s low ∙ i in
       let W = R .row k a b in
-      let inside : 2 * rank (stands K) s < length (rowOf table ends rows k) = omega (arith, W .counted, rank-below (stands K) s (suc (C .n)) (omega arith) here) in
+      let inside : 2 * rank (stands K) s < length (rowOf table ends rows k)
+      = omega (arith, W .counted, rank-below (stands K) s (suc (C .n)) (omega arith) here) in
       let E = entry-at table ends rows k (rank (stands K) s) inside in
       none (at table k / 6 + k + rank (stands K) s) (omega (arith, E .1, L .within k a b)) (sym (E .0) ∙ W .signal s high here)
       (L .owner k _ a b (omega arith) (omega (arith, E .1))))

@@ -2,28 +2,25 @@
 use Prim.Native.Nat.{ℕ, zero, suc, _+_, _%_, _≤_, _<_}
 use mathlib.Core.Path.{_≡_, refl, sym, ap, _∙_}
 use mathlib.Core.Bool.{Bool, true, false, not, _&&_, _||_}
-use mathlib.Core.List.{List}
 use mathlib.Core.Logic.{_⊎_, inl, inr, ⊎-elim}
 use native.Mathlib.Omega.{arith}
 use lib.Dec.{eqb}
 use borrow.Author.Tests.{eqb-true, eq-eqb, not-true}
-use Rattle.circuit.specs.Circuit.{Constraint, Form, WellFormedConstraint, names}
-use Rattle.circuit.specs.Reader.{formIn, afterForm, constraintIn}
+use Rattle.circuit.specs.Circuit.{Constraint, Form, names}
 use Rattle.laws.specs.Rules.{linear, reduced, occurs, zeroMet, othersMarked, productMet, live, separated, digitsMet}
 use Rattle.laws.specs.Step.{Kind, Zero, Product, Digits}
-use Rattle.laws.proofs.Sum.{and-left, and-right, and-both, or-left, or-right, or-cases, true-or-false, false-by, by-equal, by-order}
+use Rattle.laws.proofs.Sum.{and-left, and-right, and-both, or-left, or-right, true-or-false, false-by, by-equal, by-order}
 use Rattle.laws.proofs.Forms.{others-at, others-from}
 use Rattle.laws.proofs.ProductRule.{product-met}
 use Rattle.laws.proofs.DigitsRule.{DigitsMet, digits-met, live-yes}
 use Rattle.laws.proofs.Monotone.{digits-met-from}
 use Rattle.rules.specs.Rows.{involves}
 use Rattle.rules.specs.Weights.{FirstLive, FirstReference}
-use Rattle.solver.specs.Search.{SomeUnmarked}
+use Rattle.solver.specs.Search.{Alone}
 use Rattle.solver.specs.Bounds.{keyOf, noKey}
 use Rattle.solver.specs.Marks.{Unmarked, MarksBy, product, digits, MarksZero, zeroAt, First, markKey, FirstKey, Loose, Known, loose, exact}
 use Rattle.solver.specs.Marks as marks
 use Rattle.solver.proofs.KeyLaws.{occurs-involves}
-use Rattle.solver.proofs.KeyWays.{named-within}
 use Rattle.solver.proofs.Choice.{key-kind}
 
 -- Keys of any steps
@@ -121,42 +118,24 @@ live-free R m (suc s) e = not-true _ (and-right (occurs R (suc s)) _ e)
 -- One constraint
 
 module _ {p n : ℕ} {K : Constraint} {b : ℕ → ℕ} {m : ℕ → Bool} where
-  -- not linear: a product at the unmarked signal of C
-  module _ (nonlinear : linear K ≡ false) {t : ℕ} (U : SomeUnmarked m (K .c) t) where
-    product-only : {q : Kind} {u r : ℕ} → MarksBy p n K b m q u r → (q ≡ Product) × (u ≡ t) × (productMet K m u ≡ true) × (1 ≤ u)
+  -- not linear: a product at the one unmarked signal
+  module _ (nonlinear : linear K ≡ false) {t : ℕ} (A : Alone n K m t) where
+    product-only : {q : Kind} {u r : ℕ} → MarksBy p n K b m q u r → (q ≡ Product) × (u ≡ t) × (1 ≤ u)
     product-only (digits N l h e) = true-or-false _ (digits-met p n K b m _ _ e .is-linear) nonlinear
-    product-only {u = u} (product N e) =
-        let X = product-met K m u e in (
-          refl,
-          ⊎-elim (λ z. true-or-false _ (U .missed z u (N .least) (X .in-c)) (N .free))
-              (λ (w : (1 ≤ t) × (names (K .c) t ≡ true) × (m t ≡ false)).
-              or-cases (eqb t 0 || eqb t u) (m t) (others-at m u (K .c) (X .marked-c) t (w .1))
-              (λ q. or-cases (eqb t 0) (eqb t u) q (λ z. absurd (omega (arith, eqb-true t 0 z, w .0))) (λ z. sym (eqb-true t u z)))
-              (λ q. true-or-false _ q (w .2)))
-              (U .found),
-          e,
-          N .least,
-        )
+    product-only {u = u} (product N e) = (refl, A .only u (N .least) (N .most) (N .free) e, N .least)
 
-    pub product-unnamed : t ≡ 0 → Known p n K b m noKey 0
-    product-unnamed z = exact (no-step (λ q u r M. let w = product-only M in omega (arith, w .1, w .3)))
+    pub product-none : t ≡ 0 → Known p n K b m noKey 0
+    product-none z = exact (no-step (λ q u r M. let w = product-only M in omega (arith, w .1, w .2)))
 
-    pub product-unmet : productMet K m t ≡ false → Known p n K b m noKey 0
-    product-unmet f = exact (no-step (λ q u r M. let w = product-only M in true-or-false _ (w .2) (rw (w .1) f)))
-
-    pub product-key : WellFormedConstraint n p K → (t ≡ 0 → ⊥) → productMet K m t ≡ true → {key : ℕ} → key ≡ markKey Product t → Known p n K b m key 0
-    product-key W d e {key} is =
+    pub product-key : (t ≡ 0 → ⊥) → {key : ℕ} → key ≡ markKey Product t → Known p n K b m key 0
+    product-key d {key} is =
+        let some : 1 ≤ t = omega arith in
+        let w = A .found some nonlinear in
         exact
         (record {
-          low = λ q u r M. let w = product-only M in (rw (is, w .0, w .1) (omega arith), λ k. omega arith);
-          held = inr (record { kind = Product; target = t; is = product free e; is-key = is });
+          low = λ q u r M. let o = product-only M in (rw (is, o .0, o .1) (omega arith), λ k. omega arith);
+          held = inr (record { kind = Product; target = t; is = product (record { least = some; most = w .0; free = w .1 }) (w .2); is-key = is });
         })
-      where
-        free : Unmarked m n t
-        free =
-            ⊎-elim (λ z. absurd (d z))
-            (λ (w : (1 ≤ t) × (names (K .c) t ≡ true) × (m t ≡ false)).
-            record { least = w .0; most = named-within (W .rises-c) t (w .1); free = w .2 }) (U .found)
 
   -- linear: digits at the lowest unmarked signal with a coefficient, by the lowest reference that separates
   module _ (is-linear : linear K ≡ true) where
@@ -240,11 +219,6 @@ module _ {p n : ℕ} {K : Constraint} {b : ℕ → ℕ} {m : ℕ → Bool} where
         (eq-eqb (key % 8) 5 (ap (λ (x : ℕ). x % 8) (L .is-key) ∙ key-kind 0 (L .target) 5 (omega arith)))) e
 
 -- C of the constraint that starts a part
-pub unmarked-part : (m : ℕ → Bool) (part second third : List ℕ) (t : ℕ) → second ≡ afterForm part → third ≡ afterForm second
-    → SomeUnmarked m (formIn third) t → SomeUnmarked m (constraintIn part .c) t
-unfolding constraintIn
-unmarked-part m part second third t e g U = rw (g, e) at U
-
 -- While the marks of the signals that the constraint names stay
 
 abbrev Same : Constraint → (ℕ → Bool) → (ℕ → Bool) → Type 0

@@ -1,18 +1,29 @@
--- A phase of the solver under way: the steps so far, and what is still to come.
+-- A phase of the solver under way: the steps so far, what is still to come, and where a step that is taken leads.
 use Prim.Native.Nat.{ℕ, zero, suc, _+_, _*_, _-_, _≤_, _<_}
 use mathlib.Core.Path.{_≡_, refl, sym, ap, _∙_}
+use mathlib.Core.Bool.{Bool, true, cond}
 use mathlib.Core.List.{List, [], _∷_, _++_, append-assoc, append-nil}
 use mathlib.Core.Option.{Option, none, some}
 use native.Mathlib.Omega.{arith}
 use lib.ListN.{length, length-append}
-use Rattle.laws.specs.Problem.{Problem, Subject, subject, aConstraint}
-use Rattle.laws.specs.Standing.{Standing}
-use Rattle.laws.specs.Step.{Kind, Root, Sum, Zero, Product, Digits, namesOf, Step, rule, after, replay}
-use Rattle.laws.specs.Solver.{turns}
+use Rattle.circuit.specs.Call.{circuitOf}
+use Rattle.circuit.specs.declared.reader.Sizes.{Sizes}
+use Rattle.laws.specs.Problem.{Problem, given}
+use Rattle.laws.specs.Standing.{Standing, Change, apply}
+use Rattle.laws.specs.Step.{namesOf, Step, Rule, rule, met, change, after, replay}
+use Rattle.laws.specs.Solver.{addsBy, turns}
+use Rattle.laws.proofs.Sum.{and-left}
 use Rattle.laws.proofs.Order.{replay-append}
+use Rattle.laws.proofs.Turns.{adds-says}
+use Rattle.laws.proofs.Optimum.{fits-says}
+use Rattle.rules.specs.Promise.{subjectIn, Gives, Asked}
+use Rattle.rules.specs.Rows.{rowOf}
 use Rattle.derivation.specs.Steps.{headSize, stepSize}
 use Rattle.derivation.specs.Encoded.{stepBytes, stepsBytes, stored}
+use Rattle.derivation.specs.Inner.{partNamed, ruleIn}
 use Rattle.derivation.proofs.Written.{nothing-stored, written-next}
+use Rattle.derivation.proofs.StepLaws.{constraint-named, rule-is, step-asked}
+use Rattle.solver.specs.Links.{Prepared}
 
 -- Turns
 
@@ -95,11 +106,25 @@ module _ {choose : Standing → Option Step} {P : Problem} {S₀ : Standing} {ou
             ∙ written-next output₀ output (headSize + stepSize * base) xs x (T .written);
       }
 
--- a rule looks at the constraint only where its kind names one
-pub rule-at : (q : Kind) (J : Subject) (P : Problem) (k : ℕ) (S : Standing) (t r : ℕ) → J .p ≡ P .p → J .n ≡ P .n
-    → (namesOf q ≡ aConstraint → J .equation ≡ P .constraint k) → rule q J S t r ≡ rule q (subject (namesOf q) P k) S t r
-rule-at Root J P k S t r a b e = rw (a, e refl)
-rule-at Sum J P k S t r a b e = rw (a, b, e refl)
-rule-at Zero J P k S t r a b e = refl
-rule-at Product J P k S t r a b e = rw (e refl)
-rule-at Digits J P k S t r a b e = rw (a, b, e refl)
+-- A step that is taken
+
+-- a step that adds, taken by the part of the file that it names and the row of its constraint, leads to the standing after it
+module _ {c table ends rows : List ℕ} {z : Sizes} (D : Prepared c table ends rows z) (x : Step) {part row : List ℕ}
+    (is-part : part ≡ partNamed (namesOf (x .kind)) c table (x .constraint)) (is-row : row ≡ rowOf table ends rows (x .constraint))
+    {b : Bool} {S S′ : Standing}
+    (gives : Asked (x .kind) (z .p) (z .n) part row (x .target) (x .reference)
+    → Gives b S S′ (x .target) (rule (x .kind) (subjectIn (z .p) (z .n) part) S (x .target) (x .reference))) where
+  pub step-taken : (sort : Change → Bool) (first : ℕ → ℕ) → addsBy sort (given (circuitOf c) first) S x ≡ true
+      → S′ ≡ after (given (circuitOf c) first) S x
+  unfolding addsBy ruleIn after change met
+  step-taken sort first a =
+      let P = given (circuitOf c) first in
+      let Z = D .sized in
+      let says = fits-says P S x (adds-says P S x (and-left _ (sort (change P S x)) a) .0) in
+      let asked = step-asked Z (D .offsets) first x (says .0)
+      (λ e f.
+      let k = constraint-named Z (D .offsets) first x (says .0) e in
+      D .made .row (x .constraint) (k .0) (omega (arith, k .1, Z .is-m))) in
+      (rw is-part at (rw is-row at gives)) asked .next
+      ∙ ap (λ (R : Rule). cond (R .met) (apply (R .change) S (x .target)) S) (rule-is Z (D .offsets) first x (says .0) S)
+      ∙ ap (λ (b : Bool). cond b (apply (change P S x) S (x .target)) S) (says .1)

@@ -89,6 +89,10 @@ module _ (c : List ℕ) (z : Sizes) (Z : Sized c z) where
       let inputs : min (z .i) 256 ≡ C .i = omega (arith, Z .is-i, W .fits, W .n-most) in
       e ∙ rw (inputs, Z .is-p) refl
 
+  pub start-low : {S : Standing} → S ≡ record { bound = largest (z .p); marked = isInput (min (z .i) 256) } → (s : ℕ) → S .bound s < z .p
+  unfolding largest
+  start-low e s = rw e (omega (arith, Z .is-p, W .p-least))
+
   -- after both phases
   module _ (output output₂ : List ℕ) (S S₂ : Standing) (steps : ℕ) (begin : S ≡ start P) (T : Taken P S S₂ output output₂ steps)
       (roomy : 7 + 14 * z .n ≤ length output) where

@@ -207,7 +207,7 @@ module _ {c table ends rows : List ℕ} {z : Sizes} (D : Prepared c table ends r
       (row-here D first last is-part is-row))
 
   -- the entries after the constant's hold signals
-  pub entry-some : {i : ℕ} → 1 ≤ i → i < entries row → getD row (2 * i) 0 ≡ 0 → ⊥
+  pub entry-some : {i : ℕ} → 1 ≤ i → i < entries row → getD row (2 * i) 0 % 512 ≡ 0 → ⊥
   unfolding signalOn at
   entry-some {i} l h z =
       let L : Row (circuitOf c .p) (circuitOf c .n) (constraintAt (circuitOf c) k) row
@@ -220,7 +220,8 @@ module _ {c table ends rows : List ℕ} {z : Sizes} (D : Prepared c table ends r
   first-here f =
       let Z = D .sized in
       rw (Z .is-p, Z .is-n) at
-      (f (z .n) (constraintAt (circuitOf c) k) (rw (Z .is-p) (Z .formed .prime)) (rw (Z .is-p, Z .is-n, is-row) (D .made .row k first (omega (arith, Z .is-m)))))
+      (f (z .n) (constraintAt (circuitOf c) k) (rw (Z .is-p) (Z .formed .prime))
+      (rw (Z .is-p, Z .is-n, is-row) (D .made .row k first (omega (arith, Z .is-m)))))
 
 -- The walk over the constraints: what the function works on, and how far it has come.
 pub record Under (c table ends rows bounds : List ℕ) (marks : List Bool) (keys₀ references₀ : List ℕ) (z : Sizes) (k r lowest : ℕ)

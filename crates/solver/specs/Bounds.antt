@@ -62,8 +62,9 @@ pub record Keys (C : Circuit) (b : ℕ → ℕ) (keys : List ℕ) : Type 0 where
   pub top : at keys 0 ≡ noKey
   pub each : (k : ℕ) → 1 ≤ k → k ≤ C .m → IsKey (C .p) (C .n) (constraintAt C k) b (at keys k)
 
--- the key of each constraint that is known, 0 for the others; none at 0
+-- the key of each constraint that is known, 0 for the others; none at 0; over bounds below p
 pub record SomeKeys (C : Circuit) (b : ℕ → ℕ) (keys : List ℕ) : Type 0 where
+  pub low : (s : ℕ) → b s < C .p
   pub top : at keys 0 ≡ noKey
   pub each : (k : ℕ) → 1 ≤ k → k ≤ C .m → (at keys k ≡ 0) ⊎ IsKey (C .p) (C .n) (constraintAt C k) b (at keys k)
 

@@ -5,6 +5,7 @@ use crate::keys::key_by;
 use crate::links::forget;
 use circuit::offsets::part_of;
 use circuit::reader::Sizes;
+use derivation::step::part_named;
 use derivation::writer::put_step;
 use rules::rows::row_of;
 use rules::standing::Kind;
@@ -111,7 +112,8 @@ pub(crate) fn lower_bounds(
     sizes: Sizes,
 ) -> Bounded
     requires { ⌜ Prepared (now circuit) (now table) (now ends) (now rows) sizes
-        × Links (circuitOf (now circuit)) (now table) (now ends) (now rows) (now lasts) (now befores) (now owners) ⌝ }
+        × Links (circuitOf (now circuit)) (now table) (now ends) (now rows) (now lasts) (now befores) (now owners)
+        × ((s : ℕ) → view (sizes .p) first .bound s < sizes .p) ⌝ }
     ensures { λ r. ⌜ ((f : ℕ → ℕ) → Lowered (given (circuitOf (now (circuit .entry))) f) (view (sizes .p) first) (view (sizes .p) (r .standing))
         (now (output .entry)) (now (output .exit)) (r .count)) ⌝ }
 {
@@ -136,7 +138,7 @@ pub(crate) fn lower_bounds(
         let target = target_in(key);
         let kind = kind_in(key);
         put_step(output, count, kind, target, k as u16, 0);
-        let part = part_of(circuit, table, k);
+        let part = part_named(kind, circuit, table, k);
         let row = row_of(table, ends, rows, k);
         let outcome = standing.step(kind, part, row, sizes.p, target as u32, 0);
         standing = outcome.next;

@@ -14,7 +14,7 @@ use derivation::writer::put_header;
 use rules::standing::Standing;
 use rules::view::mark_at;
 ghost use mathlib.Core.Path.{_≡_};
-ghost use Prim.Native.Nat.{ℕ, _+_, _*_, _≤_};
+ghost use Prim.Native.Nat.{ℕ, _+_, _*_, _≤_, _<_};
 ghost use lib.ListN.{length};
 ghost use Rattle.circuit.specs.Call.{circuitOf, Sized};
 ghost use Rattle.laws.specs.Problem.{given};
@@ -65,7 +65,8 @@ fn take_phases(
     sizes: Sizes,
 ) -> Phase
     requires { ⌜ Prepared (now circuit) (now table) (now ends) (now rows) sizes
-        × Links (circuitOf (now circuit)) (now table) (now ends) (now rows) (now lasts) (now befores) (now owners) ⌝ }
+        × Links (circuitOf (now circuit)) (now table) (now ends) (now rows) (now lasts) (now befores) (now owners)
+        × ((s : ℕ) → view (sizes .p) first .bound s < sizes .p) ⌝ }
     ensures { λ r. ⌜ ((f : ℕ → ℕ) → Taken (given (circuitOf (now (circuit .entry))) f) (view (sizes .p) first) (view (sizes .p) (r .standing))
         (now (output .entry)) (now (output .exit)) (r .count)) ⌝ }
 {

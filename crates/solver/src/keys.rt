@@ -8,7 +8,7 @@ use rules::sums::lowering_sum;
 use rules::view::bound_at;
 ghost use mathlib.Core.Path.{_≡_};
 ghost use mathlib.Core.Bool.{false};
-ghost use Prim.Native.Nat.{ℕ};
+ghost use Prim.Native.Nat.{ℕ, _<_};
 ghost use Rattle.field.specs.Prime.{Prime};
 ghost use Rattle.circuit.specs.Circuit.{WellFormedConstraint};
 ghost use Rattle.circuit.specs.Reader.{constraintIn};
@@ -51,7 +51,7 @@ fn root_key(part: &[u8], bounds: &[u32], p: u32) -> u64
 // The key of a constraint, by its row where it is linear.
 pub(crate) fn key_by(part: &[u8], row: &[u32], bounds: &[u32], p: u32) -> u64
     ensures { λ r. ⌜ ((n : ℕ) → Prime p → WellFormedConstraint n p (constraintIn (now (part .entry)))
-        → Row p n (constraintIn (now (part .entry))) (now (row .entry))
+        → Row p n (constraintIn (now (part .entry))) (now (row .entry)) → ((s : ℕ) → boundIn p (now (bounds .entry)) s < p)
         → IsKey p n (constraintIn (now (part .entry))) (boundIn p (now (bounds .entry))) r) ⌝ }
 {
     if !is_linear(part) {

@@ -1,6 +1,7 @@
 // Links between the entries of rows that hold the same signal: where a signal changes, what was kept of the constraints that name it is
 // forgotten.
 
+use rules::rows::FORMS;
 ghost use mathlib.Core.Path.{_≡_};
 ghost use mathlib.Core.List.{List};
 ghost use Prim.Native.Nat.{ℕ, _≤_, _<_};
@@ -69,7 +70,7 @@ pub(crate) fn link(rows: &[u32], lasts: &mut [u16], befores: &mut [u16], end: us
 {
     let mut e: usize = 0;
     while e < end {
-        let s = wide(rows[2 * e]);
+        let s = wide(rows[2 * e] % FORMS);
         befores[e] = number_at(lasts, s);
         e = e + 1;
         put_at(lasts, s, e as u16);

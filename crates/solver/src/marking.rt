@@ -3,25 +3,22 @@
 
 use crate::keys::NO_KEY;
 use crate::keys::key_of;
-use crate::search::unmarked_in;
+use crate::search::product_target;
 use circuit::offsets::part_of;
 use circuit::reader::Sizes;
-use circuit::reader::after_form;
 use rules::constraint::is_linear;
-use rules::constraint::product_met;
 use rules::digits::first_live;
 use rules::digits::prepare;
 use rules::digits::separates_at;
+use rules::rows::FORMS;
 use rules::rows::row_of;
 use rules::view::bound_at;
 use rules::view::mark_at;
 ghost use mathlib.Core.Path.{_≡_};
-ghost use mathlib.Core.Bool.{true, false, _&&_};
-ghost use mathlib.Core.Logic.{_⊎_};
+ghost use mathlib.Core.Bool.{false, _&&_};
 ghost use Prim.Native.Nat.{ℕ, _%_, _≤_, _<_};
 ghost use lib.Dec.{eqb};
 ghost use lib.ListN.{length};
-ghost use Rattle.field.specs.Prime.{Prime};
 ghost use Rattle.circuit.specs.Circuit.{WellFormedConstraint};
 ghost use Rattle.circuit.specs.Reader.{constraintIn};
 ghost use Rattle.circuit.specs.Call.{circuitOf};
@@ -71,12 +68,8 @@ fn low_key(part: &[u8], row: &[u32], marks: &[bool]) -> u64
         }
         return key_of(0, t, 5);
     }
-    let b = after_form(part);
-    let t = unmarked_in(after_form(b), marks);
+    let t = product_target(row, marks);
     if t == 0 {
-        return NO_KEY;
-    }
-    if !product_met(part, marks, t) {
         return NO_KEY;
     }
     key_of(0, t, 4)
@@ -176,7 +169,7 @@ pub(crate) fn lowest_key<'a>(
                 while i < end {
                     if separates_at(row, marks, few, sizes.p, i) {
                         keys[place] = key;
-                        references[place] = row[2 * i];
+                        references[place] = row[2 * i] % FORMS;
                         r = k;
                         lowest = key;
                         continue 'constraints;

@@ -4,8 +4,8 @@ use crate::bounds::target_in;
 use crate::keys::NO_KEY;
 use crate::links::forget;
 use crate::marking::lowest_key;
-use circuit::offsets::part_of;
 use circuit::reader::Sizes;
+use derivation::step::part_named;
 use derivation::writer::put_step;
 use rules::rows::row_of;
 use rules::standing::Kind;
@@ -158,7 +158,7 @@ pub(crate) fn add_marks(
             reference as u16,
         );
         let row = row_of(table, ends, rows, constraint);
-        let part = part_of(circuit, table, constraint);
+        let part = part_named(kind, circuit, table, constraint);
         let outcome = st.step(kind, part, row, sizes.p, target, reference);
         st = outcome.next;
         forget(lasts, befores, owners, &mut keys, target);

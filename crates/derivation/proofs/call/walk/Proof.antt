@@ -4,10 +4,10 @@ use mathlib.Core.Path.{_≡_, refl, _∙_}
 use native.Mathlib.Omega.{arith}
 use borrow.Author.Needs.{needs}
 use borrow.Author.Tests.{not-true, not-false}
-use lib.ListN.{length, length-replicate, getD-replicate}
+use lib.ListN.{length, replicate, length-replicate, getD-replicate}
 use Rattle.circuit.proofs.OffsetLaws.{sized-offsets}
 use Rattle.rules.specs.Promise.{view, Gives}
-use Rattle.derivation.specs.Inner.{stepIn, ruleIn, Ready}
+use Rattle.derivation.specs.Inner.{stepIn, ruleIn, Kept, Ready}
 use Rattle.derivation.proofs.StepLaws as laws
 use Rattle.derivation.proofs.call.walk.Statement.{statement}
 use Rattle.derivation.proofs.call.walk.Tie as tie
@@ -21,13 +21,17 @@ Inv-loop start circuit derivation rows₀ z table count ends₀ outcome₀ k₀ 
 abbrev μ-loop : tie.MeasureT-loop
 μ-loop start circuit derivation rows₀ z table count ends₀ outcome₀ k₀ rows ends outcome k = count - k
 
+none-made :
+    (c : tie.After-offsets Inv-loop μ-loop)
+    → let a = c .before .before .before .before .args in
+    Kept (a .circuit .now) (a .sizes) (c .offsets .result) (replicate 513 0) (a .rows .now)
+none-made c =
+    let pre = c .before .before .before .before .pre in
+    laws.none-made (pre .0) (sized-offsets (pre .0) (c .offsets .ensures)) (length-replicate {A = ℕ} 513 0)
+    (λ k h. getD-replicate {A = ℕ} 513 k 0 0 h) (pre .1)
+
 loop-holds : tie.Need-loop-holds Inv-loop μ-loop
-loop-holds c =
-    let made = c .before in
-    let e = made .before .before .before .before in
-    let O = sized-offsets (e .pre .0) (made .offsets .ensures) in
-    let K = laws.none-made (e .pre .0) O (length-replicate {A = ℕ} 513 0) (λ k h. getD-replicate {A = ℕ} 513 k 0 0 h) (e .pre .1) in
-    (laws.walk-starts K (c .u16-at .ensures .0), length-replicate {A = ℕ} 513 0, refl)
+loop-holds c = (laws.walk-starts (none-made (c .before)) (c .u16-at .ensures .0), length-replicate {A = ℕ} 513 0, refl)
 
 refused : tie.Need-returns Inv-loop μ-loop
 refused c first =
@@ -36,57 +40,60 @@ refused c first =
     rw (c .stop .ensures)
     (laws.walk-refused (r .before .before .loop .inv .0) (r .before .loop-test .taken) _ (r .read-step .ensures) (told .read .given .1) first)
 
--- the step that was read ..
+-- the step that was read, and the turn in which it was ..
 abbrev read : tie.After-keep-row Inv-loop μ-loop → tie.After-read2 Inv-loop μ-loop
 read c = c .before .before .before .before .before
+
+abbrev turn : tie.After-keep-row Inv-loop μ-loop → tie.At-loop Inv-loop μ-loop
+turn c = read c .before .before .before .before
+
+abbrev made : tie.At-loop Inv-loop μ-loop → tie.After-offsets Inv-loop μ-loop
+made l = l .before .before
 
 table-long : (c : tie.After-offsets Inv-loop μ-loop) → length (c .offsets .result) ≡ 513
 table-long c = search needs
 
 ends-long : (c : tie.After-keep-row Inv-loop μ-loop) → length (c .keep-row .last .1 .1 .1 .0) ≡ 513
-ends-long c = c .keep-row .kept .1 .1 .1 .0 ∙ read c .before .before .before .before .loop .inv .1
+ends-long c = c .keep-row .kept .1 .1 .1 .0 ∙ turn c .loop .inv .1
 
 rows-long :
     (c : tie.After-keep-row Inv-loop μ-loop)
-    → length (c .keep-row .last .1 .1 .1 .1 .0)
-    ≡ length (read c .before .before .before .before .before .before .before .before .before .before .args .rows .now)
-rows-long c = c .keep-row .kept .1 .1 .1 .1 .0 ∙ read c .before .before .before .before .loop .inv .2
+    → length (c .keep-row .last .1 .1 .1 .1 .0) ≡ length (made (turn c) .before .before .before .before .args .rows .now)
+rows-long c = c .keep-row .kept .1 .1 .1 .1 .0 ∙ turn c .loop .inv .2
 
 -- .. has its row ..
 ready :
     (c : tie.After-keep-row Inv-loop μ-loop)
-    → let q = read c in
-    let made = q .before .before .before .before .before .before in
-    let a = made .before .before .before .before .args in
-    let x = stepIn (q .read2 .given .0 .0) in
-    Ready (x .kind) (x .constraint) (a .circuit .now) (a .sizes) (made .offsets .result) (c .keep-row .last .1 .1 .1 .0) (c .keep-row .last .1 .1 .1 .1 .0)
+    → let m = made (turn c) in
+    let a = m .before .before .before .before .args in
+    let x = stepIn (read c .read2 .given .0 .0) in
+    Ready (x .kind) (x .constraint) (a .circuit .now) (a .sizes) (m .offsets .result) (c .keep-row .last .1 .1 .1 .0) (c .keep-row .last .1 .1 .1 .1 .0)
 ready c =
     let q = read c in
     let r = q .before .before in
-    let W = r .before .before .loop .inv .0 in
+    let W = turn c .loop .inv .0 in
     c .keep-row .ensures (W .kept) (laws.walk-named W (r .before .loop-test .taken) _ (r .read-step .ensures) (q .read2 .given .1))
 
 abbrev kept : tie.After-step Inv-loop μ-loop → tie.After-keep-row Inv-loop μ-loop
-kept c = c .before .before .before .before .before .before .before .before .before .before .before
+kept c = c .before .before .before .before .before .before .before .before .before .before
 
 -- .. and its rule is asked
 asked :
     (c : tie.After-step Inv-loop μ-loop)
-    → let q = read (kept c) in
-    let l = q .before .before .before .before in
-    let made = l .before .before in
-    let a = made .before .before .before .before .args in
-    let x = stepIn (q .read2 .given .0 .0) in
-    Gives (a .sizes .p) (l .loop .outcome .next) (c .step .result) (x .target)
-    (ruleIn (a .sizes .p) (a .sizes .n) (a .circuit .now) (made .offsets .result) (view (a .sizes .p) (l .loop .outcome .next)) x)
+    → let l = turn (kept c) in
+    let a = made l .before .before .before .before .args in
+    let x = stepIn (read (kept c) .read2 .given .0 .0) in
+    let S = view (a .sizes .p) (l .loop .outcome .next) in
+    Gives (c .step .result .met) S (view (a .sizes .p) (c .step .result .next)) (x .target)
+    (ruleIn (a .sizes .p) (a .sizes .n) (a .circuit .now) (made l .offsets .result) S x)
 unfolding ruleIn
 asked c =
     let q = read (kept c) in
     let r = q .before .before in
-    let row = c .before .before in
+    let row = c .before in
     let part = row .before .before .before .before in
     (rw (part .part-named .ensures) at (rw (row .row-of .ensures) at (c .step .ensures))) _
-    (laws.walk-asked (r .before .before .loop .inv .0) (r .before .loop-test .taken) _ (r .read-step .ensures) (q .read2 .given .1) (ready (kept c)))
+    (laws.walk-asked (turn (kept c) .loop .inv .0) (r .before .loop-test .taken) _ (r .read-step .ensures) (q .read2 .given .1) (ready (kept c)))
 
 unmet : tie.Need-returns-2 Inv-loop μ-loop
 unmet c first =
@@ -94,18 +101,17 @@ unmet c first =
     let q = read (kept s) in
     let r = q .before .before in
     rw (c .stop2 .ensures)
-    (laws.walk-unmet (r .before .before .loop .inv .0) (r .before .loop-test .taken) _ (r .read-step .ensures) (q .read2 .given .1) (ready (kept s))
-    (asked s .told)
+    (laws.walk-unmet (turn (kept s) .loop .inv .0) (r .before .loop-test .taken) _ (r .read-step .ensures) (q .read2 .given .1) (ready (kept s))
+    (asked s .told-met)
     (not-true _ (c .before .if1 .taken)) first)
 
 loop-again : tie.Need-loop-again Inv-loop μ-loop
 loop-again c =
     let s = c .before in
     let q = read (kept s) in
-    let r = q .before .before in
-    let inv = r .before .before .loop .inv in (
-      laws.walk-on (inv .0) (r .before .loop-test .taken) _ (r .read-step .ensures) (q .read2 .given .1) (ready (kept s))
-          (asked s .told)
+    let r = q .before .before in (
+      laws.walk-on (turn (kept s) .loop .inv .0) (r .before .loop-test .taken) _ (r .read-step .ensures) (q .read2 .given .1) (ready (kept s))
+          (asked s .told-met)
           (not-false _ (c .if1 .left))
           (asked s .next),
       ends-long (kept s),
@@ -123,7 +129,7 @@ walk-spec =
     (λ c κs. search needs) (λ c. search needs) (λ c. search needs) (λ c κs. search needs) (λ c. search needs)
     refused
     (λ c. search needs) (λ c. search needs) (λ c. search needs) (λ c κs. search needs) (λ c. search needs) (λ c κs. search needs)
-    (λ c. let long = table-long (read (c .before .before .before .before .before .before) .before .before .before .before .before .before) in search needs)
+    (λ c. let long = table-long (made (turn (c .before .before .before .before .before .before))) in search needs)
     (λ c. let long = ends-long (c .before .before .before .before .before .before .before) in search needs)
     (λ c κs. search needs) (λ c κs. search needs) (λ c κs. search needs)
     (λ c. rows-long (kept (c .before .before)))

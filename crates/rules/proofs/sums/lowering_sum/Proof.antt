@@ -22,14 +22,14 @@ limited c =
 returns : tie.Need-returns
 returns c =
     let l = c .before .before in
-    λ n K P L. laws.lowering-none P L _ (l .before .before .before .highest .ensures .1) (c .before .sum-at .ensures) (limited l) (c .if1 .taken)
+    λ n K P L low. laws.lowering-none P L _ low (l .before .before .before .highest .ensures .1) (c .before .sum-at .ensures) (limited l) (c .if1 .taken)
 
 returns-2 : tie.Need-returns-2
 unfolding signalOn at coefIn
 returns-2 c =
     let l = c .before .before in
-    λ n K P L. rw (l .before .before .coef-at .ensures)
-    (laws.lowering-found P L _ (l .before .before .before .highest .ensures .1) (c .before .sum-at .ensures) (limited l) (c .if1 .left))
+    λ n K P L low. rw (l .before .before .coef-at .ensures)
+    (laws.lowering-found P L _ low (l .before .before .before .highest .ensures .1) (c .before .sum-at .ensures) (limited l) (c .if1 .left))
 
 pub lowering-sum-spec : {M : Type 1} → statement M
 lowering-sum-spec =

@@ -17,4 +17,5 @@ known-key-spec =
     (λ c.
     let pre = c .before .before .before .before .before .before .before .before .before .before .before .pre in
     laws.found-new _ _ _ _ (omega (arith, pre .2 .last, pre .2 .room))
-    (laws.key-here (pre .0) (pre .2 .first) (pre .2 .last) (c .before .part-of .ensures) (c .before .before .row-of .ensures) (c .key-by .ensures))))
+    (laws.key-here (pre .0) (pre .2 .first) (pre .2 .last) (c .before .part-of .ensures) (c .before .before .row-of .ensures) (c .key-by .ensures)
+    (pre .1 .low))))

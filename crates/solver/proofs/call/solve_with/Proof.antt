@@ -30,7 +30,9 @@ take-phases-requires : tie.Need-take-phases-requires
 take-phases-requires c κs =
     let rows = c .before .before .before .before .before .before .before .before .before .before .before .before .before .before .before .before in
     let O = rows .before .before .before .before .before .before .before .offsets .ensures in
-    (laws.table-prepared (entry rows .pre .0) O (rows .make-table .ensures .0), rows .make-table .ensures .1)
+    let Z = entry rows .pre .0 in
+    let started = c .before .before .before .before .before .before .before .start .ensures in
+    (laws.table-prepared Z O (rows .make-table .ensures .0), rows .make-table .ensures .1, laws.start-low _ _ Z started)
 
 cast-put-header : tie.Need-cast-put-header
 cast-put-header c =

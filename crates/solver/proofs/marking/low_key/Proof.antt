@@ -1,6 +1,5 @@
 -- `solver::marking::low_key`: each way out is one law.
 use mathlib.Core.Path.{sym, _∙_}
-use borrow.Author.Tests.{not-true, not-false}
 use Rattle.solver.proofs.MarkKeyLaws as laws
 use borrow.Author.Needs.{needs}
 use Rattle.solver.proofs.marking.low_key.Statement.{statement}
@@ -13,31 +12,12 @@ returns-2 c p n b h W L =
     laws.digits-loose (sym (at-if1 .before .is-linear .ensures) ∙ at-if1 .if1 .taken) (at-if2 .before .first-live .ensures p n _ h L) (at-if2 .if2 .left)
     (c .key-of .ensures)
 
-returns-3 : tie.Need-returns-3
-returns-3 c p n b h W L =
-    let sought = c .before in
-    let at-if1 = sought .before .before .before in
-    laws.product-unnamed (sym (at-if1 .before .is-linear .ensures) ∙ at-if1 .if1 .left)
-    (laws.unmarked-part _ _ _ _ _ (sought .before .before .after-form .ensures) (sought .before .after-form2 .ensures) (sought .unmarked-in .ensures))
-    (c .if3 .taken)
-
 returns-4 : tie.Need-returns-4
 returns-4 c p n b h W L =
-    let sought = c .before .before .before in
-    let at-if1 = sought .before .before .before in
-    laws.product-unmet (sym (at-if1 .before .is-linear .ensures) ∙ at-if1 .if1 .left)
-    (laws.unmarked-part _ _ _ _ _ (sought .before .before .after-form .ensures) (sought .before .after-form2 .ensures) (sought .unmarked-in .ensures))
-    (sym (c .before .product-met .ensures) ∙ not-true _ (c .if4 .taken))
-
-returns-5 : tie.Need-returns-5
-returns-5 c p n b h W L =
-    let at-if4 = c .before in
-    let at-if3 = at-if4 .before .before in
-    let sought = at-if3 .before in
-    let at-if1 = sought .before .before .before in
-    laws.product-key (sym (at-if1 .before .is-linear .ensures) ∙ at-if1 .if1 .left)
-    (laws.unmarked-part _ _ _ _ _ (sought .before .before .after-form .ensures) (sought .before .after-form2 .ensures) (sought .unmarked-in .ensures))
-    W (at-if3 .if3 .left) (sym (at-if4 .before .product-met .ensures) ∙ not-false _ (at-if4 .if4 .left)) (c .key-of2 .ensures)
+    let sought = c .before .before in
+    let at-if1 = sought .before in
+    laws.product-key (sym (at-if1 .before .is-linear .ensures) ∙ at-if1 .if1 .left) (sought .product-target .ensures p n _ W L) (c .before .if3 .left)
+    (c .key-of2 .ensures)
 
 pub low-key-spec : {M : Type 1} → statement M
 low-key-spec =
@@ -49,9 +29,9 @@ low-key-spec =
     laws.digits-none (sym (at-if1 .before .is-linear .ensures) ∙ at-if1 .if1 .taken) (c .before .first-live .ensures p n _ h L) (c .if2 .taken))
     (λ c κs. search needs)
     returns-2
-    (λ c κs. search needs) (λ c κs. search needs) (λ c κs. search needs)
-    returns-3
     (λ c κs. search needs)
-    returns-4
+    (λ c p n b h W L.
+    let at-if1 = c .before .before in
+    laws.product-none (sym (at-if1 .before .is-linear .ensures) ∙ at-if1 .if1 .left) (c .before .product-target .ensures p n _ W L) (c .if3 .taken))
     (λ c κs. search needs)
-    returns-5)
+    returns-4)

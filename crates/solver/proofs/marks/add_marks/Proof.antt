@@ -4,6 +4,7 @@ use mathlib.Core.Path.{sym, ap, _∙_}
 use native.Mathlib.Omega.{arith}
 use borrow.Author.Needs.{needs}
 use Rattle.circuit.specs.Call.{circuitOf}
+use Rattle.rules.specs.Promise.{view}
 use Rattle.solver.specs.Choice.{choiceOf}
 use Rattle.solver.proofs.MarksTurn as laws
 use Rattle.solver.proofs.marks.add_marks.Statement.{statement}
@@ -11,7 +12,7 @@ use Rattle.solver.proofs.marks.add_marks.Tie as tie
 
 abbrev Inv-loop : tie.InvT-loop
 Inv-loop circuit table ends rows lasts befores owners output₀ sizes base keys₀ references₀ st₀ count₀ output keys references st count =
-    laws.Going circuit table ends rows lasts befores owners sizes base st₀ st output₀ output keys references count
+    laws.Going circuit table ends rows lasts befores owners sizes base (view (sizes .p) st₀) (st .bounds) (st .marks) output₀ output keys references count
 
 abbrev μ-loop : tie.MeasureT-loop
 μ-loop circuit table ends rows lasts befores owners output₀ sizes base keys₀ references₀ st₀ count₀ output keys references st count = sizes .n - count
@@ -26,16 +27,17 @@ turn c = c .before .before .before .before .before .before .before .before
 abbrev loop : tie.After-next-mark Inv-loop μ-loop → tie.At-loop Inv-loop μ-loop
 loop c = turn c .before .before
 
-abbrev start : tie.After-choice Inv-loop μ-loop → tie.Start Inv-loop μ-loop
-start c = loop (sought c) .before .before .before .before .before .before .before .before .before
+abbrev start : tie.At-loop Inv-loop μ-loop → tie.Start Inv-loop μ-loop
+start l = l .before .before .before .before .before .before .before .before .before
 
--- where a step was chosen, from the end of its turn
-abbrev chosen : tie.After-keys3 Inv-loop μ-loop → tie.After-choice Inv-loop μ-loop
-chosen c = c .before .before .before .before .before .before .before .before .before .before
+-- where a step was chosen, from where it was taken
+abbrev chosen : tie.After-step Inv-loop μ-loop → tie.After-choice Inv-loop μ-loop
+chosen c = c .before .before .before .before .before .before .before .before
 
 small : (c : tie.After-choice Inv-loop μ-loop)
-    → laws.Small (start c .args .lasts .now) (start c .args .befores .now) (start c .args .owners .now) (circuitOf (start c .args .circuit .now) .n)
-    (c .choice .given .0 .1 .0) (c .choice .given .0 .1 .1 .0) (c .choice .given .0 .1 .1 .1 .0)
+    → let a = start (loop (sought c)) .args in
+    laws.Small (a .lasts .now) (a .befores .now) (a .owners .now) (circuitOf (a .circuit .now) .n) (c .choice .given .0 .1 .0) (c .choice .given .0 .1 .1 .0)
+    (c .choice .given .0 .1 .1 .1 .0)
 small c =
     laws.small (loop (sought c) .loop .inv) (c .choice .given .0 .0)
     (λ f. sym (sought c .next-mark .ensures .1 f) ∙ ap choiceOf (c .choice .given .1))
@@ -43,7 +45,7 @@ small c =
 loop-again : tie.Need-loop-again Inv-loop μ-loop
 loop-again c =
     let step = c .before .before .before .before in
-    let choice = chosen (c .before .before) in
+    let choice = chosen step in
     let s = sought choice in
     let inv = loop s .loop .inv in
     let X = small choice in
@@ -52,9 +54,9 @@ loop-again c =
     let written = step .before .before .before .before .before .put-step in
     let forgotten = c .before .forget in
     laws.going-next inv (choice .choice .given .0 .0) (λ f. sym (s .next-mark .ensures .1 f) ∙ ap choiceOf (choice .choice .given .1))
-    (step .before .part-of .ensures) (step .before .before .row-of .ensures) (step .step .ensures) (turn s .if1 .taken) keyed
-    (forgotten .ensures _ _ _ _ (inv .prepared .made) (inv .links) (keyed .keys-room) (X .least) (X .most)) (kept .0 ∙ inv .keys-sized)
-    (forgotten .kept .1 .1 .1 .0) (kept .1 .0 ∙ inv .references-sized) (written .ensures) (written .kept .0)
+    (step .before .part-named .ensures) (step .before .before .row-of .ensures) _ _ (step .step .ensures)
+    (turn s .if1 .taken) keyed (forgotten .ensures _ _ _ _ (inv .prepared .made) (inv .links) (keyed .keys-room) (X .least) (X .most))
+    (kept .0 ∙ inv .keys-sized) (forgotten .kept .1 .1 .1 .0) (kept .1 .0 ∙ inv .references-sized) (written .ensures) (written .kept .0)
 
 pub add-marks-spec : {M : Type 1} → statement M
 add-marks-spec =
@@ -62,7 +64,7 @@ add-marks-spec =
     (tie.spec
     Inv-loop
     μ-loop
-    (λ c. laws.going-start (c .before .before .before .before .before .before .before .before .pre) _ _)
+    (λ c. laws.going-start (c .before .before .before .before .before .before .before .before .pre) _ _ _)
     (λ c. search needs) (λ c. search needs)
     (λ c κs. let inv = c .before .before .before .before .before .before .before .before .before .loop .inv in (inv .prepared, inv .keyed))
     (λ c. search needs) (λ c. search needs)
@@ -77,11 +79,11 @@ add-marks-spec =
     (λ c. record { fits = omega (arith, small (c .before .before) .reference-fits) })
     (λ c κs. search needs) (λ c κs. search needs) (λ c κs. search needs) (λ c κs. search needs)
     (λ c.
-    let s = sought (chosen c) in
+    let s = sought (chosen (c .before .before)) in
     sym (s .next-mark .kept .1 .1 .1 .1 .1 .1 .0 ∙ loop s .loop .inv .keys-sized))
-    (λ c κs. small (chosen c) .walk)
-    (λ c. omega (arith, laws.few (loop (sought (chosen (c .before .before))) .loop .inv)))
-    (λ c. omega (arith, turn (sought (chosen (c .before .before))) .if1 .taken))
+    (λ c κs. small (chosen (c .before .before)) .walk)
+    (λ c. omega (arith, laws.few (loop (sought (chosen (c .before .before .before .before))) .loop .inv)))
+    (λ c. omega (arith, turn (sought (chosen (c .before .before .before .before))) .if1 .taken))
     loop-again
     (λ c. omega (arith, laws.few (c .before .before .loop .inv)))
     (λ c. c .before .before .loop .inv .output-same)
