@@ -4,6 +4,7 @@ use mathlib.Core.Path.{_≡_, refl, _∙_}
 use native.Mathlib.Omega.{arith}
 use borrow.Author.Needs.{needs}
 use borrow.Author.Tests.{not-true, not-false}
+use mathlib.Core.List.{List}
 use lib.ListN.{length, replicate, length-replicate, getD-replicate}
 use Rattle.circuit.proofs.OffsetLaws.{sized-offsets}
 use Rattle.rules.specs.Promise.{view, Gives}
@@ -53,13 +54,12 @@ made l = l .before .before
 table-long : (c : tie.After-offsets Inv-loop μ-loop) → length (c .offsets .result) ≡ 513
 table-long c = search needs
 
-ends-long : (c : tie.After-keep-row Inv-loop μ-loop) → length (c .keep-row .last .1 .1 .1 .0) ≡ 513
-ends-long c = c .keep-row .kept .1 .1 .1 .0 ∙ turn c .loop .inv .1
+-- the ends and rows that the turn leaves
+abbrev ends : tie.After-keep-row Inv-loop μ-loop → List ℕ
+ends c = c .keep-row .last .1 .1 .1 .0
 
-rows-long :
-    (c : tie.After-keep-row Inv-loop μ-loop)
-    → length (c .keep-row .last .1 .1 .1 .1 .0) ≡ length (made (turn c) .before .before .before .before .args .rows .now)
-rows-long c = c .keep-row .kept .1 .1 .1 .1 .0 ∙ turn c .loop .inv .2
+abbrev rows : tie.After-keep-row Inv-loop μ-loop → List ℕ
+rows c = c .keep-row .last .1 .1 .1 .1 .0
 
 -- .. has its row ..
 ready :
@@ -67,7 +67,7 @@ ready :
     → let m = made (turn c) in
     let a = m .before .before .before .before .args in
     let x = stepIn (read c .read2 .given .0 .0) in
-    Ready (x .kind) (x .constraint) (a .circuit .now) (a .sizes) (m .offsets .result) (c .keep-row .last .1 .1 .1 .0) (c .keep-row .last .1 .1 .1 .1 .0)
+    Ready (x .kind) (x .constraint) (a .circuit .now) (a .sizes) (m .offsets .result) (ends c) (rows c)
 ready c =
     let q = read c in
     let r = q .before .before in
@@ -109,13 +109,15 @@ loop-again : tie.Need-loop-again Inv-loop μ-loop
 loop-again c =
     let s = c .before in
     let q = read (kept s) in
-    let r = q .before .before in (
-      laws.walk-on (turn (kept s) .loop .inv .0) (r .before .loop-test .taken) _ (r .read-step .ensures) (q .read2 .given .1) (ready (kept s))
+    let r = q .before .before in
+    let inv = turn (kept s) .loop .inv in
+    let row = kept s .keep-row in (
+      laws.walk-on (inv .0) (r .before .loop-test .taken) _ (r .read-step .ensures) (q .read2 .given .1) (ready (kept s))
           (asked s .told-met)
           (not-false _ (c .if1 .left))
           (asked s .next),
-      ends-long (kept s),
-      rows-long (kept s),
+      omega (arith, inv .1),
+      omega (arith, inv .2),
     )
 
 pub walk-spec : {M : Type 1} → statement M
@@ -130,9 +132,9 @@ walk-spec =
     refused
     (λ c. search needs) (λ c. search needs) (λ c. search needs) (λ c κs. search needs) (λ c. search needs) (λ c κs. search needs)
     (λ c. let long = table-long (made (turn (c .before .before .before .before .before .before))) in search needs)
-    (λ c. let long = ends-long (c .before .before .before .before .before .before .before) in search needs)
+    (λ c. let long = turn (c .before .before .before .before .before .before .before) .loop .inv .1 in search needs)
     (λ c κs. search needs) (λ c κs. search needs) (λ c κs. search needs)
-    (λ c. rows-long (kept (c .before .before)))
+    (λ c. let row = kept (c .before .before) .keep-row in omega (arith, turn (kept (c .before .before)) .loop .inv .2))
     unmet
     (λ c. omega (arith, read (kept (c .before)) .before .before .before .loop-test .taken))
     loop-again

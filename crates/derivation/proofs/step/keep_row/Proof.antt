@@ -1,5 +1,6 @@
 -- `derivation::step::keep_row`: a row that is looked at is made, or was; others need not be.
 use mathlib.Core.Path.{sym, ap, _∙_}
+use native.Mathlib.Omega.{arith}
 use borrow.Author.Needs.{needs}
 use Rattle.derivation.specs.Inner.{namesIn}
 use Rattle.derivation.proofs.StepLaws as laws
@@ -11,11 +12,11 @@ nothing-named c K named = laws.row-unnamed K (sym (ap namesIn (c .enum-told2 .gi
 
 returns : tie.Need-returns-2
 returns c K named =
-    let made = c .before .before .before .before in
-    let told = made .before .before .before .before .before in
+    let made = c .before .before .before .before .make-row in
+    let told = c .before .before .before .before .before .before .before .before .before in
     let k = named (sym (told .before .before .entry-of .ensures .names) ∙ ap namesIn (told .enum-told .given .1)) in
-    laws.row-ready K (made .make-row .kept .1 .1 .0) (made .make-row .kept .1 .1 .1 .0) k
-    (made .make-row .ensures (K .sized) (K .offsets) (K .roomy) (k .0) (k .1) (K .made))
+    laws.row-ready K (omega arith) (omega arith) k
+    (made .ensures (K .sized) (K .offsets) (K .roomy) (k .0) (k .1) (K .made))
 
 pub keep-row-spec : {M : Type 1} → statement M
 keep-row-spec =

@@ -30,7 +30,7 @@ loop-again c =
     let more = c .before .before .before .before .before .if1 .taken in
     let found = c .before .before .before .known-key in (
       omega (arith, more),
-      found .kept .1 .1 .1 .1 .1 .0 ∙ l .loop .inv .1,
+      omega (arith, l .loop .inv .1),
       laws.finding-new _ _ _ _ _ _ _ _ (l .loop .inv .2) (omega (arith, more, l .before .before .before .before .before .before .before .pre .0 .sized .is-m)) (found .ensures) (c .if2 .taken),
     )
 
@@ -40,7 +40,7 @@ loop-again-2 c =
     let more = c .before .before .before .before .before .if1 .taken in
     let found = c .before .before .before .known-key in (
       omega (arith, more),
-      found .kept .1 .1 .1 .1 .1 .0 ∙ l .loop .inv .1,
+      omega (arith, l .loop .inv .1),
       laws.finding-on _ _ _ _ _ _ _ _ (l .loop .inv .2) (omega (arith, more, l .before .before .before .before .before .before .before .pre .0 .sized .is-m)) (found .ensures) (c .if2 .left),
     )
 

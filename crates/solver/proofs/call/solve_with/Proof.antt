@@ -67,8 +67,8 @@ solve-with-spec =
     cast-put-header
     (λ c κs. search needs) (λ c. search needs) (λ c κs. search needs) (λ c. search needs) (λ c κs. search needs) (λ c. search needs)
     (λ c. search needs) (λ c. search needs)
-    (λ c. made (phases c) .make-table .kept .1 .1 .1 .0)
-    (λ c. made (phases c) .make-table .kept .1 .1 .1 .1 .1 .0)
-    (λ c. made (phases c) .make-table .kept .1 .1 .1 .1 .1 .1 .0)
-    (λ c. c .before .before .before .before .before .before .put-header .kept .0 ∙ phases c .take-phases .kept .1 .1 .1 .1 .1 .1 .1 .1 .0)
+    (λ c. let rows = made (phases c) .make-table in search needs)
+    (λ c. let rows = made (phases c) .make-table in search needs)
+    (λ c. let rows = made (phases c) .make-table in search needs)
+    (λ c. search needs)
     returns)

@@ -1,5 +1,5 @@
 -- `solver::call::take_phases`: one phase on what the other left.
-use mathlib.Core.Path.{_∙_}
+use borrow.Author.Needs.{needs}
 use Rattle.solver.proofs.SolveLaws as laws
 use Rattle.solver.proofs.call.take_phases.Statement.{statement}
 use Rattle.solver.proofs.call.take_phases.Tie as tie
@@ -12,7 +12,5 @@ take-phases-spec =
     (λ c κs.
     let pre = c .before .before .before .before .before .before .before .before .before .before .before .before .before .before .pre in
     (pre .0, pre .1, laws.bounds-few (pre .0 .sized) (c .before .before .before .before .lower-bounds .ensures)))
-    (λ c.
-    c .before .before .add-marks .kept .1 .1 .1 .1 .1 .1 .1 .1 .0
-    ∙ c .before .before .before .before .before .before .before .lower-bounds .kept .1 .1 .1 .1 .1 .1 .1 .1 .0)
+    (λ c. search needs)
     (λ c f. laws.both-taken (c .before .before .before .before .before .before .before .lower-bounds .ensures f) (c .before .before .add-marks .ensures f)))

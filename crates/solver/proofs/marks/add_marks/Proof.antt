@@ -49,14 +49,14 @@ loop-again c =
     let s = sought choice in
     let inv = loop s .loop .inv in
     let X = small choice in
-    let kept = s .next-mark .kept .1 .1 .1 .1 .1 .1 in
-    let keyed = s .next-mark .ensures .0 in
+    let found = s .next-mark in
+    let keyed = found .ensures .0 in
     let written = step .before .before .before .before .before .put-step in
     let forgotten = c .before .forget in
     laws.going-next inv (choice .choice .given .0 .0) (λ f. sym (s .next-mark .ensures .1 f) ∙ ap choiceOf (choice .choice .given .1))
     (step .before .part-named .ensures) (step .before .before .row-of .ensures) _ _ (step .step .ensures)
     (turn s .if1 .taken) keyed (forgotten .ensures _ _ _ _ (inv .prepared .made) (inv .links) (keyed .keys-room) (X .least) (X .most))
-    (kept .0 ∙ inv .keys-sized) (forgotten .kept .1 .1 .1 .0) (kept .1 .0 ∙ inv .references-sized) (written .ensures) (written .kept .0)
+    (omega (arith, inv .keys-sized)) (omega arith) (omega (arith, inv .references-sized)) (written .ensures) (omega arith)
 
 pub add-marks-spec : {M : Type 1} → statement M
 add-marks-spec =
@@ -80,7 +80,8 @@ add-marks-spec =
     (λ c κs. search needs) (λ c κs. search needs) (λ c κs. search needs) (λ c κs. search needs)
     (λ c.
     let s = sought (chosen (c .before .before)) in
-    sym (s .next-mark .kept .1 .1 .1 .1 .1 .1 .0 ∙ loop s .loop .inv .keys-sized))
+    let found = s .next-mark in
+    omega (arith, loop s .loop .inv .keys-sized))
     (λ c κs. small (chosen (c .before .before)) .walk)
     (λ c. omega (arith, laws.few (loop (sought (chosen (c .before .before .before .before))) .loop .inv)))
     (λ c. omega (arith, turn (sought (chosen (c .before .before .before .before))) .if1 .taken))

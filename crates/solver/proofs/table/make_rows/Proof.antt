@@ -36,9 +36,9 @@ loop-again c =
     let own = c .before .before .own in
     record {
       few = omega (arith, more);
-      ends-kept = row .kept .1 .1 .0 ∙ G .ends-kept;
-      rows-kept = row .kept .1 .1 .1 .0 ∙ G .rows-kept;
-      owners-kept = own .kept .0 ∙ G .owners-kept;
+      ends-kept = omega (arith, G .ends-kept);
+      rows-kept = omega (arith, G .rows-kept);
+      owners-kept = omega (arith, G .owners-kept);
       made =
           laws.made-on B more (G .made) (laws.making-row B G more (row .ensures))
           (rw (c .before .before .before .before .before .before .start-of .ensures .0, c .before .before .before .before .wide .ensures) at (own .ensures));
@@ -62,7 +62,7 @@ make-rows-spec =
     let made = c .before .before .before .before .before .before in
     let turn = made .before .before .before in
     let B = entry (turn .before .before) .pre in
-    omega (arith, made .make-row .kept .1 .1 .0, turn .before .before .loop .inv .ends-kept, B .roomy .ends-room, turn .if1 .taken))
+    omega (arith, turn .before .before .loop .inv .ends-kept, B .roomy .ends-room, turn .if1 .taken))
     (λ c κs. search needs)
     (λ c.
     let turn = c .before .before .before .before .before .before .before .before .before .before .before in

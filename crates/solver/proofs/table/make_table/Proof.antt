@@ -1,4 +1,5 @@
 -- `solver::table::make_table`: the rows, then their links.
+use native.Mathlib.Omega.{arith}
 use borrow.Author.Needs.{needs}
 use Rattle.solver.proofs.TableLaws as laws
 use Rattle.solver.proofs.table.make_table.Statement.{statement}
@@ -11,7 +12,7 @@ returns c =
     let pre = rows .before .before .before .before .before .before .before .before .before .before .before .pre in
     let link = c .before .before .before .before .link in (
       laws.all-rows (pre .0) (made .ensures),
-      laws.all-links (pre .0) (made .ensures) (pre .1) (link .kept .1 .0) (link .kept .1 .1 .0) (made .kept .1 .1 .1 .1 .0) (link .ensures),
+      laws.all-links (pre .0) (made .ensures) (pre .1) (omega arith) (omega arith) (omega arith) (link .ensures),
     )
 
 pub make-table-spec : {M : Type 1} → statement M
@@ -22,6 +23,6 @@ make-table-spec =
     (λ c κs.
     let made = c .before .before .before .before .before .before .before .before .before .before in
     let pre = made .before .before .before .before .before .before .before .before .before .before .before .pre in
-    laws.linkable (pre .0) (pre .1) (made .make-rows .kept .1 .1 .1 .0))
+    laws.linkable (pre .0) (pre .1) (omega arith))
     (λ c. search needs) (λ c. search needs) (λ c. search needs) (λ c. search needs) (λ c. search needs)
     returns)
