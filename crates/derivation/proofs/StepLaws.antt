@@ -1,7 +1,7 @@
 -- Laws of the walk in the code's terms: a step read from its bytes, its rule over the part that it names, and the turns of the loop.
 use Prim.Native.Nat.{ℕ, suc, _+_, _*_, _-_, _/_, _≤_, _<_}
 use mathlib.Core.Path.{_≡_, refl, sym, _∙_}
-use mathlib.Core.Bool.{Bool, true, false, cond}
+use mathlib.Core.Bool.{Bool, true, false}
 use mathlib.Core.List.{List, []}
 use mathlib.Core.Logic.{inl, ⊎-elim}
 use mathlib.Core.Option.{none, some}
@@ -19,12 +19,12 @@ use Rattle.circuit.specs.Call.{circuitOf, Sized}
 use Rattle.circuit.proofs.ReaderLaws.{part-drop}
 use Rattle.circuit.proofs.OffsetLaws.{sized-part}
 use Rattle.laws.specs.Problem.{Problem, Names, nothing, aConstraint, equationAt}
-use Rattle.laws.specs.Standing.{Standing, apply}
+use Rattle.laws.specs.Standing.{Standing}
 use Rattle.laws.specs.Step.{Kind, namesOf, Step, within, inside, named, constraints, references}
-use Rattle.laws.specs.Step.{inRange, ruleOf, met, change, after}
+use Rattle.laws.specs.Step.{inRange, rule, ruleOf, met, change, after}
 use Rattle.laws.proofs.Sum.{and-left, and-right, true-or-false}
 use Rattle.laws.proofs.Sound.{within-least, within-most}
-use Rattle.rules.specs.Promise.{reduces, Asked}
+use Rattle.rules.specs.Promise.{subjectIn, reduces, Gives, Asked}
 use Rattle.rules.specs.Rows.{at, Row, rowOf, RowMade}
 use Rattle.derivation.specs.Steps.{kindOf, stepStart, stepAt, readStep, tried, walkFrom}
 use Rattle.derivation.specs.Inner.{problemOf, stepIn, Reads, Kept, Ready, partNamed, ruleIn}
@@ -182,36 +182,36 @@ module _ {c d table : List ℕ} {z : Sizes} {ends rows : List ℕ} {S₀ : Stand
       pub walk-refused : {number : ℕ} → r ≡ Refused number → (first : ℕ → ℕ) → refused number (k + 1) ≡ walkFrom (problemOf c first) d 0 (u16At d 5) S₀
       walk-refused e first = sym (turn first ∙ rw (reads e first S, add-one k))
 
-      module _ {x : code.Step} (e : r ≡ Fine x) where
-        -- the row of the step is made ..
-        pub walk-named : namesOf (stepIn x .kind) ≡ aConstraint → (1 ≤ x .constraint) × (x .constraint ≤ z .m)
-        walk-named = constraint-named (W .kept .sized) (W .kept .offsets) _ (stepIn x) (reads e (λ s. 0) .1)
+      -- a step that was read, its row kept, the part and the row that its rule is asked by, and what it gives
+      module _ {x : code.Step} (e : r ≡ Fine x) {ends′ rows′ part row : List ℕ} {b : Bool} {S′ : Standing}
+          (keeps : Kept c z table ends rows → (namesOf (stepIn x .kind) ≡ aConstraint → (1 ≤ x .constraint) × (x .constraint ≤ z .m))
+          → Ready (stepIn x .kind) (x .constraint) c z table ends′ rows′)
+          (is-part : part ≡ partNamed (namesOf (stepIn x .kind)) c table (x .constraint)) (is-row : row ≡ rowOf table ends′ rows′ (x .constraint))
+          (gives : (n : ℕ) → Asked (stepIn x .kind) (z .p) n part row (x .target) (x .reference)
+          → Gives b S S′ (x .target) (rule (stepIn x .kind) (subjectIn (z .p) n part) S (x .target) (x .reference))) where
+        ready : Ready (stepIn x .kind) (x .constraint) c z table ends′ rows′
+        ready = keeps (W .kept) (constraint-named (W .kept .sized) (W .kept .offsets) _ (stepIn x) (reads e (λ s. 0) .1))
 
-        module _ {ends′ rows′ : List ℕ} (M : Ready (stepIn x .kind) (x .constraint) c z table ends′ rows′) where
-          pub walk-asked :
-              Asked (stepIn x .kind) (z .p) (z .n) (partNamed (namesOf (stepIn x .kind)) c table (x .constraint)) (rowOf table ends′ rows′ (x .constraint))
-              (x .target) (x .reference)
-          walk-asked = step-asked (W .kept .sized) (W .kept .offsets) _ (stepIn x) (reads e (λ s. 0) .1) (M .row)
+        given-step : Gives b S S′ (x .target) (ruleIn (z .p) (z .n) c table S (stepIn x))
+        unfolding ruleIn
+        given-step =
+            (rw is-part at (rw is-row at (gives (z .n)))) (step-asked (W .kept .sized) (W .kept .offsets) _ (stepIn x) (reads e (λ s. 0) .1) (ready .row))
 
-          -- .. and its rule is asked, with the answer b
-          module _ {b : Bool} (told : b ≡ ruleIn (z .p) (z .n) c table S (stepIn x) .met) where
-            rule-same : (first : ℕ → ℕ) → ruleIn (z .p) (z .n) c table S (stepIn x) ≡ ruleOf (problemOf c first) S (stepIn x)
-            rule-same first = rule-is (W .kept .sized) (W .kept .offsets) first (stepIn x) (reads e first .1) S
+        rule-same : (first : ℕ → ℕ) → ruleIn (z .p) (z .n) c table S (stepIn x) ≡ ruleOf (problemOf c first) S (stepIn x)
+        rule-same first = rule-is (W .kept .sized) (W .kept .offsets) first (stepIn x) (reads e first .1) S
 
-            tried-is : (first : ℕ → ℕ) → tried (problemOf c first) S (readStep d k) (suc k) ≡ ask b 17 (suc k) (given (after (problemOf c first) S (stepIn x)))
-            unfolding met
-            tried-is first = rw (reads e first .0, reads e first .1, told, rule-same first)
+        tried-is : (first : ℕ → ℕ) → tried (problemOf c first) S (readStep d k) (suc k) ≡ ask b 17 (suc k) (given (after (problemOf c first) S (stepIn x)))
+        unfolding met
+        tried-is first = rw (reads e first .0, reads e first .1, given-step .told-met, rule-same first)
 
-            pub walk-unmet : b ≡ false → (first : ℕ → ℕ) → refused 17 (k + 1) ≡ walkFrom (problemOf c first) d 0 (u16At d 5) S₀
-            walk-unmet h first = sym (turn first ∙ rw (tried-is first, h, add-one k))
+        pub walk-unmet : b ≡ false → (first : ℕ → ℕ) → refused 17 (k + 1) ≡ walkFrom (problemOf c first) d 0 (u16At d 5) S₀
+        walk-unmet h first = sym (turn first ∙ rw (tried-is first, h, add-one k))
 
-            pub walk-on : b ≡ true → {S′ : Standing}
-                → S′ ≡ cond (ruleIn (z .p) (z .n) c table S (stepIn x) .met) (apply (ruleIn (z .p) (z .n) c table S (stepIn x) .change) S (x .target)) S
-                → Walking c d table z ends′ rows′ S₀ count (k + 1) S′
-            unfolding after change
-            walk-on h is =
-                record {
-                  kept = M .kept;
-                  most = omega arith;
-                  left = λ first. turn first ∙ rw (tried-is first, h) (rw (is, ← told, h, rule-same first));
-                }
+        pub walk-on : b ≡ true → Walking c d table z ends′ rows′ S₀ count (k + 1) S′
+        unfolding after change
+        walk-on h =
+            record {
+              kept = ready .kept;
+              most = omega arith;
+              left = λ first. turn first ∙ rw (tried-is first, h) (rw (given-step .next, ← given-step .told-met, h, rule-same first));
+            }
