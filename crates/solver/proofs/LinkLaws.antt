@@ -12,7 +12,7 @@ use Rattle.laws.proofs.Sum.{false-by, by-equal, by-order}
 use Rattle.rules.specs.Rows.{at, rank, signalOn, involves, stands, Row, startOf, rowOf}
 use Rattle.rules.proofs.Ranks.{rank-below}
 use Rattle.rules.proofs.RowLaws.{stands-is}
-use Rattle.solver.specs.Links.{AllRows, Last, Linked, Spread, Links, Walkable, Forgotten, cleared}
+use Rattle.solver.specs.Links.{AllRows, Last, Linked, Linkable, Spread, Links, Walkable, Forgotten, cleared}
 
 pub at-past : (list : List ℕ) (i : ℕ) → length list ≤ i → at list i ≡ 0
 unfolding at
@@ -28,74 +28,118 @@ at-other list i j x d = getD-set-other list i j x 0 d
 
 -- One number spread
 
-pub spread-start : (x start : ℕ) (list : List ℕ) → Spread x start start list list
-spread-start x start list = record { each = λ i a b. absurd (omega arith); kept = λ i h. refl }
+-- x from start to i, on the way to end
+pub record Spreading (x start end i : ℕ) (before after : List ℕ) : Type 0 where
+  pub begun : start ≤ i
+  pub near : i ≤ end
+  pub sized : length after ≡ length before
+  pub spread : Spread x start i before after
 
-pub spread-on : (x start i : ℕ) (before after : List ℕ) → Spread x start i before after → start ≤ i → i < length after
-    → Spread x start (i + 1) before (set after i x)
-unfolding at
-spread-on x start i before after P l h =
-    record {
-      each = λ j a b. by-equal j i (λ z. rw z (getD-set-same after i x 0 h)) (λ d. getD-set-other after i j x 0 d ∙ P .each j a (omega arith));
-      kept = λ j g.
-          getD-set-other after i j x 0 (λ (z : j ≡ i). ⊎-elim (λ w. omega arith) (λ w. omega arith) g)
-          ∙ P .kept j (⊎-elim inl (λ w. inr (omega arith)) g);
-    }
+pub spreading-start : {start end : ℕ} (x : ℕ) (list : List ℕ) → start ≤ end → Spreading x start end start list list
+spreading-start x list h =
+    record { begun = omega arith; near = h; sized = refl; spread = record { each = λ i a b. absurd (omega arith); kept = λ i g. refl } }
 
-pub spread-end : {x start end i : ℕ} {before after : List ℕ} → Spread x start i before after → i ≤ end → end ≤ i → Spread x start end before after
-spread-end {x} {start} {end} {i} {before} {after} P a b = let e : i ≡ end = omega arith in rw e at P
+module _ {x start end i : ℕ} {before after : List ℕ} (P : Spreading x start end i before after) where
+  pub spreading-on : i < end → end ≤ length before → Spreading x start end (i + 1) before (set after i x)
+  spreading-on more room =
+      record {
+        begun = omega (arith, P .begun);
+        near = omega arith;
+        sized = length-set after i x ∙ P .sized;
+        spread =
+            record {
+              each = λ j a b.
+                  by-equal j i (λ z. rw z (at-same after i x (omega (arith, P .sized)))) (λ d. at-other after i j x d ∙ P .spread .each j a (omega arith));
+              kept = λ j g.
+                  at-other after i j x (λ (z : j ≡ i). ⊎-elim (λ w. omega (arith, P .begun)) (λ w. omega arith) g)
+                  ∙ P .spread .kept j (⊎-elim inl (λ w. inr (omega arith)) g);
+            };
+      }
+
+  pub spreading-end : end ≤ i → Spread x start end before after
+  spreading-end h = let e : i ≡ end = omega (arith, P .near) in rw e at (P .spread)
 
 -- Linking
 
-pub linked-start : (rows lasts befores : List ℕ) → ((s : ℕ) → at lasts s ≡ 0) → Linked rows 0 lasts befores
-linked-start rows lasts befores z =
-    record {
-      last = λ s h. record { before = omega (arith, z s); holds = inl (z s); later = λ j a b e. absurd (omega arith) };
-      before = λ i h. absurd (omega arith);
-      falls = λ i h. absurd (omega arith);
-    }
+-- the first e entries are linked, on the way to end
+pub record Linking (rows lasts₀ befores₀ : List ℕ) (end e : ℕ) (lasts befores : List ℕ) : Type 0 where
+  pub near : e ≤ end
+  pub lasts-sized : length lasts ≡ length lasts₀
+  pub befores-sized : length befores ≡ length befores₀
+  pub linked : Linked rows e lasts befores
 
-module _ (rows : List ℕ) (e : ℕ) (lasts befores : List ℕ) (P : Linked rows e lasts befores) (s : ℕ)
-    (is : s ≡ getD rows (2 * e) 0 % 512) (room : e < length befores) where
-  -- the last entry with the signal of entry e
-  nearest : at lasts s ≤ e
-  unfolding at
-  nearest = by-order s (length lasts) (λ h. P .last s h .before) (λ h. omega (arith, at-past lasts s h))
-
-  pub linked-on : Linked rows (e + 1) (set lasts s (e + 1)) (set befores e (at lasts s))
-  unfolding at signalOn
-  linked-on =
-      let same = length-set lasts s (e + 1) in
-      let here = getD-set-same befores e (getD lasts s 0) 0 room in
+module _ {end : ℕ} {rows lasts₀ befores₀ : List ℕ} (A : Linkable end rows lasts₀ befores₀) where
+  pub linking-start : Linking rows lasts₀ befores₀ end 0 lasts₀ befores₀
+  linking-start =
+      let z = A .fresh in
       record {
-        last = λ u l. by-equal u s (last-here u (omega arith)) (last-other u (omega arith));
-        before = λ i l k.
-            by-equal i e
-            (λ z.
-            let is-s : getD rows (2 * i) 0 % 512 ≡ s = ap (λ (v : ℕ). getD rows (2 * v) 0 % 512) z ∙ sym is in
-            rw (is-s, z, here) (P .last s (omega arith)))
-            (λ d. rw (getD-set-other befores e i (getD lasts s 0) 0 d) (P .before i (omega arith) (omega arith)));
-        falls = λ i l. by-equal i e (λ z. rw (z, here) nearest) (λ d. rw (getD-set-other befores e i (getD lasts s 0) 0 d) (P .falls i (omega arith)));
+        near = omega arith;
+        lasts-sized = refl;
+        befores-sized = refl;
+        linked =
+            record {
+              last = λ s h. record { before = omega (arith, z s); holds = inl (z s); later = λ j a b e. absurd (omega arith) };
+              before = λ i h. absurd (omega arith);
+              falls = λ i h. absurd (omega arith);
+            };
       }
-    where
-      last-here : (u : ℕ) → u < length lasts → u ≡ s → Last rows u (e + 1) (getD (set lasts s (e + 1)) u 0)
-      last-here u l z =
-          rw (ap (λ (v : ℕ). getD (set lasts s (e + 1)) v 0) z ∙ getD-set-same lasts s (e + 1) 0 (rw z at l))
-          record {
-            before = omega arith;
-            holds = inr (let y : e + 1 - 1 ≡ e = omega arith in rw y (sym is ∙ sym z));
-            later = λ j a b g. absurd (omega arith);
-          }
 
-      last-other : (u : ℕ) → u < length lasts → (u ≡ s → ⊥) → Last rows u (e + 1) (getD (set lasts s (e + 1)) u 0)
-      last-other u l d =
-          let X = P .last u l in
-          rw (getD-set-other lasts s u (e + 1) 0 d)
+  module _ {e : ℕ} {lasts befores : List ℕ} (G : Linking rows lasts₀ befores₀ end e lasts befores) where
+    pub linking-end : end ≤ e → Linked rows end lasts befores
+    linking-end h = let all : e ≡ end = omega (arith, G .near) in rw all at (G .linked)
+
+    module _ (more : e < end) (s : ℕ) (is : s ≡ getD rows (2 * e) 0 % 512) where
+      abbrev P : Linked rows e lasts befores
+      P = G .linked
+
+      -- the last entry with the signal of entry e
+      nearest : at lasts s ≤ e
+      unfolding at
+      nearest = by-order s (length lasts) (λ h. P .last s h .before) (λ h. omega (arith, at-past lasts s h))
+
+      linked-on : Linked rows (e + 1) (set lasts s (e + 1)) (set befores e (at lasts s))
+      unfolding at signalOn
+      linked-on =
+          let same = length-set lasts s (e + 1) in
+          let here = getD-set-same befores e (getD lasts s 0) 0 (omega (arith, A .room, G .befores-sized)) in
           record {
-            before = omega (arith, X .before);
-            holds = X .holds;
-            later = λ j a b g.
-                by-equal j e (λ y. d (sym g ∙ ap (λ (v : ℕ). getD rows (2 * v) 0 % 512) y ∙ sym is)) (λ y. X .later j a (omega arith) g);
+            last = λ u l. by-equal u s (last-here u (omega arith)) (last-other u (omega arith));
+            before = λ i l k.
+                by-equal i e
+                (λ z.
+                let is-s : getD rows (2 * i) 0 % 512 ≡ s = ap (λ (v : ℕ). getD rows (2 * v) 0 % 512) z ∙ sym is in
+                rw (is-s, z, here) (P .last s (omega arith)))
+                (λ d. rw (getD-set-other befores e i (getD lasts s 0) 0 d) (P .before i (omega arith) (omega arith)));
+            falls = λ i l. by-equal i e (λ z. rw (z, here) nearest) (λ d. rw (getD-set-other befores e i (getD lasts s 0) 0 d) (P .falls i (omega arith)));
+          }
+        where
+          last-here : (u : ℕ) → u < length lasts → u ≡ s → Last rows u (e + 1) (getD (set lasts s (e + 1)) u 0)
+          last-here u l z =
+              rw (ap (λ (v : ℕ). getD (set lasts s (e + 1)) v 0) z ∙ getD-set-same lasts s (e + 1) 0 (rw z at l))
+              record {
+                before = omega arith;
+                holds = inr (let y : e + 1 - 1 ≡ e = omega arith in rw y (sym is ∙ sym z));
+                later = λ j a b g. absurd (omega arith);
+              }
+
+          last-other : (u : ℕ) → u < length lasts → (u ≡ s → ⊥) → Last rows u (e + 1) (getD (set lasts s (e + 1)) u 0)
+          last-other u l d =
+              let X = P .last u l in
+              rw (getD-set-other lasts s u (e + 1) 0 d)
+              record {
+                before = omega (arith, X .before);
+                holds = X .holds;
+                later = λ j a b g.
+                    by-equal j e (λ y. d (sym g ∙ ap (λ (v : ℕ). getD rows (2 * v) 0 % 512) y ∙ sym is)) (λ y. X .later j a (omega arith) g);
+              }
+
+      pub linking-on : Linking rows lasts₀ befores₀ end (e + 1) (set lasts s (e + 1)) (set befores e (at lasts s))
+      linking-on =
+          record {
+            near = omega arith;
+            lasts-sized = length-set lasts s (e + 1) ∙ G .lasts-sized;
+            befores-sized = length-set befores e (at lasts s) ∙ G .befores-sized;
+            linked = linked-on;
           }
 
 -- Forgetting
