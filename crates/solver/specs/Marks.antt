@@ -84,6 +84,8 @@ pub record Looked (C : Circuit) (b : ℕ → ℕ) (m : ℕ → Bool) (k key : �
   pub here : at keys′ k ≡ key
   pub known : Known (C .p) (C .n) (constraintAt C k) b m key (at references′ k)
   pub others : (j : ℕ) → (j ≡ k → ⊥) → (at keys′ j ≡ at keys j) × (at references′ j ≡ at references j)
+  pub keys-sized : length keys′ ≡ length keys
+  pub references-sized : length references′ ≡ length references
 
 -- constraints 1 to k have been looked at: the key at r is exact, the least, and the first of the least
 pub record Swept (C : Circuit) (b : ℕ → ℕ) (m : ℕ → Bool) (k r : ℕ) (keys references : List ℕ) : Type 0 where
