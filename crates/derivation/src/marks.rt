@@ -7,7 +7,7 @@ use rules::standing::Standing;
 use rules::view::mark_at;
 ghost use mathlib.Core.Path.{_≡_};
 ghost use mathlib.Core.List.{_++_};
-ghost use Prim.Native.Nat.{_+_, _≤_, _<_};
+ghost use Prim.Native.Nat.{_≤_, _<_};
 ghost use lib.ListN.{length, drop};
 ghost use Rattle.circuit.specs.Reader.{signalsMost};
 ghost use Rattle.circuit.specs.Answer.{given};

@@ -9,7 +9,7 @@ use lib.ListN.{length, getD, set, take, drop, length-take, length-set, List·get
 use lib.Seq.{getD-take, getD-drop, getD-set-same, getD-set-other}
 use Rattle.circuit.specs.Circuit.{Circuit, constraintAt}
 use Rattle.laws.proofs.Sum.{false-by, by-equal, by-order}
-use Rattle.rules.specs.Rows.{at, rank, signalOn, involves, stands, Row, startOf, rowOf}
+use Rattle.rules.specs.Rows.{at, rank, signalOn, involves, stands, startOf, rowOf}
 use Rattle.rules.proofs.Ranks.{rank-below}
 use Rattle.rules.proofs.RowLaws.{stands-is}
 use Rattle.solver.specs.Links.{AllRows, Last, Linked, Linkable, Spread, Links, Walkable, Forgotten, cleared}

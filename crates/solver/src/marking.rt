@@ -15,7 +15,7 @@ use rules::rows::row_of;
 use rules::view::bound_at;
 use rules::view::mark_at;
 ghost use mathlib.Core.Path.{_≡_};
-ghost use mathlib.Core.Bool.{false, _&&_};
+ghost use mathlib.Core.Bool.{_&&_};
 ghost use Prim.Native.Nat.{ℕ, _%_, _≤_, _<_};
 ghost use lib.Dec.{eqb};
 ghost use lib.ListN.{length};

@@ -5,11 +5,8 @@ use crate::links::own;
 use circuit::reader::Sizes;
 use rules::rows::make_row;
 use rules::rows::start_of;
-ghost use Prim.Native.Nat.{ℕ, _<_};
-ghost use lib.ListN.{length};
 ghost use mathlib.Core.Path.{_≡_};
 ghost use Rattle.circuit.specs.Call.{circuitOf};
-ghost use Rattle.rules.specs.Rows.{at};
 ghost use Rattle.solver.specs.Links.{AllRows, Links, Blank, Made, Unlinked};
 
 fn wide(x: u32) -> usize

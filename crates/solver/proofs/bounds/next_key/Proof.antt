@@ -1,6 +1,6 @@
 -- `solver::bounds::next_key`: after k turns the keys of the first k constraints are known, and the least of them.
 use Prim.Native.Nat.{_-_, _≤_}
-use mathlib.Core.Path.{_≡_, refl, _∙_}
+use mathlib.Core.Path.{_≡_, refl}
 use native.Mathlib.Omega.{arith}
 use lib.ListN.{length}
 use borrow.Author.Needs.{needs}

@@ -1,6 +1,6 @@
 -- `solver::call::solve_with`: the rows, both phases, then the header and the answer.
 use Prim.Native.Nat.{_<_}
-use mathlib.Core.Path.{refl, _∙_}
+use mathlib.Core.Path.{refl}
 use native.Mathlib.Omega.{arith}
 use Rattle.circuit.specs.Call.{circuitOf}
 use Rattle.laws.specs.Problem.{largest}

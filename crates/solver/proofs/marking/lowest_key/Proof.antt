@@ -1,5 +1,5 @@
 -- `solver::marking::lowest_key`: after k turns the lowest of the keys up to k, which is exact; in a turn the references passed give no step.
-use Prim.Native.Nat.{_+_, _-_}
+use Prim.Native.Nat.{_-_}
 use mathlib.Core.Path.{sym, _∙_}
 use native.Mathlib.Omega.{arith}
 use lib.ListN.{length-set}

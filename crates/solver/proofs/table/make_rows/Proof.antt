@@ -1,6 +1,6 @@
 -- `solver::table::make_rows`: after each turn the row of one constraint more is made.
 use Prim.Native.Nat.{_-_}
-use mathlib.Core.Path.{_≡_, _∙_}
+use mathlib.Core.Path.{_≡_}
 use native.Mathlib.Omega.{arith}
 use borrow.Author.Needs.{needs}
 use Rattle.solver.proofs.TableLaws as laws
