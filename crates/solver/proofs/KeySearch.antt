@@ -4,7 +4,7 @@ use mathlib.Core.Path.{_≡_, refl, sym, ap, _∙_}
 use mathlib.Core.List.{List}
 use mathlib.Core.Logic.{_⊎_, inl, inr, ⊎-elim}
 use native.Mathlib.Omega.{arith}
-use lib.ListN.{length, getD, set, replicate}
+use lib.ListN.{length, getD, set, length-set, replicate}
 use lib.Seq.{getD-set-same, getD-set-other}
 use Rattle.field.specs.Prime.{Prime}
 use Rattle.circuit.specs.Circuit.{Circuit, WellFormedConstraint, constraintAt}
@@ -43,12 +43,12 @@ pub found-new : {C : Circuit} (b : ℕ → ℕ) (k : ℕ) (before : List ℕ) (k
     → Found C b k key before (set before k key)
 unfolding at
 found-new b k before key h I =
-    record { is-key = I; here = getD-set-same before k key 0 h; kept = λ j d. getD-set-other before k j key 0 d }
+    record { is-key = I; here = getD-set-same before k key 0 h; kept = λ j d. getD-set-other before k j key 0 d; sized = length-set before k key }
 
 pub found-known : (C : Circuit) (b : ℕ → ℕ) (k : ℕ) (keys : List ℕ)
     → (at keys k ≡ 0) ⊎ IsKey (C .p) (C .n) (constraintAt C k) b (at keys k) → (getD keys k 0 ≡ 0 → ⊥) → Found C b k (getD keys k 0) keys keys
 unfolding at
-found-known C b k keys K d = record { is-key = ⊎-elim (λ z. absurd (d z)) (λ I. I) K; here = refl; kept = λ j e. refl }
+found-known C b k keys K d = record { is-key = ⊎-elim (λ z. absurd (d z)) (λ I. I) K; here = refl; kept = λ j e. refl; sized = refl }
 
 -- The least of the keys, one more at a time
 
@@ -83,7 +83,9 @@ least-start keys =
 -- The walk
 
 -- the keys of the constraints up to k are known, and that of r is the least of them
-pub record Finding (C : Circuit) (b : ℕ → ℕ) (k r lowest : ℕ) (keys : List ℕ) : Type 0 where
+pub record Finding (C : Circuit) (b : ℕ → ℕ) (keys₀ : List ℕ) (k r lowest : ℕ) (keys : List ℕ) : Type 0 where
+  pub few : k ≤ C .m
+  pub sized : length keys ≡ length keys₀
   pub low : (s : ℕ) → b s < C .p
   pub top : at keys 0 ≡ noKey
   pub done : (j : ℕ) → 1 ≤ j → j ≤ k → IsKey (C .p) (C .n) (constraintAt C j) b (at keys j)
@@ -91,49 +93,49 @@ pub record Finding (C : Circuit) (b : ℕ → ℕ) (k r lowest : ℕ) (keys : Li
   pub least : Least keys k r
   pub is-lowest : lowest ≡ at keys r
 
-module _ (C : Circuit) (b : ℕ → ℕ) where
-  pub finding-start : (keys : List ℕ) → SomeKeys C b keys → Finding C b 0 0 noKey keys
-  finding-start keys K =
-      record {
-        low = K .low;
-        top = K .top;
-        done = λ j l h. absurd (omega arith);
-        rest = λ j l h. K .each j (omega arith) h;
-        least = least-start keys;
-        is-lowest = sym (K .top);
-      }
+pub finding-start : {C : Circuit} {b : ℕ → ℕ} {keys : List ℕ} → SomeKeys C b keys → Finding C b keys 0 0 noKey keys
+finding-start {keys = keys} K =
+    record {
+      few = omega arith;
+      sized = refl;
+      low = K .low;
+      top = K .top;
+      done = λ j l h. absurd (omega arith);
+      rest = λ j l h. K .each j (omega arith) h;
+      least = least-start keys;
+      is-lowest = sym (K .top);
+    }
 
-  pub finding-known : (k r lowest : ℕ) (keys : List ℕ) → Finding C b k r lowest keys → SomeKeys C b keys
-  finding-known k r lowest keys F =
-      record { low = F .low; top = F .top; each = λ j l h. by-order k j (λ d. F .rest j d h) (λ d. inr (F .done j l d)) }
+module _ {C : Circuit} {b : ℕ → ℕ} {keys₀ : List ℕ} {k r lowest : ℕ} {keys : List ℕ} (F : Finding C b keys₀ k r lowest keys) where
+  pub finding-known : SomeKeys C b keys
+  finding-known = record { low = F .low; top = F .top; each = λ j l h. by-order k j (λ d. F .rest j d h) (λ d. inr (F .done j l d)) }
 
-  pub finding-end : (k r lowest : ℕ) (keys : List ℕ) → Finding C b k r lowest keys → C .m ≤ k → k ≤ C .m → Keys C b keys × Least keys (C .m) r
-  finding-end k r lowest keys F h g =
-      let end : k ≡ C .m = omega arith in
+  pub finding-end : {m : ℕ} → m ≡ C .m → m ≤ k → Keys C b keys × Least keys (C .m) r
+  finding-end is-m h =
+      let end : k ≡ C .m = omega (arith, F .few) in
       (record { top = F .top; each = λ j l m. F .done j l (omega arith) }, rw end at (F .least))
 
-  module _ (k r lowest : ℕ) (keys later : List ℕ) (key : ℕ) (F : Finding C b k r lowest keys) (more : k < C .m) (N : Found C b (k + 1) key keys later) where
+  module _ {m key : ℕ} {later : List ℕ} (is-m : m ≡ C .m) (more : k < m) (N : Found C b (k + 1) key keys later) where
     kept : (j : ℕ) → j ≤ k → at later j ≡ at keys j
     kept j h = N .kept j (λ (z : j ≡ k + 1). omega arith)
 
-    done : (j : ℕ) → 1 ≤ j → j ≤ k + 1 → IsKey (C .p) (C .n) (constraintAt C j) b (at later j)
-    done j l h = by-equal j (k + 1) (λ q. rw (q, N .here) (N .is-key)) (λ d. rw (N .kept j d) (F .done j l (omega arith)))
-
-    next : (r′ lowest′ : ℕ) → Least later (k + 1) r′ → lowest′ ≡ at later r′ → Finding C b (k + 1) r′ lowest′ later
+    next : (r′ lowest′ : ℕ) → Least later (k + 1) r′ → lowest′ ≡ at later r′ → Finding C b keys₀ (k + 1) r′ lowest′ later
     next r′ lowest′ L e =
         record {
+          few = omega arith;
+          sized = N .sized ∙ F .sized;
           low = F .low;
           top = kept 0 (omega arith) ∙ F .top;
-          done = done;
+          done = λ j l h. by-equal j (k + 1) (λ q. rw (q, N .here) (N .is-key)) (λ d. rw (N .kept j d) (F .done j l (omega arith)));
           rest = λ j l h. rw (N .kept j (λ (z : j ≡ k + 1). omega arith)) (F .rest j (omega arith) h);
           least = L;
           is-lowest = e;
         }
 
-    pub finding-new : key < lowest → Finding C b (k + 1) (k + 1) key later
+    pub finding-new : key < lowest → Finding C b keys₀ (k + 1) (k + 1) key later
     finding-new l = next (k + 1) key (least-new (F .least) (F .is-lowest) (N .here) kept l) (sym (N .here))
 
-    pub finding-on : lowest ≤ key → Finding C b (k + 1) r lowest later
+    pub finding-on : lowest ≤ key → Finding C b keys₀ (k + 1) r lowest later
     finding-on l =
         next r lowest (least-on (F .least) (F .is-lowest) (N .here) kept l) (F .is-lowest ∙ sym (kept r (F .least .within)))
 

@@ -79,6 +79,7 @@ pub record Found (C : Circuit) (b : ℕ → ℕ) (k key : ℕ) (before later : L
   pub is-key : IsKey (C .p) (C .n) (constraintAt C k) b key
   pub here : at later k ≡ key
   pub kept : (j : ℕ) → (j ≡ k → ⊥) → at later j ≡ at before j
+  pub sized : length later ≡ length before
 
 -- r is the place of the least of the keys 0 to m, the first of them
 pub record Least (keys : List ℕ) (m r : ℕ) : Type 0 where
