@@ -7,6 +7,7 @@ use mathlib.Core.Logic.{inl, ⊎-elim}
 use mathlib.Core.Option.{none, some}
 use native.Mathlib.Numerals.{add-one}
 use native.Mathlib.Omega.{arith}
+use borrow.Author.Needs.{needs}
 use lib.ListN.{length, drop, take, getD}
 use lib.Seq.{drop-length}
 use Rattle.circuit.specs.Bytes.{byteAt, u16At}
@@ -132,13 +133,7 @@ pub row-ready : {q : Kind} {k : ℕ} {c : List ℕ} {z : Sizes} {table ends rows
     → RowMade (circuitOf c) table k ends rows ends′ rows′ → Ready q k c z table ends′ rows′
 row-ready {k = k} K e f h M =
     record {
-      kept =
-          record {
-            sized = K .sized;
-            offsets = K .offsets;
-            roomy = record { ends-room = omega (arith, K .roomy .ends-room); rows-room = omega (arith, K .roomy .rows-room) };
-            made = M .all;
-          };
+      kept = search needs;
       row = λ _ _. ⊎-elim (λ z. absurd (M .made z)) (λ r. r) (M .all .each k (h .0) (omega (arith, h .1, K .sized .is-m)));
     }
 

@@ -258,15 +258,8 @@ module _ {c table ends rows bounds : List ℕ} {marks : List Bool} {keys₀ refe
       next : (x y : ℕ) → Least later (k + 1) x → (1 ≤ x → FirstKey (MarksBy (C .p) (C .n) (constraintAt C x) b q) (at later x) (at after x))
           → y ≡ at later x → y ≤ noKey → After x y later after
       next x y L holds is-lowest small =
-          record {
-            prepared = W .prepared;
-            few = omega arith;
-            keys-sized = R .keys-sized ∙ W .keys-sized;
-            references-sized = R .references-sized ∙ W .references-sized;
-            swept = record { kept = R .kept; zeros = rw (kept 0 (omega arith)) (W .swept .zeros); least = L; exact = holds };
-            is-lowest = is-lowest;
-            small = small;
-          }
+          let zeros : FirstKey (MarksZero (C .n) b q) (at later 0) 0 = rw (kept 0 (omega arith)) (W .swept .zeros) in
+          search needs
 
       new : key < lowest → FirstKey (MarksBy (C .p) (C .n) (constraintAt C (k + 1)) b q) key (at after (k + 1))
           → After (k + 1) key later after
@@ -285,12 +278,10 @@ module _ {c table ends rows bounds : List ℕ} {marks : List Bool} {keys₀ refe
 
       pub place : Place (k + 1) later after
       place =
-          let m = W .prepared .sized .is-m in
-          record {
-            small = omega (arith, m, W .prepared .sized .formed .m-most);
-            in-keys = omega (arith, R .kept .keys-room, m);
-            in-references = omega (arith, R .kept .references-room, m);
-          }
+          let room = R .kept in
+          let sized = W .prepared .sized in
+          let most = sized .formed .m-most in
+          search needs
 
       pub searching-start : {row : List ℕ} {few : Few} {end : ℕ} → weights.Prepared (z .p) row bounds marks few
           → (end ≤ entries row) × (few .count < 32 → end ≡ entries row)

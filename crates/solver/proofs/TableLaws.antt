@@ -4,6 +4,7 @@ use mathlib.Core.Path.{_≡_, refl, sym, _∙_}
 use mathlib.Core.List.{List}
 use mathlib.Core.Logic.{inl, ⊎-elim}
 use native.Mathlib.Omega.{arith}
+use borrow.Author.Needs.{needs}
 use lib.ListN.{length, getD}
 use Rattle.circuit.specs.Call.{circuitOf, Sized}
 use Rattle.circuit.specs.Offsets.{Offsets}
@@ -25,13 +26,9 @@ module _ {c table : List ℕ} {z : Sizes} {ends₀ rows₀ owners₀ : List ℕ}
   pub making-start : Making c table z ends₀ rows₀ owners₀ 0 ends₀ rows₀ owners₀
   making-start =
       let none : Rows (circuitOf c) table ends₀ rows₀ = record { each = λ k l m. inl (B .none k) } in
-      record {
-        few = omega arith;
-        ends-kept = refl;
-        rows-kept = refl;
-        owners-kept = refl;
-        made = record { all = none; end = λ j l m. absurd (omega arith); rest = λ j l. B .none j; owner = λ j e l m. absurd (omega arith) };
-      }
+      let made : Made (circuitOf c) table 0 ends₀ rows₀ owners₀
+      = record { all = none; end = λ j l m. absurd (omega arith); rest = λ j l. B .none j; owner = λ j e l m. absurd (omega arith) } in
+      search needs
 
   roomy : {k : ℕ} {ends rows owners : List ℕ} → Making c table z ends₀ rows₀ owners₀ k ends rows owners → Roomy (length c) (z .m) ends rows
   roomy G = record { ends-room = omega (arith, B .roomy .ends-room, G .ends-kept); rows-room = omega (arith, B .roomy .rows-room, G .rows-kept) }

@@ -23,12 +23,6 @@ Inv-loop circuit table ends rows lasts befores owners output₀ sizes standing�
 abbrev μ-loop : tie.MeasureT-loop
 μ-loop circuit table ends rows lasts befores owners output₀ sizes standing₀ keys₀ count₀ output standing keys count = sizes .n - count
 
--- the first bounds are below p
-first-low : (c : tie.After-slice-known Inv-loop μ-loop) (s : ℕ)
-    → let a = c .before .before .before .before .before .before .before .before .args in
-    view (a .sizes .p) (a .first) .bound s < circuitOf (a .circuit .now) .p
-first-low c s = let pre = c .before .before .before .before .before .before .before .before .pre in omega (arith, pre .2 s, pre .0 .sized .is-p)
-
 -- from where a key was found back to where its turn began, and to the entry; from where a step was taken to where it was chosen; few constraints
 abbrev turn : tie.After-next-key Inv-loop μ-loop → tie.At-loop Inv-loop μ-loop
 turn k = k .before .before .before .before .before .before .before
@@ -115,7 +109,9 @@ lower-bounds-spec =
     Inv-loop
     μ-loop
     (λ c. search needs)
-    (λ c. (search needs, laws.turning-start _ _ _ _ (no-keys _ _ 512 (first-low c))))
+    (λ c.
+    let pre = c .before .before .before .before .before .before .before .before .pre in
+    (search needs, laws.turning-start _ _ _ _ (no-keys _ _ 512 (λ s. omega (arith, pre .2 s, pre .0 .sized .is-p)))))
     (λ c. search needs)
     next-key-requires
     (λ c. laws.turning-room (entry (turn (c .before .before)) .pre .0 .sized .formed) (turn (c .before .before) .loop .inv .1))
