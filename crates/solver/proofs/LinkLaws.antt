@@ -5,6 +5,7 @@ use mathlib.Core.Bool.{true, false}
 use mathlib.Core.List.{List}
 use mathlib.Core.Logic.{_⊎_, inl, inr, ⊎-elim}
 use native.Mathlib.Omega.{arith}
+use borrow.Author.Needs.{needs}
 use lib.ListN.{length, getD, set, take, drop, length-take, length-set, List·getD-eq-default}
 use lib.Seq.{getD-take, getD-drop, getD-set-same, getD-set-other}
 use Rattle.circuit.specs.Circuit.{Circuit, constraintAt}
@@ -42,19 +43,15 @@ spreading-start x list h =
 module _ {x start end i : ℕ} {before after : List ℕ} (P : Spreading x start end i before after) where
   pub spreading-on : i < end → end ≤ length before → Spreading x start end (i + 1) before (set after i x)
   spreading-on more room =
-      record {
-        begun = omega (arith, P .begun);
-        near = omega arith;
-        sized = length-set after i x ∙ P .sized;
-        spread =
-            record {
-              each = λ j a b.
-                  by-equal j i (λ z. rw z (at-same after i x (omega (arith, P .sized)))) (λ d. at-other after i j x d ∙ P .spread .each j a (omega arith));
-              kept = λ j g.
-                  at-other after i j x (λ (z : j ≡ i). ⊎-elim (λ w. omega (arith, P .begun)) (λ w. omega arith) g)
-                  ∙ P .spread .kept j (⊎-elim inl (λ w. inr (omega arith)) g);
-            };
-      }
+      let spread : Spread x start (i + 1) before (set after i x)
+      = record {
+        each = λ j a b.
+            by-equal j i (λ z. rw z (at-same after i x (omega (arith, P .sized)))) (λ d. at-other after i j x d ∙ P .spread .each j a (omega arith));
+        kept = λ j g.
+            at-other after i j x (λ (z : j ≡ i). ⊎-elim (λ w. omega (arith, P .begun)) (λ w. omega arith) g)
+            ∙ P .spread .kept j (⊎-elim inl (λ w. inr (omega arith)) g);
+      } in
+      search needs
 
   pub spreading-end : end ≤ i → Spread x start end before after
   spreading-end h = let e : i ≡ end = omega (arith, P .near) in rw e at (P .spread)
@@ -72,17 +69,13 @@ module _ {end : ℕ} {rows lasts₀ befores₀ : List ℕ} (A : Linkable end row
   pub linking-start : Linking rows lasts₀ befores₀ end 0 lasts₀ befores₀
   linking-start =
       let z = A .fresh in
-      record {
-        near = omega arith;
-        lasts-sized = refl;
-        befores-sized = refl;
-        linked =
-            record {
-              last = λ s h. record { before = omega (arith, z s); holds = inl (z s); later = λ j a b e. absurd (omega arith) };
-              before = λ i h. absurd (omega arith);
-              falls = λ i h. absurd (omega arith);
-            };
-      }
+      let linked : Linked rows 0 lasts₀ befores₀
+      = record {
+        last = λ s h. record { before = omega (arith, z s); holds = inl (z s); later = λ j a b e. absurd (omega arith) };
+        before = λ i h. absurd (omega arith);
+        falls = λ i h. absurd (omega arith);
+      } in
+      search needs
 
   module _ {e : ℕ} {lasts befores : List ℕ} (G : Linking rows lasts₀ befores₀ end e lasts befores) where
     pub linking-end : end ≤ e → Linked rows end lasts befores
@@ -134,13 +127,7 @@ module _ {end : ℕ} {rows lasts₀ befores₀ : List ℕ} (A : Linkable end row
               }
 
       pub linking-on : Linking rows lasts₀ befores₀ end (e + 1) (set lasts s (e + 1)) (set befores e (at lasts s))
-      linking-on =
-          record {
-            near = omega arith;
-            lasts-sized = length-set lasts s (e + 1) ∙ G .lasts-sized;
-            befores-sized = length-set befores e (at lasts s) ∙ G .befores-sized;
-            linked = linked-on;
-          }
+      linking-on = let linked = linked-on in search needs
 
 -- Forgetting
 

@@ -11,7 +11,8 @@ use borrow.Author.Tests.{le-leb, le-ltb, eqb-true}
 use Rattle.circuit.specs.Circuit.{Circuit, constraintAt}
 use Rattle.laws.specs.Problem.{Problem, given}
 use Rattle.laws.specs.Standing.{Standing, Change, atMost, fixed, idle, marks}
-use Rattle.laws.specs.Step.{Kind, Root, Sum, Zero, Product, Digits, kindNumber, Step, within, inside, constraints, references, inRange, fits, met, change, ruleOf, adds}
+use Rattle.laws.specs.Step.{Kind, Root, Sum, Zero, Product, Digits, kindNumber, Step, within, inside, constraints, references, inRange}
+use Rattle.laws.specs.Step.{fits, met, change, ruleOf, adds}
 use Rattle.laws.specs.Solver.{step, addsBy, firstBy, earlier, firstAdding}
 use Rattle.laws.proofs.Sum.{and-left, and-right, and-both, true-or-false, by-equal, by-order}
 use Rattle.laws.proofs.Best.{first-by-holds}

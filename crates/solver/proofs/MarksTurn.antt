@@ -5,6 +5,7 @@ use mathlib.Core.Bool.{Bool, true, false}
 use mathlib.Core.List.{List}
 use mathlib.Core.Option.{Option, none, some}
 use native.Mathlib.Omega.{arith}
+use borrow.Author.Needs.{needs}
 use lib.ListN.{length, replicate, length-replicate}
 use borrow.Author.Tests.{eqb-true}
 use Rattle.laws.specs.Problem.{Problem, Names, nothing, aConstraint, given}
@@ -136,14 +137,10 @@ module _ {c table ends rows lasts befores owners : List ℕ} {z : Sizes} {base :
     small =
         let T = X .target in
         let formed = G .prepared .sized .formed in
-        record {
-          least = T .least;
-          most = T .most;
-          target-fits = omega (arith, T .most, formed .n-most);
-          constraint-fits = omega (arith, names-most (namesOf (kindOf q)) (given C any) k (X .names), formed .m-most);
-          reference-fits = omega (arith, refers-most (refers (kindOf q)) (given C any) r (X .refers), formed .n-most);
-          walk = walkable (G .prepared .made) (G .links) (T .least) (T .most);
-        }
+        let constraint-most = names-most (namesOf (kindOf q)) (given C any) k (X .names) in
+        let reference-most = refers-most (refers (kindOf q)) (given C any) r (X .refers) in
+        let walk = walkable (G .prepared .made) (G .links) (T .least) (T .most) in
+        search needs
 
     module _ {part row : List ℕ} (is-part : part ≡ partNamed (namesOf (kindOf q)) c table k) (is-row : row ≡ rowOf table ends rows k) {b : Bool}
         (bounds′ : List ℕ) (marks′ : List Bool)
@@ -152,8 +149,7 @@ module _ {c table ends rows lasts befores owners : List ℕ} {z : Sizes} {base :
       D = G .prepared
 
       step-after : (f : ℕ → ℕ) → viewOf p bounds′ marks′ ≡ after (given C f) S x
-      step-after f =
-          step-taken D x is-part is-row (given-step (z .n)) laws.marks f (adding f)
+      step-after f = step-taken D x is-part is-row (given-step (z .n)) laws.marks f (adding f)
 
       step-mark : viewOf p bounds′ marks′ ≡ mark S t
       unfolding after
@@ -166,17 +162,12 @@ module _ {c table ends rows lasts befores owners : List ℕ} {z : Sizes} {base :
           → output′ ≡ stored output (headSize + stepSize * (base + count)) (stepBytes x) → length output′ ≡ length output
           → Going c table ends rows lasts befores owners z base S₀ bounds′ marks′ output₀ output′ later references′ (count + 1)
       unfolding viewOf mark
-      going-next h M E e e′ a written w =
+      going-next h {later = later} {references′ = references′} {output′ = output′} M E e e′ a written w =
           let bounds-stay : boundIn p bounds′ ≡ boundIn p bounds = ap (λ (Z : laws.Standing). Z .bound) step-mark in
           let marks-grow : markIn marks′ ≡ add (markIn marks) t = ap (λ (Z : laws.Standing). Z .marked) step-mark in
-          record {
-            prepared = D;
-            links = G .links;
-            begun = G .begun;
-            more = omega arith;
-            keys-sized = e′ ∙ e;
-            references-sized = a;
-            output-same = w ∙ G .output-same;
-            keyed = rw (bounds-stay, marks-grow) (keys-kept M t (omega (arith, D .sized .formed .p-least)) E e′);
-            turning = λ f. turning-next (G .turning f) (omega (arith, D .sized .is-n)) x (chosen f) refl written (step-after f);
-          }
+          let keyed : MarkKeys C (boundIn p bounds′) (markIn marks′) later references′
+          = rw (bounds-stay, marks-grow) (keys-kept M t (omega (arith, D .sized .formed .p-least)) E e′) in
+          let turning : (f : ℕ → ℕ)
+          → Turning (firstAdding laws.marks (given C f)) (given C f) S₀ output₀ output′ base (count + 1) (viewOf p bounds′ marks′)
+          = λ f. turning-next (G .turning f) (omega (arith, D .sized .is-n)) x (chosen f) refl written (step-after f) in
+          search needs

@@ -1,6 +1,6 @@
 -- The rows of all constraints under way, and what they are in the end.
 use Prim.Native.Nat.{ℕ, _+_, _/_, _≤_, _<_}
-use mathlib.Core.Path.{_≡_, refl, sym, _∙_}
+use mathlib.Core.Path.{_≡_, sym, _∙_}
 use mathlib.Core.List.{List}
 use mathlib.Core.Logic.{inl, ⊎-elim}
 use native.Mathlib.Omega.{arith}
@@ -71,13 +71,8 @@ module _ {c table : List ℕ} {z : Sizes} {ends₀ rows₀ owners₀ : List ℕ}
   pub linkable : {rows lasts befores : List ℕ} → Unlinked (z .n) rows₀ lasts befores → length rows ≡ length rows₀
       → Linkable (length c / 6 + z .m + 1) rows lasts befores
   linkable U h =
-      let room = B .roomy .rows-room in
-      record {
-        inside = omega (arith, room);
-        room = omega (arith, room, U .befores-room);
-        small = omega (arith, B .sized .most, B .sized .formed .m-most, B .sized .is-m);
-        fresh = U .fresh;
-      }
+      let few = B .sized .formed .m-most in
+      search needs
 
   module _ {ends rows owners : List ℕ} (M : Made (circuitOf c) table (z .m) ends rows owners) where
     pub all-rows : AllRows (circuitOf c) table ends rows

@@ -24,7 +24,8 @@ loop-holds : tie.Need-loop-holds Inv-loop μ-loop
 loop-holds c =
     let pre = c .before .before .before .before .before .pre in
     let long = length-replicate {A = ℕ} 513 0 in (
-      laws.walk-starts (laws.none-made (pre .0) (sized-offsets (pre .0) (c .before .offsets .ensures)) long (λ k h. getD-replicate {A = ℕ} 513 k 0 0 h) (pre .1))
+      laws.walk-starts
+          (laws.none-made (pre .0) (sized-offsets (pre .0) (c .before .offsets .ensures)) long (λ k h. getD-replicate {A = ℕ} 513 k 0 0 h) (pre .1))
           (c .u16-at .ensures .0),
       long,
       refl,

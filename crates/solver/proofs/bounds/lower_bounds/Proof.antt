@@ -1,5 +1,5 @@
 -- `solver::bounds::lower_bounds`: at each turn the steps so far, what is known of keys, and the bytes written.
-use Prim.Native.Nat.{ℕ, _-_, _≤_, _<_}
+use Prim.Native.Nat.{_-_, _≤_, _<_}
 use mathlib.Core.Path.{_≡_}
 use native.Mathlib.Omega.{arith}
 use lib.ListN.{length}

@@ -17,7 +17,8 @@ abbrev μ-loop : tie.MeasureT-loop
 loop-holds : tie.Need-loop-holds Inv-loop μ-loop
 loop-holds c =
     let is = c .index .ensures .0 in
-    (refl, laws.falling-start (c .before .before .before .before .before .before .pre) _ is, λ C table ends rows R L room low high. laws.walked-start R L low high _ _ is)
+    let falling = laws.falling-start (c .before .before .before .before .before .before .pre) _ is in
+    (refl, falling, λ C table ends rows R L room low high. laws.walked-start R L low high _ _ is)
 
 loop-again : tie.Need-loop-again Inv-loop μ-loop
 loop-again c =

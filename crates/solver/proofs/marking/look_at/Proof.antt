@@ -13,7 +13,8 @@ look-at-spec =
     (λ c q M.
     let pre = c .before .before .before .before .before .before .before .before .before .pre in
     laws.looked-known M _ (pre .1 .first) (omega (arith, pre .1 .last, pre .0 .sized .is-m)) (c .if1 .taken))
-    (λ c κs. search needs) (λ c κs. search needs) (λ c κs. search needs) (λ c. search needs) (λ c. search needs) (λ c. search needs) (λ c. search needs) (λ c. search needs) (λ c. search needs)
+    (λ c κs. search needs) (λ c κs. search needs) (λ c κs. search needs) (λ c. search needs) (λ c. search needs) (λ c. search needs) (λ c. search needs)
+    (λ c. search needs) (λ c. search needs)
     (λ c q M.
     let pre = c .before .before .before .before .before .before .before .before .before .before .before .before .pre in
     laws.looked-new M _ (pre .1 .first) (omega (arith, pre .1 .last, pre .0 .sized .is-m))

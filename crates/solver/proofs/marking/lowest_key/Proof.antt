@@ -47,8 +47,8 @@ constraints-again c =
     let at-loose = loose l in
     let found = looked at-loose in
     laws.sweeping-found (turn found .constraints .inv) (found .before .before .before .if1 .taken) (found .look-at .ensures)
-    (at-loose .before .before .before .if2 .taken) (sym (at-loose .before .is-loose .ensures) ∙ at-loose .if3 .taken) (l .before .before .before .row-of .ensures)
-    (l .loop .inv) (asked .before .loop-test .taken) (asked .separates-at .ensures) (c .before .if4 .taken)
+    (at-loose .before .before .before .if2 .taken) (sym (at-loose .before .is-loose .ensures) ∙ at-loose .if3 .taken)
+    (l .before .before .before .row-of .ensures) (l .loop .inv) (asked .before .loop-test .taken) (asked .separates-at .ensures) (c .before .if4 .taken)
 
 constraints-again-2 : tie.Need-constraints-again-2 Inv-loop μ-loop Inv-constraints μ-constraints
 constraints-again-2 c =
@@ -56,8 +56,8 @@ constraints-again-2 c =
     let at-loose = loose l in
     let found = looked at-loose in
     laws.sweeping-none (turn found .constraints .inv) (found .before .before .before .if1 .taken) (found .look-at .ensures)
-    (at-loose .before .before .before .if2 .taken) (sym (at-loose .before .is-loose .ensures) ∙ at-loose .if3 .taken) (l .before .before .before .row-of .ensures)
-    (l .loop .inv) (c .loop-test .left)
+    (at-loose .before .before .before .if2 .taken) (sym (at-loose .before .is-loose .ensures) ∙ at-loose .if3 .taken)
+    (l .before .before .before .row-of .ensures) (l .loop .inv) (c .loop-test .left)
 
 constraints-again-3 : tie.Need-constraints-again-3 Inv-loop μ-loop Inv-constraints μ-constraints
 constraints-again-3 c =
