@@ -33,9 +33,19 @@ mapped-whole : {A B : Type 0} (f : A → B) (r : Reading A) {y : B} {k : ℕ} �
 mapped-whole f (whole x size) e = (x, cc, cc)
 mapped-whole f (fault number offset) e = let z : _≡_ {A = ℕ} 0 1 = cc in absurd (omega arith)
 
-next-whole : {A B : Type 0} (s : List ℕ) (r : Reading A) (f : A → List ℕ → Reading B) {y : B} {k : ℕ} → next s r f ≡ whole y k
-    → (x : A) × (j : ℕ) × (i : ℕ) × (r ≡ whole x j) × (f x (drop j s) ≡ whole y i) × (k ≡ j + i)
-next-whole s (whole x size) f e = let w = after-whole size (f x (drop size s)) e in (x, size, w .0, refl, w .1, w .2)
+-- a part, and what follows it, with the sizes of both
+record BothRead {A B : Type 0} (s : List ℕ) (r : Reading A) (f : A → List ℕ → Reading B) (y : B) (k : ℕ) : Type 0 where
+  value : A
+  size : ℕ
+  later : ℕ
+  first : r ≡ whole value size
+  then : f value (drop size s) ≡ whole y later
+  total : k ≡ size + later
+
+next-whole : {A B : Type 0} (s : List ℕ) (r : Reading A) (f : A → List ℕ → Reading B) {y : B} {k : ℕ} → next s r f ≡ whole y k → BothRead s r f y k
+next-whole s (whole x size) f e =
+    let w = after-whole size (f x (drop size s)) e in
+    record { value = x; size = size; later = w .0; first = refl; then = w .1; total = w .2 }
 next-whole s (fault number offset) f e = let z : _≡_ {A = ℕ} 0 1 = cc in absurd (omega arith)
 
 -- ---- forms
@@ -132,9 +142,10 @@ pub constraint-whole : (n p : ℕ) (s : List ℕ) {K : Constraint} {k : ℕ} →
 unfolding readConstraint
 constraint-whole n p s e =
     let first = next-whole s (readForm n p s) _ e in
-    let second = next-whole (drop (first .1) s) (readForm n p (drop (first .1) s)) _ (first .4) in
-    let third = mapped-whole _ (readForm n p (drop (second .1) (drop (first .1) s))) (second .4) in
-    forms-read n p s (form-whole n p _ (first .3)) (form-whole n p _ (second .3)) (form-whole n p _ (third .1)) (third .2) (first .5) (second .5)
+    let second = next-whole (drop (first .size) s) (readForm n p (drop (first .size) s)) _ (first .then) in
+    let third = mapped-whole _ (readForm n p (drop (second .size) (drop (first .size) s))) (second .then) in
+    forms-read n p s (form-whole n p _ (first .first)) (form-whole n p _ (second .first)) (form-whole n p _ (third .1)) (third .2)
+    (first .total) (second .total)
 
 constraint-formed : {n p : ℕ} {s : List ℕ} {K : Constraint} {size : ℕ} → ConstraintRead n p s K size → WellFormedConstraint n p K
 constraint-formed R =
@@ -171,8 +182,8 @@ constraints-whole n p zero s {Ks} {k} e =
     rw (is, none) (record { counted = refl; inside = omega arith; part = λ k h. absurd (omega arith) })
 constraints-whole n p (suc m) s e =
     let one = next-whole s (readConstraint n p s) _ e in
-    let others = mapped-whole _ (readConstraints n p m (drop (one .1) s)) (one .4) in
-    constraints-more n p m s (constraint-whole n p s (one .3)) (constraints-whole n p m _ (others .1)) (others .2) (one .5)
+    let others = mapped-whole _ (readConstraints n p m (drop (one .size) s)) (one .then) in
+    constraints-more n p m s (constraint-whole n p s (one .first)) (constraints-whole n p m _ (others .1)) (others .2) (one .total)
 
 -- ---- the circuit
 
@@ -191,9 +202,9 @@ body-whole : (n p m : ℕ) (s : List ℕ) {Ks : List Constraint} {k : ℕ} → 1
 unfolding readBody
 body-whole n p m s {Ks} {k} h e =
     let body = next-whole s (after 17 (readConstraints n p m (drop 17 s))) atEnd e in
-    let all = after-whole 17 (readConstraints n p m (drop 17 s)) (body .3) in
-    let end = require-whole (eqb (length (drop (body .1) s)) 0) 10 _ (body .4) in
-    ended (constraints-whole n p m (drop 17 s) (all .1)) (all .2) (eqb-true _ _ (end .0)) (end .1) (body .5)
+    let all = after-whole 17 (readConstraints n p m (drop 17 s)) (body .first) in
+    let end = require-whole (eqb (length (drop (body .size) s)) 0) 10 _ (body .then) in
+    ended (constraints-whole n p m (drop 17 s) (all .1)) (all .2) (eqb-true _ _ (end .0)) (end .1) (body .total)
   where
     ended : {L : List Constraint} {i j l : ℕ} → ConstraintsRead n p m (drop 17 s) L j → l ≡ 17 + j → length (drop l s) ≡ 0
         → whole L 0 ≡ whole Ks i → k ≡ l + i → (j : ℕ) × ConstraintsRead n p m (drop 17 s) Ks j × (k ≡ length s)

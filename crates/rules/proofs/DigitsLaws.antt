@@ -7,7 +7,7 @@ use native.Mathlib.Nat.{mul-zero, mul-le-mul-right, pos-of-ne-zero}
 use native.Mathlib.Numerals.{add-one}
 use native.Mathlib.Omega.{arith}
 use lib.Dec.{ltb, eqb}
-use lib.ListN.{length, set}
+use lib.ListN.{length, set, length-set}
 use borrow.Author.Count.{below-more}
 use borrow.Author.Tests.{ne-eqb, eqb-false, lt-ltb, le-ltb, ltb-true, ltb-false, not-true}
 use Rattle.field.specs.Inverse.{inverse}
@@ -17,7 +17,7 @@ use Rattle.laws.proofs.Sum.{and-left, and-right, and-both, by-test, true-or-fal
 use Rattle.laws.proofs.Sum.{and-true, keep-le, keep-mono, keep-zero, all-at, all-from, sum-cong, sum-mono}
 use Rattle.rules.specs.View.{coefIn}
 use Rattle.rules.specs.Rows.{rank}
-use Rattle.rules.specs.Weights.{scaled, positive, Gathered, smaller, smallerAt, exceeds}
+use Rattle.rules.specs.Weights.{scaled, positive, Gathered, smaller, smallerAt, Fitting, exceeds}
 use Rattle.rules.proofs.SumLaws.{sum-grows, sum-on, sum-over}
 use Rattle.rules.proofs.Ranks.{all-last, rank-zero, rank-passed, rank-failed, rank-below, rank-grows, sum-rank}
 use Rattle.rules.proofs.RowLaws.{rank-onto, rank-distinct}
@@ -217,27 +217,38 @@ unfolding positive
 positive-no c s x x-is z = rw (sym x-is ∙ z)
 
 module _ (q : ℕ → Bool) (f g : ℕ → ℕ) where
-  pub gathered-start : (xs ys : List ℕ) → Gathered q f g 0 xs ys 0
-  gathered-start xs ys = record { ranked = sym (rank-zero q); first = λ s l e. absurd (omega arith); second = λ s l e. absurd (omega arith) }
+  pub gathered-start : (xs ys : List ℕ) → length xs ≡ 32 → length ys ≡ 32 → Gathered q f g 0 xs ys 0
+  gathered-start xs ys wide-x wide-y =
+      record {
+        first-wide = wide-x;
+        second-wide = wide-y;
+        ranked = sym (rank-zero q);
+        first = λ s l e. absurd (omega arith);
+        second = λ s l e. absurd (omega arith);
+      }
 
   module _ (k : ℕ) (xs ys : List ℕ) (count : ℕ) (G : Gathered q f g k xs ys count) where
     pub gathered-skip : q k ≡ false → Gathered q f g (k + 1) xs ys count
     gathered-skip e =
         record {
+          first-wide = G .first-wide;
+          second-wide = G .second-wide;
           ranked = rw (add-one k) (G .ranked ∙ sym (rank-failed q k e));
           first = below-more _ k (G .first) (λ i. true-or-false _ i e);
           second = below-more _ k (G .second) (λ i. true-or-false _ i e);
         }
 
-    pub gathered-on : q k ≡ true → (x y : ℕ) → x ≡ f k → y ≡ g k → count < length xs → count < length ys
+    pub gathered-on : q k ≡ true → (x y : ℕ) → x ≡ f k → y ≡ g k → count < 32
         → Gathered q f g (k + 1) (set xs count x) (set ys count y) (count + 1)
-    gathered-on e x y x-is y-is room-x room-y =
+    gathered-on e x y x-is y-is room =
         record {
+          first-wide = simp length-set (G .first-wide);
+          second-wide = simp length-set (G .second-wide);
           ranked = rw (add-one k) (omega (arith, G .ranked, rank-passed q k e));
           first = below-more _ k (λ s l i. coef-set-other xs count (rank q s) x (elsewhere s l i) ∙ G .first s l i)
-              (λ i. rw (sym (G .ranked)) (coef-set-same xs count x room-x ∙ x-is));
+              (λ i. rw (sym (G .ranked)) (coef-set-same xs count x (omega (arith, G .first-wide)) ∙ x-is));
           second = below-more _ k (λ s l i. coef-set-other ys count (rank q s) y (elsewhere s l i) ∙ G .second s l i)
-              (λ i. rw (sym (G .ranked)) (coef-set-same ys count y room-y ∙ y-is));
+              (λ i. rw (sym (G .ranked)) (coef-set-same ys count y (omega (arith, G .second-wide)) ∙ y-is));
         }
       where
         elsewhere : (s : ℕ) → s < k → q s ≡ true → rank q s ≡ count → ⊥
@@ -249,30 +260,42 @@ unfoldable pub times : (ℕ → ℕ) → (ℕ → ℕ) → ℕ → ℕ
 times f g j = f j * g j
 
 pub record Weighed (p : ℕ) (W X : ℕ → ℕ) (j : ℕ) (weights products : List ℕ) (total : ℕ) : Type 0 where
+  pub weights-wide : length weights ≡ 32
+  pub products-wide : length products ≡ 32
   pub weighs : (i : ℕ) → i < j → coefIn weights i ≡ W i
   pub takes : (i : ℕ) → i < j → coefIn products i ≡ X i
   pub totalled : total ≡ sum j X
   pub below : total < p
 
 module _ (p : ℕ) (W X : ℕ → ℕ) where
-  pub weighed-start : (weights products : List ℕ) → 0 < p → Weighed p W X 0 weights products 0
+  pub weighed-start : (weights products : List ℕ) → length weights ≡ 32 → length products ≡ 32 → 0 < p → Weighed p W X 0 weights products 0
   unfolding sum
-  weighed-start weights products h =
-      record { weighs = λ i l. absurd (omega arith); takes = λ i l. absurd (omega arith); totalled = refl; below = h }
+  weighed-start weights products wide-w wide-x h =
+      record {
+        weights-wide = wide-w;
+        products-wide = wide-x;
+        weighs = λ i l. absurd (omega arith);
+        takes = λ i l. absurd (omega arith);
+        totalled = refl;
+        below = h;
+      }
 
   module _ (j : ℕ) (weights products : List ℕ) (total : ℕ) (G : Weighed p W X j weights products total) where
-    pub weighed-on : (w x : ℕ) → w ≡ W j → x ≡ X j → total + x < p → j < length weights → j < length products
+    pub weighed-on : (w x : ℕ) → w ≡ W j → x ≡ X j → total + x < p → j < 32
         → Weighed p W X (j + 1) (set weights j w) (set products j x) (total + x)
-    weighed-on w x w-is x-is h room-w room-x =
+    weighed-on w x w-is x-is h room =
         record {
-          weighs = below-more _ j (λ i l. coef-set-other weights j i w (λ z. omega arith) ∙ G .weighs i l) (coef-set-same weights j w room-w ∙ w-is);
-          takes = below-more _ j (λ i l. coef-set-other products j i x (λ z. omega arith) ∙ G .takes i l) (coef-set-same products j x room-x ∙ x-is);
+          weights-wide = simp length-set (G .weights-wide);
+          products-wide = simp length-set (G .products-wide);
+          weighs = below-more _ j (λ i l. coef-set-other weights j i w (λ z. omega arith) ∙ G .weighs i l) (coef-set-same weights j w (omega (arith, G .weights-wide)) ∙ w-is);
+          takes = below-more _ j (λ i l. coef-set-other products j i x (λ z. omega arith) ∙ G .takes i l) (coef-set-same products j x (omega (arith, G .products-wide)) ∙ x-is);
           totalled = sum-on X j total x (G .totalled) x-is;
           below = h;
         }
 
-    pub weighed-products : sum j (coefIn products) < p
-    weighed-products = omega (arith, sum-cong j (coefIn products) X (G .takes), G .totalled, G .below)
+    pub weighed-products : j ≤ 32 → p < 4294967296 → Fitting j products
+    weighed-products few small =
+        record { few = few; fits = omega (arith, sum-cong j (coefIn products) X (G .takes), G .totalled, G .below) }
 
     weighed-smaller : (x : ℕ) → sum j (smallerAt (coefIn weights) (coefIn products) x) ≡ sum j (smallerAt W X x)
     unfolding smallerAt

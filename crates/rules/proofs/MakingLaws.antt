@@ -11,9 +11,8 @@ use lib.Dec.{leb, ltb, eqb}
 use lib.ListN.{length, getD, set, take, drop, length-set, length-take, length-drop}
 use lib.Seq.{getD-take, getD-drop, getD-set-same, getD-set-other, ext-getD}
 use borrow.Author.Tests.{eq-eqb, ne-eqb, le-leb, lt-leb, lt-ltb}
-use Rattle.circuit.specs.Bytes.{u16At}
 use Rattle.circuit.specs.Circuit.{Circuit, Constraint, constraintAt, names}
-use Rattle.circuit.specs.Reader.{formIn, afterForm, constraintIn}
+use Rattle.circuit.specs.Reader.{signalsMost, constraintIn}
 use Rattle.circuit.specs.Offsets.{Offsets, partOf}
 use Rattle.circuit.specs.Call.{circuitOf, Sized}
 use Rattle.circuit.specs.declared.reader.Sizes.{Sizes}
@@ -22,21 +21,13 @@ use Rattle.laws.specs.Rules.{reduced}
 use Rattle.laws.specs.Sum.{keep}
 use Rattle.laws.proofs.Sum.{true-or-false, by-equal, by-order, keep-true, keep-le}
 use Rattle.rules.specs.View.{coefIn}
-use Rattle.rules.specs.Rows.{at, rank, involves, stands, formsOf, signalOn, formsOn, coefOn, Row, startOf, rowSize, rowOf, Rows, Roomy, Put, RowMade}
-use Rattle.rules.proofs.Ranks.{and-false, rank-zero, rank-passed, rank-failed, rank-below}
+use Rattle.rules.specs.Rows.{at, rank, involves, stands, formsOf, signalOn, formsOn, coefOn, Row, startOf, rowSize, rowOf, Rows, Roomy}
+use Rattle.rules.specs.Rows.{Reduces, Put, RowMade}
+use Rattle.rules.proofs.Ranks.{rank-zero, rank-passed, rank-failed, rank-below}
 use Rattle.rules.proofs.RowLaws.{constant-stands}
 use Rattle.rules.proofs.RoomLaws.{rows-apart, row-inside}
-use Rattle.rules.proofs.Walk.{termsFrom, names-hit, names-on}
 
 -- Which forms name a signal
-
-forms-few : (K : Constraint) (s : ℕ) → formsOf K s ≤ 7
-unfolding formsOf
-forms-few K s = omega (arith, keep-le (names (K .a) s) 1, keep-le (names (K .b) s) 2, keep-le (names (K .c) s) 4)
-
-pub few-at : (K : Constraint) (forms : List ℕ) → ((s : ℕ) → s ≤ 256 → coefIn forms s ≡ formsOf K s) → (s : ℕ) → s ≤ 256 → getD forms s 0 ≤ 7
-unfolding coefIn
-few-at K forms is s m = rw (is s m) (forms-few K s)
 
 -- what has an entry is the constant, or named by some form
 entry-stands : (K : Constraint) (s : ℕ) → stands K s ≡ (eqb s 0 || ltb 0 (formsOf K s))
@@ -51,80 +42,9 @@ entry-stands K (suc s) =
     go false false true = refl
     go false false false = refl
 
--- the bit is added to x or not, and so far it is or a term that is left names the signal, as in the whole form
-pub record Adding (x bit : ℕ) (whole left : Bool) (y : ℕ) : Type 0 where
-  pub is : y ≡ x + keep (leb bit y) bit
-  pub names : whole ≡ (leb bit y || left)
-
--- a turn over the terms of a form
-module _ (part : List ℕ) (left offset : ℕ) (some : 0 < left) (signal : ℕ) (known : signal ≡ u16At part offset) (bit : ℕ) where
-  module _ {x y : ℕ} {whole : Bool} (s : ℕ) (A : Adding x bit whole (names (termsFrom part left offset) s) y) where
-    adding-hit : s ≤ 256 → signal ≡ s → (y′ : ℕ) → y′ ≡ x + bit → Adding x bit whole (names (termsFrom part (left - 1) (offset + 6)) s) y′
-    unfolding keep
-    adding-hit m e y′ is =
-        let there : leb bit y′ ≡ true = le-leb bit y′ (omega arith) in
-        let here : true ≡ (leb signal 256 && eqb signal s) = rw (le-leb signal 256 (omega arith), eq-eqb signal s e) in
-        record { is = rw there is; names = rw there (names-hit part left offset some signal known s whole (leb bit y) true (A .names) here refl) }
-
-    adding-off : (leb signal 256 && eqb signal s) ≡ false → Adding x bit whole (names (termsFrom part (left - 1) (offset + 6)) s) y
-    adding-off f = record { is = A .is; names = names-on part left offset some signal known s whole (leb bit y) false (A .names) (sym f) refl }
-
-  module _ (forms₀ forms : List ℕ) (wide : length forms ≡ 257) (whole : ℕ → Bool)
-      (inv : (s : ℕ) → s ≤ 256 → coefIn forms₀ s < bit → Adding (coefIn forms₀ s) bit (whole s) (names (termsFrom part left offset) s) (coefIn forms s))
-    where
-      abbrev Added : List ℕ → Type 0
-      Added later = (s : ℕ) → s ≤ 256 → coefIn forms₀ s < bit
-          → Adding (coefIn forms₀ s) bit (whole s) (names (termsFrom part (left - 1) (offset + 6)) s) (coefIn later s)
-
-      other : (s : ℕ) → (signal ≡ s → ⊥) → (leb signal 256 && eqb signal s) ≡ false
-      other s d = rw (ne-eqb signal s d) (and-false (leb signal 256))
-
-      -- v has the bit
-      pub added-at : (v : ℕ) → (getD forms signal 0 < bit → v ≡ getD forms signal 0 + bit) × (bit ≤ getD forms signal 0 → v ≡ getD forms signal 0)
-          → signal < length forms → Added (set forms signal v)
-      unfolding coefIn keep
-      added-at v is-v h s m low =
-          let A = inv s m low in
-          by-equal signal s
-          (λ e.
-          let y = getD forms s 0 in
-          let g : (y < bit → v ≡ y + bit) × (bit ≤ y → v ≡ y) = rw e at is-v in
-          let here : getD (set forms signal v) s 0 ≡ v = ap (λ (u : ℕ). getD (set forms signal v) u 0) (sym e) ∙ getD-set-same forms signal v 0 h in
-          adding-hit s A m e _
-          (by-order y bit
-          (λ l. omega (arith, here, g .0 l, rw (lt-leb bit y l) at (A .is)))
-          (λ l. omega (arith, here, g .1 l, rw (le-leb bit y l) at (A .is)))))
-          (λ d. rw (getD-set-other forms signal s v 0 (λ (e : s ≡ signal). d (sym e))) (adding-off s A (other s d)))
-
-      pub added-none : length forms ≤ signal → Added forms
-      added-none h s m low = adding-off s (inv s m low) (rw (lt-leb signal 256 (omega arith)))
-
-pub adding-start : {x bit : ℕ} {whole left : Bool} → x < bit → whole ≡ left → Adding x bit whole left x
-unfolding keep
-adding-start {x} {bit} l e = let none = lt-leb bit x l in record { is = rw none (omega arith); names = rw none e }
-
-pub adding-end : {x bit y : ℕ} {whole left : Bool} → Adding x bit whole left y → whole ≡ leb bit y → y ≡ x + keep whole bit
-adding-end {x} {bit} A e = A .is ∙ ap (λ (b : Bool). x + keep b bit) (sym e)
-
--- the three forms one after the other, from nothing
-pub all-forms : (part b c : List ℕ) → b ≡ afterForm part → c ≡ afterForm b → (f₀ f₁ f₂ f₃ : List ℕ) → ((s : ℕ) → coefIn f₀ s ≡ 0)
-    → ((s : ℕ) → s ≤ 256 → coefIn f₀ s < 1 → coefIn f₁ s ≡ coefIn f₀ s + keep (names (formIn part) s) 1)
-    → ((s : ℕ) → s ≤ 256 → coefIn f₁ s < 2 → coefIn f₂ s ≡ coefIn f₁ s + keep (names (formIn b) s) 2)
-    → ((s : ℕ) → s ≤ 256 → coefIn f₂ s < 4 → coefIn f₃ s ≡ coefIn f₂ s + keep (names (formIn c) s) 4)
-    → (s : ℕ) → s ≤ 256 → coefIn f₃ s ≡ formsOf (constraintIn part) s
-unfolding formsOf constraintIn
-all-forms part b c is-b is-c f₀ f₁ f₂ f₃ none A B C s m =
-    let a = A s m (omega (arith, none s)) in
-    let few = keep-le (names (formIn part) s) 1 in
-    let b-is = B s m (omega (arith, none s)) in
-    let few′ = keep-le (names (formIn b) s) 2 in
-    let c-is = C s m (omega (arith, none s)) in
-    let all : coefIn f₃ s ≡ keep (names (formIn part) s) 1 + keep (names (formIn b) s) 2 + keep (names (formIn c) s) 4 = omega (arith, none s) in
-    all ∙ rw (is-c, is-b) refl
-
 -- Entries put
 
-pub put-start : (p : ℕ) (K : Constraint) (start : ℕ) (rows : List ℕ) → Put p 0 K start start rows rows
+put-start : (p : ℕ) (K : Constraint) (start : ℕ) (rows : List ℕ) → Put p 0 K start start rows rows
 put-start p K start rows =
     record {
       ends = omega (arith, rank-zero (stands K));
@@ -188,29 +108,54 @@ module _ {p s : ℕ} {K : Constraint} {start end : ℕ} {rows₀ rows : List ℕ
               o;
         }
 
+-- the entries of the signals below s are put, if there is room for all
+pub record Putting (p n : ℕ) (K : Constraint) (start : ℕ) (rows₀ : List ℕ) (s end : ℕ) (rows : List ℕ) : Type 0 where
+  pub upto : s ≤ n + 1
+  pub near : end ≤ start + 2 * s
+  pub sized : length rows ≡ length rows₀
+  pub put : 1 < p → start + 2 * rank (stands K) (suc n) ≤ length rows₀ → Put p s K start end rows₀ rows
+
+pub putting-start : (p n : ℕ) (K : Constraint) (start : ℕ) (rows : List ℕ) → Putting p n K start rows 0 start rows
+putting-start p n K start rows =
+    record { upto = omega arith; near = omega arith; sized = refl; put = λ above room. put-start p K start rows }
+
 -- the turns of the code, which puts nothing where there is no room
-module _ (p n : ℕ) (K : Constraint) (start : ℕ) (rows₀ : List ℕ) (forms form : List ℕ) (small : n ≤ 256)
-    (is-forms : (s : ℕ) → s ≤ 256 → coefIn forms s ≡ formsOf K s) (is-form : (s : ℕ) → coefIn form s ≡ keep (ltb 1 p) (reduced p K s)) where
-  abbrev Puts : ℕ → ℕ → List ℕ → Type 0
-  Puts s end rows = 1 < p → start + 2 * rank (stands K) (suc n) ≤ length rows₀ → Put p s K start end rows₀ rows
+module _ {p n : ℕ} {K : Constraint} {start : ℕ} {rows₀ coefs forms : List ℕ} (small : n ≤ signalsMost) (made : 1 < p → Reduces p K coefs forms)
+    {s end : ℕ} {rows : List ℕ} (P : Putting p n K start rows₀ s end rows) (l : s ≤ n) {b : Bool} (told : b ≡ (eqb s 0 || ltb 0 (getD forms s 0))) where
+  tested : 1 < p → stands K s ≡ b
+  unfolding coefIn
+  tested h = entry-stands K s ∙ ap (λ (x : ℕ). eqb s 0 || ltb 0 x) (sym (made h .named s (omega arith))) ∙ sym told
 
-  module _ (s : ℕ) (l : s ≤ n) (end : ℕ) (rows : List ℕ) (P : Puts s end rows) {b : Bool} (told : b ≡ (eqb s 0 || ltb 0 (getD forms s 0))) where
-    tested : stands K s ≡ b
-    unfolding coefIn
-    tested = entry-stands K s ∙ ap (λ (x : ℕ). eqb s 0 || ltb 0 x) (sym (is-forms s (omega arith))) ∙ sym told
+  pub puts-one : b ≡ true → end + 1 < length rows → (v : ℕ) → v ≡ 512 * getD forms s 0 + s
+      → Putting p n K start rows₀ (s + 1) (end + 2) (set (set rows end v) (end + 1) (getD coefs s 0))
+  unfolding coefIn
+  puts-one e h v is-v =
+      record {
+        upto = omega arith;
+        near = omega (arith, P .near);
+        sized = simp length-set (P .sized);
+        put = λ above room.
+            put-one (P .put above room) (tested above ∙ e) v _ (is-v ∙ ap (λ (x : ℕ). 512 * x + s) (made above .named s (omega arith)))
+            (made above .coefficient s (omega arith)) h;
+      }
 
-    pub puts-one : b ≡ true → end + 1 < length rows
-        → Puts (s + 1) (end + 2) (set (set rows end (512 * getD forms s 0 + s)) (end + 1) (getD form s 0))
-    unfolding coefIn
-    puts-one e h above room =
-        put-one (P above room) (tested ∙ e) _ _ (ap (λ (x : ℕ). 512 * x + s) (is-forms s (omega arith)))
-        (is-form s ∙ keep-true (ltb 1 p) _ (lt-ltb 1 p above)) h
+  pub puts-full : b ≡ true → length rows ≤ end + 1 → Putting p n K start rows₀ (s + 1) end rows
+  puts-full e h =
+      record {
+        upto = omega arith;
+        near = omega (arith, P .near);
+        sized = P .sized;
+        put = λ above room. absurd (omega (arith, P .sized, put-room (P .put above room) (tested above ∙ e) n l (omega (arith, P .sized))));
+      }
 
-    pub puts-full : b ≡ true → length rows ≡ length rows₀ → length rows ≤ end + 1 → Puts (s + 1) end rows
-    puts-full e z h above room = absurd (omega (arith, put-room (P above room) (tested ∙ e) n l (omega arith)))
-
-    pub puts-on : b ≡ false → Puts (s + 1) end rows
-    puts-on e above room = put-on (P above room) (tested ∙ e)
+  pub puts-on : b ≡ false → Putting p n K start rows₀ (s + 1) end rows
+  puts-on e =
+      record {
+        upto = omega arith;
+        near = omega (arith, P .near);
+        sized = P .sized;
+        put = λ above room. put-on (P .put above room) (tested above ∙ e);
+      }
 
 -- Cuts
 

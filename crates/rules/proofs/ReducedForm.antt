@@ -1,76 +1,156 @@
--- The reduced form, made by adding multiples of the three forms: its coefficients are those of the definition.
+-- The reduced form, made by adding multiples of the three forms: its coefficients are those of the definition, and each signal has the forms that
+-- name it.
 use Prim.Native.Nat.{ℕ, zero, suc, _+_, _-_, _*_, _%_, _≤_, _<_}
 use mathlib.Core.Path.{_≡_, refl, sym, ap, _∙_}
-use mathlib.Core.List.{List, [], _∷_}
-use native.Mathlib.Nat.{mod-lt, mod-mod, mod-add-mod, mod-eq-of-lt, zero-mod, mul-zero, add-zero, zero-add}
+use mathlib.Core.Bool.{Bool, true, false, _&&_, _||_}
+use mathlib.Core.List.{List, []}
+use native.Mathlib.Nat.{mod-lt, mod-mod, mod-add-mod, mod-eq-of-lt}
 use native.Mathlib.Omega.{arith}
-use lib.Dec.{ltb}
+use lib.Dec.{leb, eqb}
 use lib.ListN.{length, set, length-set}
-use borrow.Author.Count.{below-more}
-use borrow.Author.Tests.{eq-eqb, ne-eqb, lt-ltb, le-ltb}
+use borrow.Author.Tests.{eq-eqb, ne-eqb, le-leb, lt-leb}
 use Rattle.field.specs.Residue.{Congruent, opposite}
 use Rattle.field.proofs.Residue.{congruent-multiples, congruent-refl, congruent-sym, congruent-trans, congruent-plus, congruent-times}
 use Rattle.field.proofs.Residue.{congruent-mod, congruent-shift, opposite-only, opposite-plus}
-use Rattle.circuit.specs.Circuit.{Term, Form, coef}
+use Rattle.circuit.specs.Bytes.{byteAt, u16At, u32At}
+use Rattle.circuit.specs.Circuit.{Form, coef, names}
 use Rattle.circuit.specs.Reader.{signalsMost, afterForm, formIn, constraintIn}
 use Rattle.laws.specs.Sum.{keep}
 use Rattle.laws.specs.Rules.{constant, reduced}
-use Rattle.laws.proofs.Sum.{by-equal, by-order, keep-true, keep-false}
+use Rattle.laws.proofs.Sum.{by-equal, by-order, or-false, keep-le}
 use Rattle.rules.specs.View.{coefIn}
-use Rattle.rules.specs.Steps.{added}
-use Rattle.rules.proofs.ViewLaws.{coef-past, coef-set-same, coef-set-other}
-use Rattle.rules.proofs.Walk.{form-coef-beyond}
+use Rattle.rules.specs.Rows.{formsOf, Addable, FormAdded, Reduces}
+use Rattle.rules.proofs.Ranks.{and-false}
+use Rattle.rules.proofs.ViewLaws.{coef-set-same, coef-set-other}
+use Rattle.rules.proofs.Walk.{termsFrom, form-start, terms-end, coef-hit, coef-on, names-hit, names-on}
 
--- A form cleared
+-- A form added by a walk over its terms
 
-pub cleared-on : (form : List ℕ) (s : ℕ) → s < length form → ((u : ℕ) → u < s → coefIn form u ≡ 0)
-    → (u : ℕ) → u < s + 1 → coefIn (set form s 0) u ≡ 0
-cleared-on form s h before =
-    below-more _ s (λ u l. coef-set-other form s u 0 (λ (e : u ≡ s). omega arith) ∙ before u l) (coef-set-same form s 0 h)
+-- what a walk has made of a signal's coefficient x₀ and of the forms f₀ that name it, and what the terms that are left add to it
+pub record Adding (p k bit : ℕ) (F rest : Form) (s x₀ f₀ x f : ℕ) : Type 0 where
+  pub sum : x₀ < p → (x₀ + k * coef F s) % p ≡ (x + k * coef rest s) % p
+  pub below : x₀ < p → x < p
+  pub bit-added : f₀ < bit → f ≡ f₀ + keep (leb bit f) bit
+  pub bit-left : f₀ < bit → names F s ≡ (leb bit f || names rest s)
 
-pub cleared-end : (form : List ℕ) (s : ℕ) → length form ≤ s → ((u : ℕ) → u < s → coefIn form u ≡ 0) → (u : ℕ) → coefIn form u ≡ 0
-cleared-end form s h before u = by-order u s (before u) (λ l. coef-past form u (omega arith))
+pub adding-start : (p k bit : ℕ) (F rest : Form) → F ≡ rest → (s x f : ℕ) → Adding p k bit F rest s x f x f
+unfolding keep
+adding-start p k bit F rest e s x f =
+    record {
+      sum = λ l. ap (λ (G : Form). (x + k * coef G s) % p) e;
+      below = λ l. l;
+      bit-added = λ l. rw (lt-leb bit f l) (omega arith);
+      bit-left = λ l. rw (lt-leb bit f l) (ap (λ (G : Form). names G s) e);
+    }
 
--- A form added
+-- a turn
+module _ (part : List ℕ) (left offset : ℕ) (some : 0 < left) (signal : ℕ) (known : signal ≡ u16At part offset) (p k bit : ℕ) where
+  abbrev next : Form
+  next = termsFrom part (left - 1) (offset + 6)
 
-pub added-length : (p k : ℕ) (f : Form) (acc : List ℕ) → length (added p k f acc) ≡ length acc
-unfolding added
-added-length p k [] acc = refl
-added-length p k (x ∷ f) acc = added-length p k f _ ∙ length-set acc (x .signal) _
+  module _ (F : Form) (s : ℕ) (low : s ≤ signalsMost) {x₀ f₀ x f : ℕ} (A : Adding p k bit F (termsFrom part left offset) s x₀ f₀ x f) where
+    adding-hit : signal ≡ s → (v : ℕ) → v ≡ u32At part (offset + 2) → (x′ : ℕ) → (x′ ≡ (x + k * v) % p) × (x′ < p)
+        → (f′ : ℕ) → (f < bit → f′ ≡ f + bit) × (bit ≤ f → f′ ≡ f) → Adding p k bit F next s x₀ f₀ x′ f′
+    unfolding keep
+    adding-hit e v is-v x′ is-x f′ is-f =
+        record {
+          sum = λ l.
+              let turned : coef (termsFrom part left offset) s ≡ v + coef next s =
+              omega (arith, coef-hit part left offset some signal known s low _ 0 refl e v is-v) in
+              let apart : x + k * (v + coef next s) ≡ x + k * v + k * coef next s = omega arith in
+              A .sum l ∙ rw (turned, apart, is-x .0) (sym (mod-add-mod (x + k * v) p (k * coef next s)));
+          below = λ l. is-x .1;
+          bit-added = λ l. rw (there l) (omega (arith, with l));
+          bit-left = λ l. rw (there l) (names-hit part left offset some signal known s _ (leb bit f) true (A .bit-left l) here refl);
+        }
+      where
+        with : f₀ < bit → f′ ≡ f₀ + bit
+        with l =
+            by-order f bit
+            (λ g. omega (arith, is-f .0 g, rw (lt-leb bit f g) at (A .bit-added l)))
+            (λ g. omega (arith, is-f .1 g, rw (le-leb bit f g) at (A .bit-added l)))
 
--- one term added: the coefficient stays below p, and what is left to add gives the same
-module _ (p k : ℕ) (x : Term) (f : Form) (acc : List ℕ) (s : ℕ) (h : s < length acc) (l : coefIn acc s < p) where
-  one : List ℕ
-  one = set acc (x .signal) ((coefIn acc (x .signal) + k * x .coefficient) % p)
+        there : f₀ < bit → leb bit f′ ≡ true
+        there l = le-leb bit f′ (omega (arith, with l))
 
-  one-below : coefIn one s < p
-  unfolding one
-  one-below =
-      by-equal s (x .signal)
-      (λ e. rw (← e) (rw (coef-set-same acc s ((coefIn acc s + k * x .coefficient) % p) h) (mod-lt _ (omega arith))))
-      (λ d. rw (coef-set-other acc (x .signal) s ((coefIn acc (x .signal) + k * x .coefficient) % p) d) l)
+        here : true ≡ (leb signal signalsMost && eqb signal s)
+        here = rw (le-leb signal signalsMost (omega arith), eq-eqb signal s e)
 
-  one-rest : (coefIn one s + k * coef f s) % p ≡ (coefIn acc s + k * coef (x ∷ f) s) % p
-  unfolding one coef
-  one-rest =
-      by-equal (x .signal) s
-      (λ e.
-      ap (λ (n : ℕ). (n + k * coef f s) % p)
-      (ap (λ (i : ℕ). coefIn (set acc i ((coefIn acc i + k * x .coefficient) % p)) s) e ∙ coef-set-same acc s _ h)
-      ∙ mod-add-mod (coefIn acc s + k * x .coefficient) p (k * coef f s)
-      ∙ rw (eq-eqb (x .signal) s e) (ap (λ (n : ℕ). n % p) (omega arith)))
-      (λ d.
-      ap (λ (n : ℕ). (n + k * coef f s) % p) (coef-set-other acc (x .signal) s _ (λ (e : s ≡ x .signal). d (sym e)))
-      ∙ rw (ne-eqb (x .signal) s d, zero-add))
+    adding-off : (signal ≡ s → ⊥) → Adding p k bit F next s x₀ f₀ x f
+    adding-off d =
+        record {
+          sum = λ l.
+              let turned : coef (termsFrom part left offset) s ≡ coef next s =
+              omega (arith, coef-on part left offset some signal known s low _ 0 refl d) in
+              A .sum l ∙ rw turned;
+          below = A .below;
+          bit-added = A .bit-added;
+          bit-left = λ l. names-on part left offset some signal known s _ (leb bit f) false (A .bit-left l)
+              (sym (rw (ne-eqb signal s d) (and-false (leb signal signalsMost)))) refl;
+        }
 
-pub added-at : (p k : ℕ) (f : Form) (acc : List ℕ) (s : ℕ) → s < length acc → coefIn acc s < p
-    → coefIn (added p k f acc) s ≡ (coefIn acc s + k * coef f s) % p
-unfolding added one coef
-added-at p k [] acc s h l = sym (ap (λ (n : ℕ). n % p) (omega arith) ∙ mod-eq-of-lt l)
-added-at p k (x ∷ f) acc s h l =
-    added-at p k f (one p k x f acc s h l) s (rw (length-set acc (x .signal) ((coefIn acc (x .signal) + k * x .coefficient) % p)) h)
-    (one-below p k x f acc s h l)
-    ∙ one-rest p k x f acc s h l
+-- a walk over the form at the start of a part, with so many terms left from an offset on
+pub record Walking (p k bit : ℕ) (part coefs₀ forms₀ coefs forms : List ℕ) (left offset : ℕ) : Type 0 where
+  pub near : offset + 6 * left ≤ 1531
+  pub coefs-wide : length coefs ≡ 1 + signalsMost
+  pub forms-wide : length forms ≡ 1 + signalsMost
+  pub each : (s : ℕ) → s ≤ signalsMost
+      → Adding p k bit (formIn part) (termsFrom part left offset) s (coefIn coefs₀ s) (coefIn forms₀ s) (coefIn coefs s) (coefIn forms s)
+
+pub walk-start : {p k bit : ℕ} {part coefs forms : List ℕ} → Addable p bit coefs forms → (count : ℕ) → count ≡ byteAt part 0 → count < 256
+    → Walking p k bit part coefs forms coefs forms count 1
+walk-start {p} {k} {bit} {part} R count e h =
+    record {
+      near = omega arith;
+      coefs-wide = R .coefs-wide;
+      forms-wide = R .forms-wide;
+      each = λ s low. adding-start p k bit _ _ (form-start part count e) s _ _;
+    }
+
+module _ {p k bit : ℕ} {part coefs₀ forms₀ coefs forms : List ℕ} {left offset : ℕ} (W : Walking p k bit part coefs₀ forms₀ coefs forms left offset) where
+  module _ (some : 0 < left) (signal : ℕ) (known : signal ≡ u16At part offset) where
+    pub walk-at : signal < length coefs → (v : ℕ) → v ≡ u32At part (offset + 2) → (x : ℕ) → (x ≡ (coefIn coefs signal + k * v) % p) × (x < p)
+        → (f : ℕ) → (coefIn forms signal < bit → f ≡ coefIn forms signal + bit) × (bit ≤ coefIn forms signal → f ≡ coefIn forms signal)
+        → Walking p k bit part coefs₀ forms₀ (set coefs signal x) (set forms signal f) (left - 1) (offset + 6)
+    walk-at h v is-v x is-x f is-f =
+        record {
+          near = omega (arith, W .near);
+          coefs-wide = simp length-set (W .coefs-wide);
+          forms-wide = simp length-set (W .forms-wide);
+          each = λ s low.
+              by-equal signal s
+              (λ e. rw (← e)
+              (rw (coef-set-same coefs signal x h, coef-set-same forms signal f (omega (arith, W .coefs-wide, W .forms-wide)))
+              (adding-hit part left offset some signal known p k bit _ signal (omega arith) (W .each signal (omega arith)) refl v is-v x is-x f is-f)))
+              (λ d.
+              let off : s ≡ signal → ⊥ = λ e. d (sym e) in
+              rw (coef-set-other coefs signal s x off, coef-set-other forms signal s f off)
+              (adding-off part left offset some signal known p k bit _ s low (W .each s low) d));
+        }
+
+    pub walk-past : length coefs ≤ signal → Walking p k bit part coefs₀ forms₀ coefs forms (left - 1) (offset + 6)
+    walk-past h =
+        record {
+          near = omega (arith, W .near);
+          coefs-wide = W .coefs-wide;
+          forms-wide = W .forms-wide;
+          each = λ s low.
+              adding-off part left offset some signal known p k bit _ s low (W .each s low) (λ (e : signal ≡ s). omega (arith, W .coefs-wide));
+        }
+
+  -- where no terms are left
+  pub walk-end : left ≤ 0 → FormAdded p k bit (formIn part) coefs₀ forms₀ coefs forms
+  unfolding coef names
+  walk-end none =
+      record {
+        added = λ s low l. sym (each s low .sum l ∙ ap (λ (n : ℕ). n % p) (omega arith) ∙ mod-eq-of-lt (each s low .below l));
+        named = λ s low l.
+            each s low .bit-added l
+            ∙ ap (λ (b : Bool). coefIn forms₀ s + keep b bit) (sym (each s low .bit-left l ∙ or-false (leb bit (coefIn forms s))));
+      }
+    where
+      each : (s : ℕ) → s ≤ signalsMost → Adding p k bit (formIn part) [] s (coefIn coefs₀ s) (coefIn forms₀ s) (coefIn coefs s) (coefIn forms s)
+      each s low = rw (terms-end part left offset none) at (W .each s low)
 
 -- The coefficients, modulo p
 
@@ -83,13 +163,13 @@ minus p q x e = opposite-only x (omega arith) (congruent-multiples p 0 x (omega 
 
 -- three multiples added one after the other; A and B with the constants a0 and b0, C
 abbrev threeAdded : ℕ → ℕ → ℕ → ℕ → ℕ → ℕ → ℕ
-threeAdded p a0 b0 a b c = (((0 + a0 % p * b) % p + b0 % p * a) % p + (p - 1) * c) % p
+threeAdded p a0 b0 a b c = (((0 + b0 % p * a) % p + a0 % p * b) % p + (p - 1) * c) % p
 
 three : (p a0 b0 a b c : ℕ) → 1 < p → Congruent p (threeAdded p a0 b0 a b c) (a0 * b + b0 * a + opposite p c)
 three p a0 b0 a b c h =
     congruent-trans
     (multiplied
-    (multiplied (multiplied (congruent-refl p 0) (congruent-mod p a0) (congruent-refl p b)) (congruent-mod p b0) (congruent-refl p a))
+    (multiplied (multiplied (congruent-refl p 0) (congruent-mod p b0) (congruent-refl p a)) (congruent-mod p a0) (congruent-refl p b))
     (congruent-refl p (p - 1))
     (congruent-refl p c))
     (congruent-shift _ _ (minus p (p - 1) c (omega arith)) (omega arith))
@@ -130,70 +210,39 @@ module _ (p : ℕ) (s : List ℕ) (h : 1 < p) where
   unfolding reduced constant constraintIn
   reduced-constant = sym (constant-value p _ _ _ h)
 
-  -- no signal above 256 occurs
-  pub reduced-past : (t : ℕ) → signalsMost < t → reduced p (constraintIn s) t ≡ 0
-  reduced-past zero l = absurd (omega arith)
-  reduced-past (suc t) l =
-      reduced-signal t
-      ∙ rw (form-coef-beyond s (suc t) l, form-coef-beyond (afterForm s) (suc t) l, form-coef-beyond (afterForm (afterForm s)) (suc t) l)
-      (zeros (coef (formIn s) 0 % p) (coef (formIn (afterForm s)) 0 % p))
-    where
-      zeros : (x y : ℕ) → (((0 + x * 0) % p + y * 0) % p + (p - 1) * 0) % p ≡ 0
-      zeros x y = simp (mul-zero, zero-mod, add-zero)
-
   -- the forms added one after the other, from nothing
   module _
       (b c : List ℕ) (b-is : b ≡ afterForm s) (c-is : c ≡ afterForm b)
       (a0 b0 : ℕ) (a0-is : a0 ≡ coef (formIn s) 0 % p) (b0-is : b0 ≡ coef (formIn b) 0 % p)
-      (clear : List ℕ) (cleared : (t : ℕ) → coefIn clear t ≡ 0) (first second third : List ℕ)
-      (first-is : first ≡ added p a0 (formIn b) clear)
-      (second-is : second ≡ added p b0 (formIn s) first)
-      (third-is : third ≡ added p (p - 1) (formIn c) second) where
-    third-length : length third ≡ length clear
-    third-length =
-        ap length third-is ∙ added-length p _ _ second ∙ ap length second-is ∙ added-length p _ _ first ∙ ap length first-is ∙ added-length p _ _ clear
-
-    third-at : (t : ℕ) → t < length clear
-        → coefIn third t
+      {c₀ c₁ c₂ c₃ f₀ f₁ f₂ f₃ : List ℕ} (no-coefs : (t : ℕ) → coefIn c₀ t ≡ 0) (no-forms : (t : ℕ) → coefIn f₀ t ≡ 0)
+      (first : FormAdded p b0 1 (formIn s) c₀ f₀ c₁ f₁) (second : FormAdded p a0 2 (formIn b) c₁ f₁ c₂ f₂)
+      (third : FormAdded p (p - 1) 4 (formIn c) c₂ f₂ c₃ f₃) where
+    third-at : (t : ℕ) → t ≤ signalsMost
+        → coefIn c₃ t
         ≡ threeAdded p (coef (formIn s) 0) (coef (formIn (afterForm s)) 0) (coef (formIn s) t) (coef (formIn (afterForm s)) t)
         (coef (formIn (afterForm (afterForm s))) t)
     third-at t l =
-        let e₁ : coefIn first t ≡ (0 + a0 * coef (formIn b) t) % p =
-        ap (λ (x : List ℕ). coefIn x t) first-is
-        ∙ added-at p a0 (formIn b) clear t l (rw (cleared t) (omega arith))
-        ∙ ap (λ (x : ℕ). (x + a0 * coef (formIn b) t) % p) (cleared t) in
-        let l₁ : t < length first = rw (ap length first-is ∙ added-length p _ _ clear) l in
-        let e₂ : coefIn second t ≡ (coefIn first t + b0 * coef (formIn s) t) % p =
-        ap (λ (x : List ℕ). coefIn x t) second-is ∙ added-at p b0 (formIn s) first t l₁ (rw e₁ (mod-lt _ (omega arith))) in
-        let l₂ : t < length second = rw (ap length second-is ∙ added-length p _ _ first) l₁ in
-        let e₃ : coefIn third t ≡ (coefIn second t + (p - 1) * coef (formIn c) t) % p =
-        ap (λ (x : List ℕ). coefIn x t) third-is ∙ added-at p (p - 1) (formIn c) second t l₂ (rw e₂ (mod-lt _ (omega arith))) in
+        let e₁ : coefIn c₁ t ≡ (0 + b0 * coef (formIn s) t) % p =
+        first .added t l (rw (no-coefs t) (omega arith)) ∙ ap (λ (x : ℕ). (x + b0 * coef (formIn s) t) % p) (no-coefs t) in
+        let e₂ = second .added t l (rw e₁ (mod-lt _ (omega arith))) in
+        let e₃ = third .added t l (rw e₂ (mod-lt _ (omega arith))) in
         e₃ ∙ rw (e₂, e₁, a0-is, b0-is, c-is, b-is)
 
-    pub reduced-made : (m : ℕ) → m ≡ (0 + a0 * b0) % p → (form : List ℕ) → form ≡ set third 0 ((coefIn third 0 + (p - m) * 1) % p)
-        → (t : ℕ) → t < length clear → coefIn form t ≡ keep (ltb 1 p) (reduced p (constraintIn s) t)
-    reduced-made m m-is form form-is t l = ap (λ (f : List ℕ). coefIn f t) form-is ∙ go t l ∙ sym (keep-true (ltb 1 p) _ (lt-ltb 1 p h))
+    all-forms : (t : ℕ) → t ≤ signalsMost → coefIn f₃ t ≡ formsOf (constraintIn s) t
+    unfolding formsOf constraintIn
+    all-forms t l =
+        let one = first .named t l (omega (arith, no-forms t)) in
+        let few = keep-le (names (formIn s) t) 1 in
+        let two = second .named t l (omega (arith, no-forms t)) in
+        let few′ = keep-le (names (formIn b) t) 2 in
+        let three = third .named t l (omega (arith, no-forms t)) in
+        let all : coefIn f₃ t ≡ keep (names (formIn s) t) 1 + keep (names (formIn b) t) 2 + keep (names (formIn c) t) 4 = omega (arith, no-forms t) in
+        all ∙ rw (c-is, b-is) refl
+
+    pub reduced-made : (m x : ℕ) → m ≡ (0 + a0 * b0) % p → x ≡ (coefIn c₃ 0 + (p - m) * 1) % p → 0 < length c₃
+        → Reduces p (constraintIn s) (set c₃ 0 x) f₃
+    reduced-made m x m-is x-is wide = record { coefficient = value; named = all-forms }
       where
-        r : ℕ
-        r = (coefIn third 0 + (p - m) * 1) % p
-
-        go : (t : ℕ) → t < length clear → coefIn (set third 0 r) t ≡ reduced p (constraintIn s) t
-        go zero l =
-            coef-set-same third 0 r (rw third-length l)
-            ∙ rw (m-is, third-at 0 l, a0-is, b0-is, b-is) (sym reduced-constant)
-        go (suc t) l = coef-set-other third 0 (suc t) r (λ (e : suc t ≡ 0). omega arith) ∙ third-at (suc t) l ∙ sym (reduced-signal t)
-
-pub reduced-small : (p : ℕ) (s : List ℕ) (form : List ℕ) → p ≤ 1 → (t : ℕ) → coefIn form t ≡ 0 → coefIn form t ≡ keep (ltb 1 p) (reduced p (constraintIn s) t)
-reduced-small p s form h t e = e ∙ sym (keep-false (ltb 1 p) _ (le-ltb 1 p h))
-
--- an array with room for all signals has the whole form
-pub reduced-whole : (p : ℕ) (s form : List ℕ) → signalsMost < length form
-    → ((t : ℕ) → t < length form → coefIn form t ≡ keep (ltb 1 p) (reduced p (constraintIn s) t))
-    → (t : ℕ) → coefIn form t ≡ keep (ltb 1 p) (reduced p (constraintIn s) t)
-reduced-whole p s form wide within t =
-    by-order t (length form) (within t)
-    (λ l.
-    let none : signalsMost < t = omega arith in
-    coef-past form t l
-    ∙ by-order 1 p (λ h. sym (keep-true (ltb 1 p) _ (lt-ltb 1 p h) ∙ reduced-past p s h t none))
-    (λ h. sym (keep-false (ltb 1 p) _ (le-ltb 1 p h))))
+        value : (t : ℕ) → t ≤ signalsMost → coefIn (set c₃ 0 x) t ≡ reduced p (constraintIn s) t
+        value zero l = coef-set-same c₃ 0 x wide ∙ x-is ∙ rw (m-is, third-at 0 l, a0-is, b0-is, b-is) (sym reduced-constant)
+        value (suc t) l = coef-set-other c₃ 0 (suc t) x (λ (e : suc t ≡ 0). omega arith) ∙ third-at (suc t) l ∙ sym (reduced-signal t)

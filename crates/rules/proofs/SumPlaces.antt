@@ -213,5 +213,5 @@ module _ {p n : ℕ} {K : Constraint} {row : List ℕ} (P : Prime p) (L : Row p 
         let is = sum-is found T F in
         record {
           only = λ t l m o below less. (let M = lowering t l m o below less in (M .is-target, M .is-bound));
-          held = λ l. (S .most, S .present, omega arith, omega arith, omega arith);
+          held = λ l. record { most = S .most; present = S .present; is = omega arith; below = omega arith; lower = omega arith };
         }

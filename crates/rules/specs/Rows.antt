@@ -7,10 +7,11 @@ use mathlib.Core.Bool.{Bool, true, _||_}
 use mathlib.Core.List.{List}
 use mathlib.Core.Logic.{_⊎_}
 use lib.ListN.{length, getD, take, drop}
-use Rattle.circuit.specs.Circuit.{Circuit, Constraint, constraintAt, names}
+use Rattle.circuit.specs.Circuit.{Form, Circuit, Constraint, constraintAt, coef, names}
+use Rattle.circuit.specs.Reader.{signalsMost}
 use Rattle.laws.specs.Sum.{sum, keep}
 use Rattle.laws.specs.Rules.{reduced}
-use Rattle.rules.specs.View.{boundIn, markIn}
+use Rattle.rules.specs.View.{coefIn, boundIn, markIn}
 
 -- the number at a place, 0 past the end
 unfoldable pub at : List ℕ → ℕ → ℕ
@@ -88,6 +89,23 @@ pub record Roomy (bytes m : ℕ) (ends rows : List ℕ) : Type 0 where
   pub rows-room : 2 * (bytes / 6 + m + 1) ≤ length rows
 
 -- Making rows
+
+-- what a form is added with: a modulus, a bit, and room for every signal
+pub record Addable (p bit : ℕ) (coefs forms : List ℕ) : Type 0 where
+  pub modulus : 0 < p
+  pub bit-most : bit ≤ 4
+  pub coefs-wide : length coefs ≡ 1 + signalsMost
+  pub forms-wide : length forms ≡ 1 + signalsMost
+
+-- A form has been added: its multiple by k to the coefficients, modulo p, and the bit to the forms of each signal that it names.
+pub record FormAdded (p k bit : ℕ) (F : Form) (coefs forms coefs′ forms′ : List ℕ) : Type 0 where
+  pub added : (s : ℕ) → s ≤ signalsMost → coefIn coefs s < p → coefIn coefs′ s ≡ (coefIn coefs s + k * coef F s) % p
+  pub named : (s : ℕ) → s ≤ signalsMost → coefIn forms s < bit → coefIn forms′ s ≡ coefIn forms s + keep (names F s) bit
+
+-- By signal: the coefficient in the reduced form, and the forms that name it.
+pub record Reduces (p : ℕ) (K : Constraint) (coefs forms : List ℕ) : Type 0 where
+  pub coefficient : (s : ℕ) → s ≤ signalsMost → coefIn coefs s ≡ reduced p K s
+  pub named : (s : ℕ) → s ≤ signalsMost → coefIn forms s ≡ formsOf K s
 
 -- From `start` to `end` the entries of the signals below n are put, and the other places are as before.
 pub record Put (p n : ℕ) (K : Constraint) (start end : ℕ) (rows rows′ : List ℕ) : Type 0 where

@@ -1,41 +1,38 @@
 -- What single functions of the code give: how the rules run, not what they mean.
-use Prim.Native.Nat.{ℕ, _+_, _*_, _%_, _≤_, _<_, min}
+use Prim.Native.Nat.{ℕ, _≤_, _<_, min}
 use mathlib.Core.Path.{_≡_}
-use mathlib.Core.Bool.{Bool, true, cond, not, _&&_, _||_}
-use mathlib.Core.List.{List, [], _∷_}
-use lib.Dec.{leb, ltb, eqb}
-use lib.ListN.{set}
+use mathlib.Core.Bool.{Bool, true, cond, not, _||_}
+use mathlib.Core.List.{List}
+use lib.Dec.{leb, eqb}
 use Rattle.field.specs.Residue.{opposite}
 use Rattle.field.specs.Inverse.{inverse}
-use Rattle.circuit.specs.Circuit.{Form, Constraint}
+use Rattle.circuit.specs.Circuit.{Constraint}
 use Rattle.circuit.specs.Reader.{signalsMost}
 use Rattle.laws.specs.Sum.{sum}
 use Rattle.laws.specs.Rules.{reduced, occurs, sumTerm, sumBound, sumMet}
-use Rattle.rules.specs.View.{coefIn}
 use Rattle.rules.specs.Rows.{entries, signalOn}
 
 -- a term on this signal is passed over, or leaves all signals but t marked
 unfoldable pub allowed : (ℕ → Bool) → ℕ → ℕ → Bool
 allowed m t signal = not (leb signal signalsMost) || (eqb signal 0 || eqb signal t || m signal)
 
--- where a signal stands in an array of that width
-unfoldable pub placeOf : ℕ → ℕ → ℕ
-placeOf signal width = cond (leb signal signalsMost && ltb signal width) signal width
-
--- a form's multiple, term by term, added modulo p
-unfoldable pub added : ℕ → ℕ → Form → List ℕ → List ℕ
-added p k [] acc = acc
-added p k (x ∷ f) acc = added p k f (set acc (x .signal) ((coefIn acc (x .signal) + k * x .coefficient) % p))
-
 -- the bound that the sum rule gives, p where the rule isn't met
 abbrev pub sumStep : ℕ → ℕ → Constraint → (ℕ → ℕ) → ℕ → ℕ
 sumStep p n K b t = cond (sumMet p n K b t) (sumBound p n (reduced p K) b t) p
+
+-- A sum by a form R lowers the target's bound.
+pub record SumLowers (p n : ℕ) (R b : ℕ → ℕ) (target bound : ℕ) : Type 0 where
+  pub most : target ≤ n
+  pub present : occurs R target ≡ true
+  pub is : sumBound p n R b target ≡ bound
+  pub below : bound < p
+  pub lower : bound < b target
 
 -- The one sum by a form R that lowers a bound: its target, 0 where there is none, and the bound that it gives.
 pub record OneSum (p n : ℕ) (R b : ℕ → ℕ) (target bound : ℕ) : Type 0 where
   pub only : (t : ℕ) → 1 ≤ t → t ≤ n → occurs R t ≡ true → sumBound p n R b t < p → sumBound p n R b t < b t
       → (t ≡ target) × (sumBound p n R b t ≡ bound)
-  pub held : 1 ≤ target → (target ≤ n) × (occurs R target ≡ true) × (sumBound p n R b target ≡ bound) × (bound < p) × (bound < b target)
+  pub held : 1 ≤ target → SumLowers p n R b target bound
 
 -- Sums by a row, of which R and b are coefficients and bounds by place
 

@@ -5,6 +5,7 @@ use mathlib.Core.Path.{_≡_}
 use mathlib.Core.Bool.{Bool, true, false, _&&_}
 use mathlib.Core.List.{List}
 use lib.Dec.{ltb}
+use lib.ListN.{length}
 use Rattle.field.specs.Prime.{Prime}
 use Rattle.circuit.specs.Circuit.{Constraint}
 use Rattle.laws.specs.Sum.{sum, keep, implies}
@@ -41,8 +42,10 @@ pub record Between (R : ℕ → ℕ) (m : ℕ → Bool) (k least most : ℕ) : T
   pub low : (u : ℕ) → u < k → live R m u ≡ true → least ≤ R u
   pub high : (u : ℕ) → u < k → live R m u ≡ true → R u ≤ most
 
--- what the lists hold of each index below k that passes, by rank
+-- what the lists, with room for 32, hold of each index below k that passes, by rank
 pub record Gathered (q : ℕ → Bool) (f g : ℕ → ℕ) (k : ℕ) (xs ys : List ℕ) (count : ℕ) : Type 0 where
+  pub first-wide : length xs ≡ 32
+  pub second-wide : length ys ≡ 32
   pub ranked : count ≡ rank q k
   pub first : (s : ℕ) → s < k → q s ≡ true → coefIn xs (rank q s) ≡ f s
   pub second : (s : ℕ) → s < k → q s ≡ true → coefIn ys (rank q s) ≡ g s
@@ -75,6 +78,11 @@ smaller weight product w = keep (ltb weight w) product
 -- of gathered weights and products
 unfoldable pub smallerAt : (ℕ → ℕ) → (ℕ → ℕ) → ℕ → ℕ → ℕ
 smallerAt weights products w j = smaller (weights j) (products j) w
+
+-- gathered products: few of them, and their sum fits 32 bits
+pub record Fitting (count : ℕ) (products : List ℕ) : Type 0 where
+  pub few : count ≤ 32
+  pub fits : sum count (coefIn products) < 4294967296
 
 -- s is marked, or its weight exceeds the sum of the products of smaller weights
 unfoldable pub exceeds : ℕ → (ℕ → ℕ) → (ℕ → Bool) → ℕ → (ℕ → ℕ) → (ℕ → ℕ) → ℕ → ℕ → Bool

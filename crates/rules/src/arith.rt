@@ -31,6 +31,19 @@ pub(crate) fn multiply_add(x: u32, a: u32, b: u32, p: u32) -> u32
     residue(x as u64 + a as u64 * b as u64, p)
 }
 
+// The same without a product where a is -1, as it is for the third form of a constraint.
+pub(crate) fn add_multiple(x: u32, a: u32, b: u32, p: u32) -> u32
+    requires { ⌜ 0 < p ⌝ }
+    ensures { λ r. ⌜ (r ≡ (x + a * b) % p) × (r < p) ⌝ }
+{
+    if a == p - 1 {
+        if b <= p {
+            return residue(x as u64 + (p - b) as u64, p);
+        }
+    }
+    multiply_add(x, a, b, p)
+}
+
 // a·b, which leaves room for a 32-bit number more.
 pub(crate) fn product(a: u32, b: u32) -> u64
     ensures { λ r. ⌜ (r ≡ a * b) × (r ≤ 18446744065119617025) ⌝ }

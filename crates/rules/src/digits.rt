@@ -24,7 +24,7 @@ ghost use Rattle.laws.specs.Rules as specs;
 ghost use Rattle.rules.specs.View.{coefIn, boundIn, markIn};
 ghost use Rattle.rules.specs.Rows.{entries, Row, signalOn, coefOn, markOn};
 ghost use Rattle.rules.specs.Weights.{boundsOn, Unlike, Differ, Between, Gathers, Ready, Prepared};
-ghost use Rattle.rules.specs.Weights.{smaller, smallerAt, exceeds, Tells, FirstLive};
+ghost use Rattle.rules.specs.Weights.{smaller, smallerAt, Fitting, exceeds, Tells, FirstLive};
 
 // Coefficients and bounds of the unmarked entries with a bound above 0, fewer than 32 of them. With a count of 32 no reference separates.
 pub struct Few {
@@ -244,7 +244,7 @@ fn smaller_product(weight: u32, product: u32, w: u32) -> u32
 
 // The sum of the products of weights below w, of which there are `count`. No early end, as above.
 fn smaller_sum(weights: &[u32; 32], products: &[u32; 32], count: usize, w: u32) -> u32
-    requires { ⌜ (count ≤ 32) × (sum count (coefIn (now products)) < 4294967296) ⌝ }
+    requires { ⌜ Fitting count (now products) ⌝ }
     ensures { λ r. ⌜ r ≡ sum count (smallerAt (coefIn (now (weights .entry))) (coefIn (now (products .entry))) w) ⌝ }
 {
     let mut below: u32 = 0;
@@ -267,7 +267,7 @@ fn stands_out<'a>(
     products: &'a [u32; 32],
     count: usize,
 ) -> bool
-    requires { ⌜ (i < entries (now row)) × (0 < p) × (count ≤ 32) × (sum count (coefIn (now products)) < 4294967296) ⌝ }
+    requires { ⌜ (i < entries (now row)) × (0 < p) × Fitting count (now products) ⌝ }
     ensures { λ r. ⌜ r ≡ exceeds p (coefOn (now (row .entry))) (markOn (now (marks .entry)) (now (row .entry))) scale
         (coefIn (now (weights .entry))) (coefIn (now (products .entry))) count i ⌝ }
 {
@@ -288,7 +288,7 @@ fn all_stand_out<'a>(
     products: &'a [u32; 32],
     count: usize,
 ) -> bool
-    requires { ⌜ (0 < p) × (count ≤ 32) × (sum count (coefIn (now products)) < 4294967296) ⌝ }
+    requires { ⌜ (0 < p) × Fitting count (now products) ⌝ }
     ensures { λ r. ⌜ r ≡ all (entries (now (row .entry))) (exceeds p (coefOn (now (row .entry))) (markOn (now (marks .entry)) (now (row .entry))) scale
         (coefIn (now (weights .entry))) (coefIn (now (products .entry))) count) ⌝ }
 {

@@ -3,7 +3,8 @@
 mod arith;
 pub mod constraint;
 pub mod digits;
-pub mod form;
+mod form;
+mod reduced;
 pub mod rows;
 pub mod standing;
 pub mod sums;

@@ -1,67 +1,22 @@
 // Rows of constraints, made when they are first asked for: the constant and the signals that a constraint names, each with the forms that name it
 // and its coefficient.
 
-use crate::form::reduced_form;
+use crate::reduced::reduced_form;
 use crate::view::coef_at;
-use circuit::bytes::byte_at;
-use circuit::bytes::u16_at;
 use circuit::offsets::part_of;
 use circuit::reader::Sizes;
-use circuit::reader::after_form;
 ghost use mathlib.Core.Path.{_≡_};
 ghost use mathlib.Core.Bool.{_||_};
 ghost use lib.Dec.{ltb, eqb};
 ghost use Prim.Native.Nat.{ℕ, suc, _+_, _*_, _≤_, _<_, min};
 ghost use lib.ListN.{length};
-ghost use Rattle.circuit.specs.Circuit.{names};
-ghost use Rattle.circuit.specs.Reader.{signalsMost, formIn, constraintIn};
+ghost use Rattle.circuit.specs.Reader.{signalsMost, constraintIn};
 ghost use Rattle.circuit.specs.Offsets.{Offsets};
 ghost use Rattle.circuit.specs.Call.{circuitOf, Sized};
-ghost use Rattle.laws.specs.Sum.{keep};
-ghost use Rattle.rules.specs.View.{coefIn};
-ghost use Rattle.rules.specs.Rows.{rank, stands, formsOf, startOf, rowOf, Rows, Roomy, Put, RowMade};
+ghost use Rattle.rules.specs.Rows.{rank, stands, startOf, rowOf, Rows, Roomy, Put, RowMade};
 
 // The first number of an entry is its signal and so many times the forms that name it.
 pub const FORMS: u32 = 512;
-
-// The forms with this bit, the highest so far.
-fn with_bit(forms: u8, bit: u8) -> u8
-    requires { ⌜ bit ≤ 4 ⌝ }
-    ensures { λ r. ⌜ (forms < bit → r ≡ forms + bit) × (bit ≤ forms → r ≡ forms) ⌝ }
-{
-    if forms < bit { forms + bit } else { forms }
-}
-
-// Adds the bit to each signal that the form at the start of the part names. Bits are added from the lowest on.
-fn add_form(forms: &mut [u8], part: &[u8], bit: u8)
-    requires { ⌜ (length (now forms) ≡ 1 + signalsMost) × (bit ≤ 4) ⌝ }
-    ensures { λ r. ⌜ ((s : ℕ) → s ≤ signalsMost → coefIn (now (forms .entry)) s < bit
-        → coefIn (now (forms .exit)) s ≡ coefIn (now (forms .entry)) s + keep (names (formIn (now (part .entry))) s) bit) ⌝ }
-{
-    let mut left = byte_at(part, 0);
-    let mut at: usize = 1;
-    while 0 < left {
-        let signal = u16_at(part, at) as usize;
-        if signal < forms.len() {
-            forms[signal] = with_bit(forms[signal], bit);
-        }
-        at = at + 6;
-        left = left - 1;
-    }
-}
-
-// Which forms of the constraint at the start of the part name each signal.
-fn forms_in(part: &[u8]) -> [u8; 257]
-    ensures { λ r. ⌜ ((s : ℕ) → s ≤ signalsMost → coefIn r s ≡ formsOf (constraintIn (now (part .entry))) s) ⌝ }
-{
-    let mut forms = [0u8; 257];
-    add_form(&mut forms, part, 1);
-    let b = after_form(part);
-    add_form(&mut forms, b, 2);
-    let c = after_form(b);
-    add_form(&mut forms, c, 4);
-    forms
-}
 
 // Whether a signal that these forms name has an entry; the constant has one in any case.
 fn has_entry(signal: u32, forms: u8) -> bool
@@ -70,25 +25,32 @@ fn has_entry(signal: u32, forms: u8) -> bool
     (signal == 0) | (0 < forms)
 }
 
+// The first number of an entry.
+fn head_of(signal: u32, forms: u8) -> u32
+    requires { ⌜ signal ≤ signalsMost ⌝ }
+    ensures { λ r. ⌜ r ≡ 512 * forms + signal ⌝ }
+{
+    FORMS * forms as u32 + signal
+}
+
 // Puts the row of the constraint at the start of the part, as far as there is room, and answers its end.
 fn put_row(rows: &mut [u32], start: usize, part: &[u8], n: u32, p: u32) -> usize
     requires { ⌜ (n ≤ signalsMost) × (start < 4294967296) ⌝ }
-    ensures { λ r. ⌜ (r ≤ start + 514)
+    ensures { λ r. ⌜ (r ≤ start + 2 * (n + 1))
         × (1 < p → start + 2 * rank (stands (constraintIn (now (part .entry)))) (suc n) ≤ length (now (rows .entry))
         → Put p (suc n) (constraintIn (now (part .entry))) start r (now (rows .entry)) (now (rows .exit))) ⌝ }
 {
-    let form = reduced_form(part, p);
-    let forms = forms_in(part);
+    let reduced = reduced_form(part, p);
     let mut end = start;
     let mut s: u32 = 0;
     while s <= n {
         let signal = s;
         s = s + 1;
-        let named = forms[signal as usize];
+        let named = reduced.forms[signal as usize];
         if has_entry(signal, named) {
             if end + 1 < rows.len() {
-                rows[end] = FORMS * named as u32 + signal;
-                rows[end + 1] = form[signal as usize];
+                rows[end] = head_of(signal, named);
+                rows[end + 1] = reduced.coefs[signal as usize];
                 end = end + 2;
             }
         }

@@ -73,5 +73,4 @@ module _ {p n : ℕ} {K : Constraint} (b : ℕ → ℕ) (P : Prime p) where
     pub sum-found : (t ≡ 0 → ⊥) → IsKey p n K b (keyOf x t 2)
     sum-found d =
         let H = O .held (pos-of-ne-zero d) in
-        rw (← (H .2))
-        (one-key p n K b P (lowers-sum p n K b t (pos-of-ne-zero d) (H .0) is-linear (H .1) (omega (arith, H .2, H .3)) (omega (arith, H .2, H .4))))
+        rw (← (H .is)) (one-key p n K b P (lowers-sum p n K b t (pos-of-ne-zero d) (H .most) is-linear (H .present) (omega arith) (omega arith)))

@@ -115,6 +115,14 @@ unfolding live
 live-free R m zero e = true-or-false false e refl
 live-free R m (suc s) e = not-true _ (and-right (occurs R (suc s)) _ e)
 
+record ByDigits (p n : ℕ) (K : Constraint) (b : ℕ → ℕ) (m : ℕ → Bool) (q : Kind) (u r : ℕ) : Type 0 where
+  is : q ≡ Digits
+  unmarked : Unmarked m n u
+  met : DigitsMet p n K b m u r
+  separates : separated p n (reduced p K) b m r ≡ true
+  least : 1 ≤ r
+  most : r ≤ n
+
 -- One constraint
 
 module _ {p n : ℕ} {K : Constraint} {b : ℕ → ℕ} {m : ℕ → Bool} where
@@ -139,17 +147,17 @@ module _ {p n : ℕ} {K : Constraint} {b : ℕ → ℕ} {m : ℕ → Bool} where
 
   -- linear: digits at the lowest unmarked signal with a coefficient, by the lowest reference that separates
   module _ (is-linear : linear K ≡ true) where
-    digits-only : {q : Kind} {u r : ℕ} → MarksBy p n K b m q u r
-        → (q ≡ Digits) × Unmarked m n u × DigitsMet p n K b m u r × (separated p n (reduced p K) b m r ≡ true) × (1 ≤ r) × (r ≤ n)
+    digits-only : {q : Kind} {u r : ℕ} → MarksBy p n K b m q u r → ByDigits p n K b m q u r
     digits-only {u = u} (product N e) = true-or-false _ is-linear (product-met K m u e .not-linear)
-    digits-only (digits N l h e) = (refl, N, digits-met p n K b m _ _ e, digits-separated p n K b m _ _ e, l, h)
+    digits-only (digits N l h e) =
+        record { is = refl; unmarked = N; met = digits-met p n K b m _ _ e; separates = digits-separated p n K b m _ _ e; least = l; most = h }
 
     digits-live : {q : Kind} {u r : ℕ} → MarksBy p n K b m q u r → live (reduced p K) m u ≡ true
-    digits-live M = let w = digits-only M in live-yes p K m _ (w .1 .least) (w .2 .has-target) (w .1 .free)
+    digits-live M = let w = digits-only M in live-yes p K m _ (w .unmarked .least) (w .met .has-target) (w .unmarked .free)
 
     pub digits-none : {t : ℕ} → FirstLive n (reduced p K) m t → t ≡ 0 → Known p n K b m noKey 0
     digits-none F z =
-        exact (no-step (λ q u r M. let w = digits-only M in omega (arith, F .low _ (w .1 .least) (w .1 .most) (digits-live M) .0)))
+        exact (no-step (λ q u r M. let w = digits-only M in omega (arith, F .low _ (w .unmarked .least) (w .unmarked .most) (digits-live M) .0)))
 
     pub digits-loose : {t : ℕ} → FirstLive n (reduced p K) m t → (t ≡ 0 → ⊥) → {key : ℕ} → key ≡ markKey Digits t → Known p n K b m key 0
     digits-loose {t} F d e =
@@ -159,8 +167,8 @@ module _ {p n : ℕ} {K : Constraint} {b : ℕ → ℕ} {m : ℕ → Bool} where
     loose-low : {q : Kind} {u r : ℕ} → MarksBy p n K b m q u r → key ≤ markKey q u
     loose-low {u = u} M =
         let w = digits-only (L .is-linear) M in
-        rw (L .is-key, w .0)
-        (key-order Digits (L .target) u (L .first .low u (w .1 .least) (w .1 .most) (digits-live (L .is-linear) M) .1))
+        rw (L .is-key, w .is)
+        (key-order Digits (L .target) u (L .first .low u (w .unmarked .least) (w .unmarked .most) (digits-live (L .is-linear) M) .1))
 
     module _ {reference : ℕ} (F : FirstReference p n (reduced p K) b m reference) where
       pub loose-none : reference ≡ 0 → FirstKey (MarksBy p n K b m) noKey 0
@@ -168,7 +176,7 @@ module _ {p n : ℕ} {K : Constraint} {b : ℕ → ℕ} {m : ℕ → Bool} where
           no-step
           (λ q u r M.
           let w = digits-only (L .is-linear) M in
-          true-or-false _ (w .3) (F .none z _ (w .4) (w .5) (w .2 .has-reference)))
+          true-or-false _ (w .separates) (F .none z _ (w .least) (w .most) (w .met .has-reference)))
 
       pub loose-exact : (reference ≡ 0 → ⊥) → FirstKey (MarksBy p n K b m) key reference
       unfolding digitsMet
@@ -178,7 +186,7 @@ module _ {p n : ℕ} {K : Constraint} {b : ℕ → ℕ} {m : ℕ → Bool} where
           record {
             low = λ q u r M.
                 let w = digits-only (L .is-linear) M in
-                (loose-low M, λ k. by-order r reference (λ h. true-or-false _ (w .3) (F .first r (w .4) h (w .2 .has-reference))) (λ h. h));
+                (loose-low M, λ k. by-order r reference (λ h. true-or-false _ (w .separates) (F .first r (w .least) h (w .met .has-reference))) (λ h. h));
             held = inr (record {
               kind = Digits;
               target = L .target;

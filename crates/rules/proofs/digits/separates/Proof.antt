@@ -3,7 +3,6 @@ use borrow.Author.Needs.{needs}
 use Prim.Native.Nat.{_-_, _≤_}
 use mathlib.Core.Path.{_≡_, refl, ap, _∙_}
 use native.Mathlib.Omega.{arith}
-use lib.ListN.{length, length-set}
 use Rattle.field.specs.Inverse as field
 use Rattle.rules.proofs.DigitsLaws as laws
 use Rattle.rules.proofs.RowDigits as rows
@@ -14,7 +13,7 @@ use Rattle.rules.proofs.digits.separates.Tie as tie
 
 abbrev Inv-loop : tie.InvT-loop
 Inv-loop row marks coefs ceilings count p coef scale weights₀ products₀ total₀ j₀ weights products total j =
-    (j ≤ count) × (length weights ≡ 32) × (length products ≡ 32)
+    (j ≤ count)
     × laws.Weighed p (scaled p (coefIn coefs) scale) (laws.times (scaled p (coefIn coefs) scale) (coefIn ceilings)) j weights products total
 
 abbrev μ-loop : tie.MeasureT-loop
@@ -28,7 +27,7 @@ returns c =
     let inverse = turn .before .before .inverse in
     λ bounds n K r P L D coef-is er.
     rows.ready-over L P bounds _ r er _ (inverse .ensures .0 ∙ ap (field.inverse _) coef-is) _ _ _ D _ _ _ (turn .loop-test .taken)
-    (turn .before .loop .inv .3 .totalled) (c .before .product .ensures .0 ∙ rw (weighed .weight-of .ensures .0)) (c .if1 .taken)
+    (turn .before .loop .inv .1 .totalled) (c .before .product .ensures .0 ∙ rw (weighed .weight-of .ensures .0)) (c .if1 .taken)
 
 loop-again : tie.Need-loop-again Inv-loop μ-loop
 unfolding scaled coefIn laws.times
@@ -37,10 +36,8 @@ loop-again c =
     let turn = weighed .before .before in
     let l = turn .before .loop in (
       omega arith,
-      simp length-set (l .inv .1),
-      simp length-set (l .inv .2),
-      laws.weighed-on _ _ _ _ _ _ _ (l .inv .3) _ _ (weighed .weight-of .ensures .0)
-          (c .before .product .ensures .0 ∙ rw (weighed .weight-of .ensures .0)) (c .if1 .left) (omega (arith, l .inv .1)) (omega (arith, l .inv .2)),
+      laws.weighed-on _ _ _ _ _ _ _ (l .inv .1) _ _ (weighed .weight-of .ensures .0)
+          (c .before .product .ensures .0 ∙ rw (weighed .weight-of .ensures .0)) (c .if1 .left) (omega arith),
     )
 
 all-stand-out-requires : tie.Need-all-stand-out-requires Inv-loop μ-loop
@@ -48,7 +45,7 @@ all-stand-out-requires c κs =
     let turn = c .before .before in
     let l = turn .before .loop in
     let whole : l .j ≡ turn .before .before .before .before .before .args .count = omega (arith, turn .loop-test .left) in
-    (omega arith, omega arith, omega (arith, laws.weighed-products _ _ _ _ _ _ _ (rw whole at (l .inv .3))))
+    (omega arith, laws.weighed-products _ _ _ _ _ _ _ (rw whole at (l .inv .1)) (omega arith) (omega arith))
 
 returns-2 : tie.Need-returns-2 Inv-loop μ-loop
 returns-2 c =
@@ -57,7 +54,7 @@ returns-2 c =
     let inverse = turn .before .before .inverse in
     let whole : l .j ≡ turn .before .before .before .before .before .args .count = omega (arith, turn .loop-test .left) in
     λ bounds n K r P L D coef-is er.
-    rows.ready-end L P bounds _ r er _ (inverse .ensures .0 ∙ ap (field.inverse _) coef-is) _ _ _ D _ _ _ (rw whole at (l .inv .3)) _
+    rows.ready-end L P bounds _ r er _ (inverse .ensures .0 ∙ ap (field.inverse _) coef-is) _ _ _ D _ _ _ (rw whole at (l .inv .1)) _
     (c .all-stand-out .ensures)
 
 pub separates-spec : {M : Type 1} → statement M
@@ -67,9 +64,9 @@ separates-spec =
     Inv-loop
     μ-loop
     (λ c κs. search needs)
-    (λ c. (omega arith, refl, refl, laws.weighed-start _ _ _ _ _ (omega arith)))
+    (λ c. (omega arith, laws.weighed-start _ _ _ _ _ refl refl (omega arith)))
     (λ c. search needs) (λ c. search needs) (λ c κs. search needs) (λ c. search needs) (λ c. search needs) (λ c κs. search needs)
-    (λ c. omega (arith, c .before .before .before .before .before .loop .inv .3 .below))
+    (λ c. omega (arith, c .before .before .before .before .before .loop .inv .1 .below))
     returns
     (λ c. search needs) (λ c. search needs) (λ c. omega arith) (λ c. search needs) (λ c. search needs) (λ c. search needs) (λ c. omega arith)
     loop-again

@@ -24,7 +24,7 @@ add-below c =
     let l = c .before .before .before .before in
     let room =
     laws.smaller-room _ _ _ _ _ _ _ _ _ (c .before .before .before .loop-test .taken) (l .loop .inv .1) refl refl (c .smaller-product .ensures) in
-    omega (arith, room, l .before .pre .1)
+    omega (arith, room, l .before .pre .fits)
 
 loop-again : tie.Need-loop-again Inv-loop μ-loop
 unfolding coefIn
