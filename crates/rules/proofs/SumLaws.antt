@@ -2,7 +2,7 @@
 use Prim.Native.Nat.{ℕ, zero, suc, _+_, _*_, _-_, _%_, _≤_, _<_}
 use mathlib.Core.Path.{_≡_, refl, sym, ap, _∙_}
 use mathlib.Core.Bool.{not}
-use native.Mathlib.Nat.{mod-lt, zero-mod, zero-add, sub-zero, mul-mod-right, mul-one, mul-comm}
+use native.Mathlib.Nat.{mod-lt, zero-mod, zero-add, sub-zero, mul-mod-right, mul-zero, mul-comm}
 use native.Mathlib.Decide.{ℕ-discrete}
 use native.Mathlib.Numerals.{add-one}
 use native.Mathlib.Omega.{arith}
@@ -64,6 +64,10 @@ module _ (p : ℕ) (R b : ℕ → ℕ) (t s : ℕ) where
   unfolding sumTerm
   term-absent e = ap (keep (not (eqb s t))) (none-times _ _ (weight-none p R t s e)) ∙ keep-zero (not (eqb s t))
 
+  pub term-zero : ceiling b s ≡ 0 → 0 ≡ sumTerm p R b t s
+  unfolding sumTerm
+  term-zero e = sym (rw (e, mul-zero) (keep-zero (not (eqb s t))))
+
   module _ {count scale : ℕ} (S : Scale p R count t scale) (other : s ≡ t → ⊥) (w : ℕ) (w-is : w ≡ (0 + R s * scale) % p) where
     -- the target's sign is as good as the signal's
     weight-is : w ≡ sumWeight p R t s
@@ -78,12 +82,8 @@ module _ (p : ℕ) (R b : ℕ → ℕ) (t s : ℕ) where
     unfolding sumTerm
     term-other = keep-true _ _ (ap not (ne-eqb s t other)) ∙ ap (λ (x : ℕ). x * ceiling b s) (sym weight-is)
 
-    pub term-constant : s ≡ 0 → w ≡ sumTerm p R b t s
-    unfolding ceiling
-    term-constant e = sym (term-other ∙ ap (λ (x : ℕ). w * ceiling b x) e ∙ mul-one _)
-
-    pub term-signal : (s ≡ 0 → ⊥) → (r : ℕ) → r ≡ w * b s → r ≡ sumTerm p R b t s
-    term-signal d r r-is = r-is ∙ sym (term-other ∙ ap (λ (x : ℕ). w * x) (ceiling-signal b s d))
+    pub term-is : (m r : ℕ) → m ≡ ceiling b s → r ≡ w * m → r ≡ sumTerm p R b t s
+    term-is m r m-is r-is = r-is ∙ rw m-is (sym term-other)
 
 -- The sum as far as a limit
 

@@ -15,7 +15,7 @@ ghost use Prim.Native.Nat.{ℕ, _≤_, _<_};
 ghost use Rattle.field.specs.Prime.{Prime};
 ghost use Rattle.circuit.specs.Circuit.{Constraint};
 ghost use Rattle.circuit.specs.Reader.{constraintIn};
-ghost use Rattle.laws.specs.Rules.{reduced, sumTerm};
+ghost use Rattle.laws.specs.Rules.{reduced, ceiling, sumTerm};
 ghost use Rattle.rules.specs.View.{boundIn};
 ghost use Rattle.rules.specs.Rows.{entries, Row, coefOn, boundOn};
 ghost use Rattle.rules.specs.Steps.{sumStep, OneSum, Placed, Target, Highest, Scale, Summed};
@@ -57,7 +57,18 @@ fn scale_at(row: &[u32], p: u32, e: usize) -> u32
     opposite(inverse(p, coef), p)
 }
 
-// What place i adds to the sum for place e.
+// What the weight of place i is multiplied by: the bound, 1 for the constant.
+fn ceiling_on(row: &[u32], bounds: &[u32], i: usize, p: u32) -> u32
+    requires { ⌜ i < entries (now row) ⌝ }
+    ensures { λ r. ⌜ r ≡ ceiling (boundOn p (now (bounds .entry)) (now (row .entry))) i ⌝ }
+{
+    if i == 0 {
+        return 1;
+    }
+    bound_on(row, bounds, i, p)
+}
+
+// What place i adds to the sum for place e. Where the bound is 0 the weight doesn't matter, and isn't computed.
 fn sum_term(row: &[u32], bounds: &[u32], p: u32, e: usize, scale: u32, i: usize) -> u64
     requires { ⌜ Scale p (coefOn (now row)) (entries (now row)) e scale × (i < entries (now row)) ⌝ }
     ensures { λ r. ⌜ (r ≡ sumTerm p (coefOn (now (row .entry))) (boundOn p (now (bounds .entry)) (now (row .entry))) e i)
@@ -66,11 +77,11 @@ fn sum_term(row: &[u32], bounds: &[u32], p: u32, e: usize, scale: u32, i: usize)
     if i == e {
         return 0;
     }
-    let weight = multiply_add(0, row[2 * i + 1], scale, p);
-    if i == 0 {
-        return weight as u64;
+    let most = ceiling_on(row, bounds, i, p);
+    if most == 0 {
+        return 0;
     }
-    product(weight, bound_on(row, bounds, i, p))
+    product(multiply_add(0, row[2 * i + 1], scale, p), most)
 }
 
 // Rule 4.4: the sum for the target at place e as far as a limit, which is also given where that is no target.
