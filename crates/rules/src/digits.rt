@@ -214,17 +214,24 @@ fn hopeless() -> Few
     }
 }
 
-// All that is tested once for all references.
+// Gathers, where coefficients differ.
+fn gather_differing<'a>(row: &[u32], bounds: &'a [u32], marks: &'a [bool], p: u32) -> Few
+    ensures { λ r. ⌜ Prepared p (now (row .entry)) (now (bounds .entry)) (now (marks .entry)) r ⌝ }
+{
+    if !coefs_differ(row, marks) {
+        return hopeless();
+    }
+    gather(row, bounds, marks, p)
+}
+
+// All that is tested once for all references. The sum of the bounds is for a search, which has many rows that no reference separates.
 pub fn prepare<'a>(row: &[u32], bounds: &'a [u32], marks: &'a [bool], p: u32) -> Few
     ensures { λ r. ⌜ Prepared p (now (row .entry)) (now (bounds .entry)) (now (marks .entry)) r ⌝ }
 {
     if is_crowded(row, bounds, marks, p) {
         return hopeless();
     }
-    if !coefs_differ(row, marks) {
-        return hopeless();
-    }
-    gather(row, bounds, marks, p)
+    gather_differing(row, bounds, marks, p)
 }
 
 // The weight of a coefficient, where the scale is the inverse of the reference's.
@@ -402,7 +409,7 @@ pub(crate) fn digits_met<'a>(
     if coef == 0 {
         return false;
     }
-    let few = prepare(row, bounds, marks, p);
+    let few = gather_differing(row, bounds, marks, p);
     let count = few.count;
     if 32 <= count {
         return false;

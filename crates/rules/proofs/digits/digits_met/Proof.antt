@@ -26,7 +26,7 @@ returns-5 c =
     laws.digits-by _ _ _ _ _ _ _ (sym (linear .before .is-linear .ensures) ∙ not-false _ (linear .if2 .left))
     (λ e. targeted .if3 .left (targeted .before .coef-of .ensures _ _ _ (omega (arith, P .above)) L t₁ tₙ ∙ e))
     (λ e. referred .if4 .left (referred .before .coef-of2 .ensures _ _ _ (omega (arith, P .above)) L r₁ rₙ ∙ e)) _
-    (λ er. sym (c .before .prepare .ensures .hopeless (c .if5 .taken) .fails n _ P L _ er))
+    (λ er. sym (c .before .gather-differing .ensures .hopeless (c .if5 .taken) .fails n _ P L _ er))
 
 returns-6 : tie.Need-returns-6
 returns-6 c =
@@ -39,7 +39,7 @@ returns-6 c =
     laws.digits-by _ _ _ _ _ _ _ (sym (linear .before .is-linear .ensures) ∙ not-false _ (linear .if2 .left))
     (λ e. targeted .if3 .left (targeted .before .coef-of .ensures _ _ _ (omega (arith, P .above)) L t₁ tₙ ∙ e))
     (λ e. referred .if4 .left (coef ∙ e)) _
-    (λ er. c .separates .ensures _ n _ _ P L (prepared .before .prepare .ensures .ready (omega (arith, prepared .if5 .left))) coef er)
+    (λ er. c .separates .ensures _ n _ _ P L (prepared .before .gather-differing .ensures .ready (omega (arith, prepared .if5 .left))) coef er)
 
 pub digits-met-spec : {M : Type 1} → statement M
 digits-met-spec =

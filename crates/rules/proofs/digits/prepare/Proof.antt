@@ -1,8 +1,6 @@
--- `rules::digits::prepare`: no reference separates where the bounds reach p or coefficients are alike; else what was gathered.
+-- `rules::digits::prepare`: no reference separates where the bounds reach p; else what was gathered.
 use borrow.Author.Needs.{needs}
 use mathlib.Core.Path.{refl}
-use native.Mathlib.Omega.{arith}
-use borrow.Author.Tests.{not-true, not-false}
 use Rattle.rules.proofs.RowDigits as laws
 use Rattle.rules.proofs.digits.prepare.Statement.{statement}
 use Rattle.rules.proofs.digits.prepare.Tie as tie
@@ -12,22 +10,10 @@ returns c =
     let reach = c .before .before .is-crowded .ensures (c .before .if1 .taken) in
     laws.prepared-none _ _ _ _ _ (c .hopeless .ensures) (record { fails = λ n K P L r er. laws.fails-crowded L P _ _ r er _ refl reach })
 
-returns-2 : tie.Need-returns-2
-returns-2 c =
-    let alike = c .before .before .coefs-differ .ensures .1 (not-true _ (c .before .if2 .taken)) in
-    laws.prepared-none _ _ _ _ _ (c .hopeless2 .ensures) (record { fails = λ n K P L r er. laws.fails-alike L P _ _ r er _ refl alike })
-
-returns-3 : tie.Need-returns-3
-returns-3 c =
-    laws.prepared-made _ _ _ _ _ (omega arith) (c .before .before .coefs-differ .ensures .0 (not-false _ (c .before .if2 .left))) (c .gather .ensures)
-
 pub prepare-spec : {M : Type 1} → statement M
 prepare-spec =
     tie.close
     (tie.spec
     (λ c κs. search needs) (λ c κs. search needs)
     returns
-    (λ c κs. search needs) (λ c κs. search needs)
-    returns-2
-    (λ c κs. search needs)
-    returns-3)
+    (λ c κs. search needs) (λ c. search needs))
