@@ -3,17 +3,17 @@ use Prim.Native.Nat.{ℕ, zero, suc, _+_, _*_, _-_, _%_, _≤_, _<_}
 use mathlib.Core.Path.{_≡_, refl, sym, ap, _∙_}
 use mathlib.Core.Bool.{Bool, true, false, cond, _&&_}
 use mathlib.Core.List.{List}
-use native.Mathlib.Nat.{add-zero, zero-add, mul-le-mul, mod-lt, mod-eq-of-lt, mod-add-mod, add-assoc}
+use native.Mathlib.Nat.{add-zero, zero-add, add-assoc, mul-le-mul}
 use native.Mathlib.Omega.{arith}
 use borrow.Author.Tests.{lt-ltb, le-leb, lt-leb, eq-eqb, ne-eqb, eqb-true}
 use lib.Dec.{ltb, leb, eqb}
 use lib.ListN.{length, drop, List·getD-eq-default}
 use lib.Seq.{drop-drop}
-use Rattle.field.proofs.Residue.{congruent-mod, congruent-times}
+use Rattle.field.proofs.Residue.{congruent-refl, congruent-sym, congruent-plus, congruent-mod, congruent-times}
 use Rattle.circuit.specs.Bytes.{byteAt, u16At, u32At}
 use Rattle.circuit.specs.Circuit.{Term, Form, Constraint, eval, Satisfies}
 use Rattle.circuit.specs.Reader.{termAt, termKept, termsIn, formIn, afterForm, constraintIn}
-use Rattle.circuit.specs.Run.{valuesIn, plusTerm, evalMod, holds}
+use Rattle.circuit.specs.Run.{valuesIn, termMod, evalMod, holds}
 use Rattle.circuit.proofs.ByteLaws.{u16-drop, u32-drop}
 use Rattle.circuit.proofs.ReaderLaws.{one-more}
 
@@ -46,35 +46,30 @@ unfoldable pub sumFrom : ℕ → List ℕ → (ℕ → ℕ) → ℕ → ℕ → 
 sumFrom p s v left at sum = (sum + eval (termsIn left (drop at s)) v) % p
 
 plus-kept : (b : Bool) (t : Term) (f : Form) (v : ℕ → ℕ) (sum p : ℕ)
-    → (sum + eval (termKept b t f) v) % p ≡ (cond b ((sum + t .coefficient * v (t .signal)) % p) sum + eval f v) % p
+    → (sum + eval (termKept b t f) v) % p ≡ (sum + cond b (t .coefficient * v (t .signal) % p) 0 + eval f v) % p
 unfolding eval
-plus-kept true t f v sum p = rw (mod-add-mod, add-assoc)
-plus-kept false t f v sum p = refl
+plus-kept true t f v sum p =
+    rw (← add-assoc)
+    (congruent-plus (congruent-plus (congruent-refl p sum) (congruent-sym (congruent-mod p (t .coefficient * v (t .signal))))) (congruent-refl p (eval f v))
+    .is)
+plus-kept false t f v sum p = rw add-zero
 
-sum-turn : (p : ℕ) (s : List ℕ) (v : ℕ → ℕ) (left at sum : ℕ) → sumFrom p s v (suc left) at sum ≡ sumFrom p s v left (at + 6) (plusTerm p sum s at v)
-unfolding sumFrom termsIn plusTerm
+sum-turn : (p : ℕ) (s : List ℕ) (v : ℕ → ℕ) (left at sum : ℕ) → sumFrom p s v (suc left) at sum ≡ sumFrom p s v left (at + 6) (sum + termMod p s at v)
+unfolding sumFrom termsIn termMod
 sum-turn p s v left at sum =
     plus-kept (leb (u16At (drop at s) 0) 256) (termAt (drop at s)) (termsIn left (drop 6 (drop at s))) v sum p
     ∙ simp (u16-drop, u32-drop, drop-drop, add-zero)
 
 -- the ways of one term
-pub term-added : (p sum : ℕ) (s : List ℕ) (at : ℕ) (v : ℕ → ℕ) (signal coefficient value : ℕ)
+pub term-added : (p : ℕ) (s : List ℕ) (at : ℕ) (v : ℕ → ℕ) (signal coefficient value : ℕ)
     → signal ≡ u16At s at → coefficient ≡ u32At s (at + 2) → value ≡ v signal → signal ≤ 256
-    → (sum + coefficient * value) % p ≡ plusTerm p sum s at v
-unfolding plusTerm
-term-added p sum s at v signal coefficient value e f g h = rw (f, g, e, le-leb (u16At s at) 256 (omega arith))
+    → coefficient * value % p ≡ termMod p s at v
+unfolding termMod
+term-added p s at v signal coefficient value e f g h = rw (f, g, e, le-leb (u16At s at) 256 (omega arith))
 
-pub term-passed : (p sum : ℕ) (s : List ℕ) (at : ℕ) (v : ℕ → ℕ) → 256 < u16At s at → sum ≡ plusTerm p sum s at v
-unfolding plusTerm
-term-passed p sum s at v h = rw (lt-leb (u16At s at) 256 h)
-
-pub plus-below : (p sum : ℕ) (s : List ℕ) (at : ℕ) (v : ℕ → ℕ) → sum < p → plusTerm p sum s at v < p
-unfolding plusTerm
-plus-below p sum s at v h = go (leb (u16At s at) 256)
-  where
-    go : (b : Bool) → cond b ((sum + u32At s (at + 2) * v (u16At s at)) % p) sum < p
-    go true = mod-lt _ (omega arith)
-    go false = h
+pub term-passed : (p : ℕ) (s : List ℕ) (at : ℕ) (v : ℕ → ℕ) → 256 < u16At s at → 0 ≡ termMod p s at v
+unfolding termMod
+term-passed p s at v h = rw (lt-leb (u16At s at) 256 h)
 
 -- the loop: the whole value z is the sum so far and what is left
 module _ (p : ℕ) (s : List ℕ) (v : ℕ → ℕ) where
@@ -86,13 +81,14 @@ module _ (p : ℕ) (s : List ℕ) (v : ℕ → ℕ) where
   unfolding evalMod formIn sumFrom
   sum-start count e h = rw (ne-eqb p 0 h, e, zero-add)
 
-  pub sum-again : (z left at sum : ℕ) → z ≡ sumFrom p s v left at sum → 0 < left → z ≡ sumFrom p s v (left - 1) (at + 6) (plusTerm p sum s at v)
-  sum-again z left at sum e h = e ∙ ap (λ (k : ℕ). sumFrom p s v k at sum) (one-more h) ∙ sum-turn p s v (left - 1) at sum
+  pub sum-again : (z left at sum x : ℕ) → z ≡ sumFrom p s v left at sum → 0 < left → x ≡ termMod p s at v
+      → z ≡ sumFrom p s v (left - 1) (at + 6) (sum + x)
+  sum-again z left at sum x e h is = e ∙ ap (λ (k : ℕ). sumFrom p s v k at sum) (one-more h) ∙ sum-turn p s v (left - 1) at sum ∙ rw is
 
-  pub sum-end : (z left at sum : ℕ) → z ≡ sumFrom p s v left at sum → left ≤ 0 → sum < p → sum ≡ z
+  pub sum-end : (z left at sum : ℕ) → z ≡ sumFrom p s v left at sum → left ≤ 0 → sum % p ≡ z
   unfolding sumFrom termsIn eval
-  sum-end z zero at sum e h b = sym (e ∙ rw (add-zero, mod-eq-of-lt b))
-  sum-end z (suc left) at sum e h b = absurd (omega arith)
+  sum-end z zero at sum e h = sym (e ∙ rw add-zero)
+  sum-end z (suc left) at sum e h = absurd (omega arith)
 
 -- a constraint by the values of its forms
 module _ (p : ℕ) (s : List ℕ) (v : ℕ → ℕ) where

@@ -20,6 +20,6 @@ evalMod p f v = cond (eqb p 0) 0 (eval f v % p)
 unfoldable pub holds : ℕ → Constraint → (ℕ → ℕ) → Bool
 holds p K v = ltb 0 p && eqb (eval (K .a) v * eval (K .b) v % p) (eval (K .c) v % p)
 
--- a sum modulo p and the term at an offset; a term on a signal that no circuit has is passed over
-unfoldable pub plusTerm : ℕ → ℕ → List ℕ → ℕ → (ℕ → ℕ) → ℕ
-plusTerm p sum s at v = cond (leb (u16At s at) signalsMost) ((sum + u32At s (at + 2) * v (u16At s at)) % p) sum
+-- the value modulo p of the term at an offset; 0 of a signal that no circuit has
+unfoldable pub termMod : ℕ → List ℕ → ℕ → (ℕ → ℕ) → ℕ
+termMod p s at v = cond (leb (u16At s at) signalsMost) (u32At s (at + 2) * v (u16At s at) % p) 0

@@ -1,16 +1,16 @@
 -- How a row is made: what stands in it, its entries put one after the other, and what is kept of the rows made before.
 use Prim.Native.Nat.{ℕ, zero, suc, _+_, _*_, _-_, _≤_, _<_, min}
 use mathlib.Core.Path.{_≡_, refl, sym, ap, _∙_}
-use mathlib.Core.Bool.{Bool, true, false, _&&_, _||_}
+use mathlib.Core.Bool.{Bool, true, false, _||_}
 use mathlib.Core.List.{List}
 use mathlib.Core.Logic.{_⊎_, inl, inr, ⊎-elim}
 use native.Mathlib.Numerals.{add-one}
 use native.Mathlib.Omega.{arith}
 use borrow.Author.Count.{below-more}
-use lib.Dec.{leb, ltb, eqb}
+use lib.Dec.{ltb, eqb}
 use lib.ListN.{length, getD, set, take, drop, length-set, length-take, length-drop}
 use lib.Seq.{getD-take, getD-drop, getD-set-same, getD-set-other, ext-getD}
-use borrow.Author.Tests.{eq-eqb, ne-eqb, le-leb, lt-leb, lt-ltb}
+use borrow.Author.Tests.{ne-eqb, lt-ltb}
 use Rattle.circuit.specs.Circuit.{Circuit, Constraint, constraintAt, names}
 use Rattle.circuit.specs.Reader.{signalsMost, constraintIn}
 use Rattle.circuit.specs.Offsets.{Offsets, partOf}
@@ -19,7 +19,7 @@ use Rattle.circuit.specs.declared.reader.Sizes.{Sizes}
 use Rattle.circuit.proofs.OffsetLaws.{sized-part}
 use Rattle.laws.specs.Rules.{reduced}
 use Rattle.laws.specs.Sum.{keep}
-use Rattle.laws.proofs.Sum.{true-or-false, by-equal, by-order, keep-true, keep-le}
+use Rattle.laws.proofs.Sum.{true-or-false, by-equal, by-order}
 use Rattle.rules.specs.View.{coefIn}
 use Rattle.rules.specs.Rows.{at, rank, involves, stands, formsOf, signalOn, formsOn, coefOn, Row, startOf, rowSize, rowOf, Rows, Roomy}
 use Rattle.rules.specs.Rows.{Reduces, Put, RowMade}

@@ -1,7 +1,7 @@
 -- What a step has shown where it ends: the rule is met or not, and the arrays are the next standing.
 use Prim.Native.Nat.{ℕ, zero, suc, _+_, _-_, _≤_, _<_, min}
 use mathlib.Core.Path.{_≡_, refl, sym, ap, _∙_, fun-ext}
-use mathlib.Core.Bool.{Bool, true, false, _&&_, _||_, or-true}
+use mathlib.Core.Bool.{Bool, true, false, _&&_, _||_, or-true, and-false}
 use mathlib.Core.List.{List}
 use native.Mathlib.Decide.{ℕ-discrete, decLe}
 use native.Mathlib.Omega.{arith}
@@ -19,7 +19,6 @@ use Rattle.rules.specs.Promise.{Gives, Says, isMet, boundAfter}
 use Rattle.rules.specs.declared.standing.Verdict.{Verdict}
 use Rattle.rules.specs.declared.standing.Verdict.the-variants.{Unmet, AtMost}
 use Rattle.rules.proofs.ViewLaws.{bound-within, bound-largest, mark-none, mark-set, view-lower, view-mark}
-use Rattle.rules.proofs.Ranks.{and-false}
 
 module _ {told : Bool} {before after : laws.Standing} {t : ℕ} {x : Rule} where
   gives-no : told ≡ false → after ≡ before → x .met ≡ false → Gives told before after t x

@@ -2,7 +2,6 @@
 use Prim.Native.Nat.{ℕ, zero, suc, _≤_, _<_}
 use mathlib.Core.Path.{_≡_, refl, sym, ap, _∙_}
 use mathlib.Core.Bool.{Bool, true, false, _&&_, and-assoc}
-pub use mathlib.Core.Bool.{and-false}
 use native.Mathlib.Omega.{arith}
 use Rattle.laws.specs.Sum.{sum, all}
 use Rattle.rules.specs.Rows.{one, rank}

@@ -2,7 +2,7 @@
 -- name it.
 use Prim.Native.Nat.{ℕ, zero, suc, _+_, _-_, _*_, _%_, _≤_, _<_}
 use mathlib.Core.Path.{_≡_, refl, sym, ap, _∙_}
-use mathlib.Core.Bool.{Bool, true, false, _&&_, _||_}
+use mathlib.Core.Bool.{Bool, true, false, _&&_, _||_, and-false}
 use mathlib.Core.List.{List, []}
 use native.Mathlib.Nat.{mod-lt, mod-mod, mod-add-mod, mod-eq-of-lt}
 use native.Mathlib.Omega.{arith}
@@ -20,7 +20,6 @@ use Rattle.laws.specs.Rules.{constant, reduced}
 use Rattle.laws.proofs.Sum.{by-equal, by-order, or-false, keep-le}
 use Rattle.rules.specs.View.{coefIn}
 use Rattle.rules.specs.Rows.{formsOf, Addable, FormAdded, Reduces}
-use Rattle.rules.proofs.Ranks.{and-false}
 use Rattle.rules.proofs.ViewLaws.{coef-set-same, coef-set-other}
 use Rattle.rules.proofs.Walk.{termsFrom, form-start, terms-end, coef-hit, coef-on, names-hit, names-on}
 

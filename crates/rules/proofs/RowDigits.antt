@@ -1,7 +1,7 @@
 -- The digits rule by a row: its places stand for the signals, and what the code has shown of them says whether a reference separates.
 use Prim.Native.Nat.{ℕ, suc, _+_, _*_, _%_, _≤_, _<_}
 use mathlib.Core.Path.{_≡_, refl, sym, ap, _∙_}
-use mathlib.Core.Bool.{Bool, true, false, not}
+use mathlib.Core.Bool.{Bool, true, false, not, and-false}
 use mathlib.Core.List.{List}
 use native.Mathlib.Nat.{mod-lt}
 use native.Mathlib.Omega.{arith}
@@ -20,7 +20,7 @@ use Rattle.rules.specs.Rows.{entries, rank, stands, signalOn, coefOn, bo
 use Rattle.rules.specs.Weights.{scaled, liveBound, boundsOn, positive, Differ, Gathers, Ready, Hopeless, Prepared, exceeds}
 use Rattle.rules.specs.Weights.{Tells, FirstReference, FirstLive}
 use Rattle.rules.specs.declared.digits.Few.{Few}
-use Rattle.rules.proofs.Ranks.{and-false, rank-zero, rank-below}
+use Rattle.rules.proofs.Ranks.{rank-zero, rank-below}
 use Rattle.rules.proofs.RowLaws.{uninvolved, constant-stands, entries-are, row-entry, row-first, row-rising}
 use Rattle.rules.proofs.WeightLaws.{live-least, live-some, live-absent, live-alike, weight-back, weight-some, differ-two}
 use Rattle.rules.proofs.DigitsLaws.{separatedBy, separated-by, parts, by-places, Weighed, times, counts-bound, bounds-over, many-over}

@@ -8,7 +8,7 @@ use circuit::reader::Sizes;
 ghost use mathlib.Core.Path.{_≡_};
 ghost use mathlib.Core.Bool.{_||_};
 ghost use lib.Dec.{ltb, eqb};
-ghost use Prim.Native.Nat.{ℕ, suc, _+_, _*_, _≤_, _<_, min};
+ghost use Prim.Native.Nat.{suc, _+_, _*_, _≤_, _<_, min};
 ghost use lib.ListN.{length};
 ghost use Rattle.circuit.specs.Reader.{signalsMost, constraintIn};
 ghost use Rattle.circuit.specs.Offsets.{Offsets};

@@ -5,7 +5,6 @@ use crate::text::put;
 use libc::PATH_MAX;
 use libc::STDIN_FILENO;
 ghost use lib.ListN.{length};
-ghost use mathlib.Core.Path.{_≡_};
 ghost use Rattle.io.specs.Counts.{Counts};
 ghost use Rattle.libc.specs.Io.{Ended};
 

@@ -1,7 +1,6 @@
 -- `rules::arith::add_multiple`: p - b is congruent to p - 1 times b.
 use borrow.Author.Needs.{needs}
-use Prim.Native.Nat.{_*_}
-use mathlib.Core.Path.{_≡_, _∙_}
+use mathlib.Core.Path.{_∙_}
 use native.Mathlib.Omega.{arith}
 use Rattle.rules.proofs.Products.{minus-one}
 use Rattle.rules.proofs.arith.add_multiple.Statement.{statement}
