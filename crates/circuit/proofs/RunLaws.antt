@@ -1,6 +1,6 @@
 -- Laws of forms on a run: a form's value summed term by term modulo p, and the test of a constraint against its meaning.
 use Prim.Native.Nat.{ℕ, zero, suc, _+_, _*_, _-_, _%_, _≤_, _<_}
-use mathlib.Core.Path.{_≡_, refl, sym, ap, _∙_}
+use mathlib.Core.Path.{_≡_, sym, ap, _∙_}
 use mathlib.Core.Bool.{Bool, true, false, cond, _&&_}
 use mathlib.Core.List.{List}
 use native.Mathlib.Nat.{add-zero, zero-add, add-assoc, mul-le-mul}

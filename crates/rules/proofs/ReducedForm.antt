@@ -2,9 +2,9 @@
 -- name it.
 use Prim.Native.Nat.{ℕ, zero, suc, _+_, _-_, _*_, _%_, _≤_, _<_}
 use mathlib.Core.Path.{_≡_, refl, sym, ap, _∙_}
-use mathlib.Core.Bool.{Bool, true, false, _&&_, _||_, and-false}
+use mathlib.Core.Bool.{Bool, true, false, _&&_, _||_, or-true, and-false}
 use mathlib.Core.List.{List, []}
-use native.Mathlib.Nat.{mod-lt, mod-mod, mod-add-mod, mod-eq-of-lt}
+use native.Mathlib.Nat.{zero-add, mod-lt, mod-mod, mod-add-mod, mod-eq-of-lt}
 use native.Mathlib.Omega.{arith}
 use lib.Dec.{leb, eqb}
 use lib.ListN.{length, set, length-set}
@@ -21,7 +21,7 @@ use Rattle.laws.proofs.Sum.{by-equal, by-order, or-false, keep-le}
 use Rattle.rules.specs.View.{coefIn}
 use Rattle.rules.specs.Rows.{formsOf, Addable, FormAdded, Reduces}
 use Rattle.rules.proofs.ViewLaws.{coef-set-same, coef-set-other}
-use Rattle.rules.proofs.Walk.{termsFrom, form-start, terms-end, coef-hit, coef-on, names-hit, names-on}
+use Rattle.rules.proofs.Walk.{termsFrom, form-start, terms-end, names-turn, coef-turn}
 
 -- A form added by a walk over its terms
 
@@ -55,12 +55,12 @@ module _ (part : List ℕ) (left offset : ℕ) (some : 0 < left) (signal : ℕ) 
         record {
           sum = λ l.
               let turned : coef (termsFrom part left offset) s ≡ v + coef next s =
-              omega (arith, coef-hit part left offset some signal known s low _ 0 refl e v is-v) in
+              coef-turn part left offset some signal known s ∙ rw (here, is-v) in
               let apart : x + k * (v + coef next s) ≡ x + k * v + k * coef next s = omega arith in
               A .sum l ∙ rw (turned, apart, is-x .0) (sym (mod-add-mod (x + k * v) p (k * coef next s)));
           below = λ l. is-x .1;
           bit-added = λ l. rw (there l) (omega (arith, with l));
-          bit-left = λ l. rw (there l) (names-hit part left offset some signal known s _ (leb bit f) true (A .bit-left l) here refl);
+          bit-left = λ l. rw (there l) (A .bit-left l ∙ rw (names-turn part left offset some signal known s, here) (or-true (leb bit f)));
         }
       where
         with : f₀ < bit → f′ ≡ f₀ + bit
@@ -72,21 +72,24 @@ module _ (part : List ℕ) (left offset : ℕ) (some : 0 < left) (signal : ℕ) 
         there : f₀ < bit → leb bit f′ ≡ true
         there l = le-leb bit f′ (omega (arith, with l))
 
-        here : true ≡ (leb signal signalsMost && eqb signal s)
+        here : (leb signal signalsMost && eqb signal s) ≡ true
         here = rw (le-leb signal signalsMost (omega arith), eq-eqb signal s e)
 
     adding-off : (signal ≡ s → ⊥) → Adding p k bit F next s x₀ f₀ x f
+    unfolding keep
     adding-off d =
         record {
           sum = λ l.
               let turned : coef (termsFrom part left offset) s ≡ coef next s =
-              omega (arith, coef-on part left offset some signal known s low _ 0 refl d) in
+              coef-turn part left offset some signal known s ∙ rw (elsewhere, zero-add) in
               A .sum l ∙ rw turned;
           below = A .below;
           bit-added = A .bit-added;
-          bit-left = λ l. names-on part left offset some signal known s _ (leb bit f) false (A .bit-left l)
-              (sym (rw (ne-eqb signal s d) (and-false (leb signal signalsMost)))) refl;
+          bit-left = λ l. A .bit-left l ∙ rw (names-turn part left offset some signal known s, elsewhere);
         }
+      where
+        elsewhere : (leb signal signalsMost && eqb signal s) ≡ false
+        elsewhere = rw (ne-eqb signal s d) (and-false (leb signal signalsMost))
 
 -- a walk over the form at the start of a part, with so many terms left from an offset on
 pub record Walking (p k bit : ℕ) (part coefs₀ forms₀ coefs forms : List ℕ) (left offset : ℕ) : Type 0 where

@@ -10,7 +10,7 @@ use Rattle.laws.specs.Problem.{largest}
 use Rattle.laws.specs.Standing.{put, add, lower, mark}
 use Rattle.laws.proofs.Sum.{by-equal, by-order}
 use Rattle.laws.proofs.Order.{put-same, put-other, add-same, add-other}
-use Rattle.rules.specs.View.{coefIn, boundIn, markIn, viewOf}
+use Rattle.rules.specs.View.{coefIn, boundIn, markIn, markPast, viewOf}
 
 -- past the end
 
@@ -22,15 +22,19 @@ pub bound-past : (p : ℕ) (bounds : List ℕ) (s : ℕ) → length bounds ≤ s
 unfolding boundIn
 bound-past p bounds s h = List·getD-eq-default bounds (p - 1) h
 
-pub mark-past : (marks : List Bool) (s : ℕ) → length marks ≤ s → markIn marks s ≡ false
-unfolding markIn
-mark-past marks s h = List·getD-eq-default marks false h
+pub mark-past : (past : Bool) (marks : List Bool) (s : ℕ) → length marks ≤ s → markPast past marks s ≡ past
+unfolding markPast
+mark-past past marks s h = List·getD-eq-default marks past h
 
 -- within, whatever stands past the end
 pub getD-within : {A : Type 0} (l : List A) (i : ℕ) (d e : A) → i < length l → getD l i d ≡ getD l i e
 getD-within [] i d e h = absurd (omega arith)
 getD-within (x ∷ l) zero d e h = refl
 getD-within (x ∷ l) (suc i) d e h = getD-within l i d e (omega arith)
+
+pub mark-within : (past : Bool) (marks : List Bool) (s : ℕ) → s < length marks → getD marks s false ≡ markPast past marks s
+unfolding markPast
+mark-within past marks s h = getD-within marks s false past h
 
 pub bound-within : (p : ℕ) (bounds : List ℕ) (s : ℕ) → s < length bounds → getD bounds s 0 ≡ boundIn p bounds s
 unfolding boundIn
@@ -47,8 +51,12 @@ unfolding coefIn
 coef-none n s = getD-repeated n s 0
 
 pub mark-none : (n s : ℕ) → markIn (replicate n false) s ≡ false
-unfolding markIn
+unfolding markPast
 mark-none n s = getD-repeated n s false
+
+pub mark-all : (n s : ℕ) → markPast true (replicate n true) s ≡ true
+unfolding markPast
+mark-all n s = getD-repeated n s true
 
 pub bound-largest : (p n : ℕ) → boundIn p (replicate n (p - 1)) ≡ largest p
 unfolding boundIn largest
@@ -72,7 +80,7 @@ bound-set p bounds t x h =
     (λ d. getD-set-other bounds t s x (p - 1) d ∙ sym (put-other _ t x s d)))
 
 pub mark-set : (marks : List Bool) (t : ℕ) → t < length marks → markIn (set marks t true) ≡ add (markIn marks) t
-unfolding markIn
+unfolding markPast
 mark-set marks t h =
     fun-ext (λ s.
     by-equal s t (λ e. rw e (getD-set-same marks t true false h ∙ sym (add-same _ t)))

@@ -6,15 +6,23 @@ use mathlib.Core.List.{List}
 use lib.Dec.{leb, eqb}
 use Rattle.field.specs.Residue.{opposite}
 use Rattle.field.specs.Inverse.{inverse}
-use Rattle.circuit.specs.Circuit.{Constraint}
+use Rattle.circuit.specs.Circuit.{Form, Constraint, coef, names}
 use Rattle.circuit.specs.Reader.{signalsMost}
 use Rattle.laws.specs.Sum.{sum}
-use Rattle.laws.specs.Rules.{reduced, occurs, sumTerm, sumBound, sumMet}
+use Rattle.laws.specs.Rules.{reduced, occurs, sumTerm, sumBound, sumMet, othersMarked}
 use Rattle.rules.specs.Rows.{entries, signalOn}
+use Rattle.rules.specs.declared.form.Seen.{Seen}
 
 -- a term on this signal is passed over, or leaves all signals but t marked
 unfoldable pub allowed : (ℕ → Bool) → ℕ → ℕ → Bool
 allowed m t signal = not (leb signal signalsMost) || (eqb signal 0 || eqb signal t || m signal)
+
+-- What a walk over a form says of signal t: whether the others are marked, and, if so, whether t is named, the constant and t's coefficient.
+pub record Surveyed (F : Form) (m : ℕ → Bool) (t : ℕ) (seen : Seen) : Type 0 where
+  pub others-are : seen .others ≡ othersMarked m t F
+  pub named : seen .others ≡ true → seen .names ≡ names F t
+  pub constant-is : seen .others ≡ true → seen .constant ≡ coef F 0
+  pub coef-is : seen .others ≡ true → seen .coef ≡ coef F t
 
 -- the bound that the sum rule gives, p where the rule isn't met
 abbrev pub sumStep : ℕ → ℕ → Constraint → (ℕ → ℕ) → ℕ → ℕ

@@ -11,8 +11,12 @@ coefIn form s = getD form s 0
 unfoldable pub boundIn : ℕ → List ℕ → ℕ → ℕ
 boundIn p bounds s = getD bounds s (p - 1)
 
-unfoldable pub markIn : List Bool → ℕ → Bool
-markIn marks s = getD marks s false
+-- where those past the end are marked or not
+unfoldable pub markPast : Bool → List Bool → ℕ → Bool
+markPast past marks s = getD marks s past
+
+abbrev pub markIn : List Bool → ℕ → Bool
+markIn = markPast false
 
 -- two arrays as a standing
 unfoldable pub viewOf : ℕ → List ℕ → List Bool → Standing

@@ -1,7 +1,7 @@
 // What the rules ask of one constraint, whose part of the circuit bytes starts at it: linear, root and product.
 
 use crate::arith::multiply_add;
-use crate::form::coefficient;
+use crate::form::coefficients;
 use crate::form::survey;
 use circuit::reader::after_form;
 use field::modular::inverse;
@@ -16,7 +16,7 @@ ghost use Rattle.rules.specs.View.{markIn};
 fn stands_in(part: &[u8], marks: &[bool], t: u32) -> bool
     ensures { λ r. ⌜ r ≡ (names (formIn (now (part .entry))) t && othersMarked (markIn (now (marks .entry))) t (formIn (now (part .entry)))) ⌝ }
 {
-    let seen = survey(part, marks, t);
+    let seen = survey(part, marks, false, t);
     if !seen.others {
         return false;
     }
@@ -28,7 +28,7 @@ fn stays_out(part: &[u8], marks: &[bool], t: u32) -> bool
     ensures { λ r. ⌜ r
         ≡ (not (names (formIn (now (part .entry))) t) && othersMarked (markIn (now (marks .entry))) t (formIn (now (part .entry)))) ⌝ }
 {
-    let seen = survey(part, marks, t);
+    let seen = survey(part, marks, false, t);
     if !seen.others {
         return false;
     }
@@ -40,7 +40,7 @@ fn names_none(part: &[u8]) -> bool
     ensures { λ r. ⌜ r ≡ namesNone (formIn (now (part .entry))) ⌝ }
 {
     let unmarked = [false; 1];
-    let seen = survey(part, &unmarked, 0);
+    let seen = survey(part, &unmarked, false, 0);
     seen.others
 }
 
@@ -91,9 +91,8 @@ fn root_of(part: &[u8], p: u32, t: u32) -> u32
     if p < 2 {
         return 0;
     }
-    let constant = coefficient(part, 0, p);
-    let scale = inverse(p, coefficient(part, t, p));
-    multiply_add(0, p - constant, scale, p)
+    let found = coefficients(part, t, p);
+    multiply_add(0, p - found.constant, inverse(p, found.coef), p)
 }
 
 // Rule 4.3: the larger of the two roots.

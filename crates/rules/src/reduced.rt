@@ -2,7 +2,7 @@
 
 use crate::arith::add_multiple;
 use crate::arith::multiply_add;
-use crate::form::coefficient;
+use crate::form::coefficients;
 use circuit::bytes::byte_at;
 use circuit::bytes::u16_at;
 use circuit::bytes::u32_at;
@@ -57,8 +57,8 @@ pub(crate) fn reduced_form(part: &[u8], p: u32) -> Reduced
     }
     let b = after_form(part);
     let c = after_form(b);
-    let a0 = coefficient(part, 0, p);
-    let b0 = coefficient(b, 0, p);
+    let a0 = coefficients(part, 0, p).constant;
+    let b0 = coefficients(b, 0, p).constant;
     add_form(&mut coefs, &mut forms, part, b0, 1, p);
     add_form(&mut coefs, &mut forms, b, a0, 2, p);
     add_form(&mut coefs, &mut forms, c, p - 1, 4, p);

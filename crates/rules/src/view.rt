@@ -3,7 +3,7 @@
 use crate::rows::FORMS;
 ghost use mathlib.Core.Path.{_≡_};
 ghost use Prim.Native.Nat.{_<_};
-ghost use Rattle.rules.specs.View.{coefIn, boundIn, markIn};
+ghost use Rattle.rules.specs.View.{coefIn, boundIn, markIn, markPast};
 ghost use Rattle.rules.specs.Rows.{entries, boundOn};
 
 // The coefficient of signal s.
@@ -31,9 +31,16 @@ pub(crate) fn bound_on(row: &[u32], bounds: &[u32], i: usize, p: u32) -> u32
     bound_at(bounds, (row[2 * i] % FORMS) as usize, p)
 }
 
+// The mark of signal s, where those past the end are given.
+pub(crate) fn mark_or(marks: &[bool], s: usize, past: bool) -> bool
+    ensures { λ r. ⌜ r ≡ markPast past (now (marks .entry)) s ⌝ }
+{
+    if s < marks.len() { marks[s] } else { past }
+}
+
 // The mark of signal s.
 pub fn mark_at(marks: &[bool], s: usize) -> bool
     ensures { λ r. ⌜ r ≡ markIn (now (marks .entry)) s ⌝ }
 {
-    if s < marks.len() { marks[s] } else { false }
+    mark_or(marks, s, false)
 }

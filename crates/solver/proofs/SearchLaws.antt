@@ -12,7 +12,7 @@ use Rattle.circuit.specs.Bytes.{byteAt, u16At}
 use Rattle.circuit.specs.Circuit.{Form, names}
 use Rattle.circuit.specs.Reader.{formIn}
 use Rattle.laws.proofs.Sum.{and-left, and-right, and-both, true-or-false, true-by}
-use Rattle.rules.specs.View.{markIn}
+use Rattle.rules.specs.View.{markIn, markPast}
 use Rattle.rules.proofs.ViewLaws.{mark-past}
 use Rattle.rules.proofs.Walk.{termsFrom, turn, terms-end, form-start}
 use Rattle.solver.specs.Search.{SomeUnmarked}
@@ -28,11 +28,11 @@ module _ (marks : List Bool) (s : ℕ) where
   unmarked-high d h = rw (lt-ltb 0 s (omega arith), lt-leb s 256 h)
 
   pub unmarked-read : (s ≡ 0 → ⊥) → s ≤ 256 → not (getD marks s false) ≡ unmarkedAt marks s
-  unfolding markIn
+  unfolding markPast
   unmarked-read d h = rw (lt-ltb 0 s (omega arith), le-leb s 256 h)
 
   pub unmarked-past : (s ≡ 0 → ⊥) → s ≤ 256 → length marks ≤ s → true ≡ unmarkedAt marks s
-  unmarked-past d h l = rw (lt-ltb 0 s (omega arith), le-leb s 256 h, mark-past marks s l)
+  unmarked-past d h l = rw (lt-ltb 0 s (omega arith), le-leb s 256 h, mark-past false marks s l)
 
 -- the unmarked signals of the form are those of the terms that are left
 pub record Unfound (m : ℕ → Bool) (f : Form) (part : List ℕ) (left at : ℕ) : Type 0 where

@@ -5,7 +5,7 @@ use mathlib.Core.Path.{refl}
 use native.Mathlib.Omega.{arith}
 use lib.ListN.{getD}
 use borrow.Author.Needs.{needs}
-use Rattle.rules.specs.View.{markIn}
+use Rattle.rules.specs.View.{markIn, markPast}
 use Rattle.derivation.proofs.MarkLaws as laws
 use Rattle.derivation.proofs.marks.write_marks.Statement.{statement}
 use Rattle.derivation.proofs.marks.write_marks.Tie as tie
@@ -17,7 +17,7 @@ abbrev μ-loop : tie.MeasureT-loop
 μ-loop out₀ marks n end count₀ s₀ out count s = end - s
 
 loop-again : tie.Need-loop-again Inv-loop μ-loop
-unfolding markIn
+unfolding markPast
 loop-again c =
     let l = c .before .before .before .loop in
     record {

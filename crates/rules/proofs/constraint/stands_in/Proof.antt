@@ -10,5 +10,5 @@ stands-in-spec =
     tie.close
     (tie.spec
     (λ c κs. search needs)
-    (λ c. let seen = c .before .before .survey .ensures in tests.survey-no _ _ _ _ (seen .0) (seen .1) (not-true _ (c .if1 .taken)))
-    (λ c. let seen = c .before .before .survey .ensures in tests.survey-yes _ _ _ _ (seen .0) (seen .1) (not-false _ (c .if1 .left))))
+    (λ c. let seen = c .before .before .survey .ensures in tests.survey-no _ _ _ _ (seen .others-are) (seen .named) (not-true _ (c .if1 .taken)))
+    (λ c. let seen = c .before .before .survey .ensures in tests.survey-yes _ _ _ _ (seen .others-are) (seen .named) (not-false _ (c .if1 .left))))

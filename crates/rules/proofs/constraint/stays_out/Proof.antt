@@ -14,7 +14,7 @@ stays-out-spec =
     (λ c κs. search needs)
     (λ c.
     let seen = c .before .before .survey .ensures in
-    tests.survey-no _ _ _ _ (seen .0) (λ e. ap not (seen .1 e)) (not-true _ (c .if1 .taken)))
+    tests.survey-no _ _ _ _ (seen .others-are) (λ e. ap not (seen .named e)) (not-true _ (c .if1 .taken)))
     (λ c.
     let seen = c .before .before .before .survey .ensures in
-    tests.survey-yes _ _ _ _ (seen .0) (λ e. ap not (seen .1 e)) (not-false _ (c .before .if1 .left))))
+    tests.survey-yes _ _ _ _ (seen .others-are) (λ e. ap not (seen .named e)) (not-false _ (c .before .if1 .left))))

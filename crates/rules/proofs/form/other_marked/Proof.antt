@@ -22,7 +22,7 @@ returns-4 : tie.Need-returns-4
 unfolding allowed
 returns-4 c =
     let c₃ = c .before .before .before in
-    c .mark-at .ensures ∙ sym (rw (le-leb _ _ (c₃ .if1 .left), ne-eqb _ _ (c .before .before .if2 .left), ne-eqb _ _ (c .before .if3 .left)))
+    c .mark-or .ensures ∙ sym (rw (le-leb _ _ (c₃ .if1 .left), ne-eqb _ _ (c .before .before .if2 .left), ne-eqb _ _ (c .before .if3 .left)))
 
 pub other-marked-spec : {M : Type 1} → statement M
 other-marked-spec = tie.close (tie.spec returns returns-2 returns-3 (λ c κs. search needs) returns-4)

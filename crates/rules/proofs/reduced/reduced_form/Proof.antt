@@ -16,7 +16,7 @@ returns-2 c above =
     let consts = first .before .before .before in
     let parts = consts .before .before in
     reduced-made _ _ above _ _ (parts .before .after-form .ensures) (parts .after-form2 .ensures) _ _
-    (consts .before .coefficient .ensures) (consts .coefficient2 .ensures) (coef-none 257) (coef-none 257)
+    (consts .before .coefficients .ensures .0) (consts .coefficients2 .ensures .0) (coef-none 257) (coef-none 257)
     (first .add-form .ensures) (second .add-form2 .ensures) (third .add-form3 .ensures)
     _ _ (c .before .multiply-add .ensures .0) (c .multiply-add2 .ensures .0) (search needs)
 
