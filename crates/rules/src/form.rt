@@ -64,7 +64,8 @@ fn with_term(total: u64, signal: u32, t: u32, coefficient: u32) -> u64
     }
 }
 
-// The one walk over the form at the start of the part; `past` is the mark of signals past the end of `marks`. It ends at the first other signal that isn't marked; the rest is then as far as that.
+// The one walk over the form at the start of the part; `past` is the mark of signals past the end of `marks`. It ends at the first other signal
+// that isn't marked; the rest is then as far as that.
 pub(crate) fn survey(part: &[u8], marks: &[bool], past: bool, t: u32) -> Seen
     ensures { λ r. ⌜ Surveyed (formIn (now (part .entry))) (markPast past (now (marks .entry))) t r ⌝ }
 {
@@ -98,12 +99,13 @@ pub(crate) fn survey(part: &[u8], marks: &[bool], past: bool, t: u32) -> Seen
     }
 }
 
-// Constant and coefficient of t modulo p, whatever else the form names.
+// A form as a function of one signal: its constant and that signal's coefficient modulo p.
 pub(crate) struct Affine {
     pub constant: u32,
     pub coef: u32,
 }
 
+// The form at the start of the part as a function of t, whatever else it names.
 pub(crate) fn coefficients(part: &[u8], t: u32, p: u32) -> Affine
     requires { ⌜ 0 < p ⌝ }
     ensures { λ r. ⌜ (r .constant ≡ coef (formIn (now (part .entry))) 0 % p) × (r .coef ≡ coef (formIn (now (part .entry))) t % p) ⌝ }

@@ -1,4 +1,4 @@
-// The reduced form of a constraint, and which of its forms name each signal, by one walk over each form.
+// The reduced form of a constraint, and which of its forms name each signal, by one walk over each form once the constants are known.
 
 use crate::arith::add_multiple;
 use crate::arith::multiply_add;
