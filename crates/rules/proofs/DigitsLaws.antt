@@ -287,8 +287,10 @@ module _ (p : ℕ) (W X : ℕ → ℕ) where
         record {
           weights-wide = simp length-set (G .weights-wide);
           products-wide = simp length-set (G .products-wide);
-          weighs = below-more _ j (λ i l. coef-set-other weights j i w (λ z. omega arith) ∙ G .weighs i l) (coef-set-same weights j w (omega (arith, G .weights-wide)) ∙ w-is);
-          takes = below-more _ j (λ i l. coef-set-other products j i x (λ z. omega arith) ∙ G .takes i l) (coef-set-same products j x (omega (arith, G .products-wide)) ∙ x-is);
+          weighs = below-more _ j (λ i l. coef-set-other weights j i w (λ z. omega arith) ∙ G .weighs i l)
+              (coef-set-same weights j w (omega (arith, G .weights-wide)) ∙ w-is);
+          takes = below-more _ j (λ i l. coef-set-other products j i x (λ z. omega arith) ∙ G .takes i l)
+              (coef-set-same products j x (omega (arith, G .products-wide)) ∙ x-is);
           totalled = sum-on X j total x (G .totalled) x-is;
           below = h;
         }

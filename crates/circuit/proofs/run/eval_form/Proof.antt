@@ -12,7 +12,8 @@ use Rattle.circuit.proofs.run.eval_form.Tie as tie
 
 abbrev Inv-loop : tie.InvT-loop
 Inv-loop part values p left₀ at₀ sum₀ left at sum =
-    (at + 6 * left ≤ 1531) × (sum + 4294967296 * left ≤ 4294967296 * 255) × (evalMod p (formIn part) (valuesIn values) ≡ laws.sumFrom p part (valuesIn values) left at sum)
+    (at + 6 * left ≤ 1531) × (sum + 4294967296 * left ≤ 4294967296 * 255)
+    × (evalMod p (formIn part) (valuesIn values) ≡ laws.sumFrom p part (valuesIn values) left at sum)
 
 abbrev μ-loop : tie.MeasureT-loop
 μ-loop part values p left₀ at₀ sum₀ left at sum = left

@@ -18,22 +18,22 @@ loop-again : tie.Need-loop-again Inv-loop μ-loop
 loop-again c =
     let b = c .before .before .before .before in
     let l = b .before .before .before in
-    laws.puts-one (l .before .before .before .before .pre .0) (l .before .reduced-form .ensures) (l .loop .inv) (b .before .before .loop-test .taken) (b .has-entry .ensures)
-    (c .before .before .before .if1 .taken) (c .before .before .if2 .taken) _ (c .before .head-of .ensures)
+    laws.puts-one (l .before .before .before .before .pre .0) (l .before .reduced-form .ensures) (l .loop .inv) (b .before .before .loop-test .taken)
+    (b .has-entry .ensures) (c .before .before .before .if1 .taken) (c .before .before .if2 .taken) _ (c .before .head-of .ensures)
 
 loop-again-2 : tie.Need-loop-again-2 Inv-loop μ-loop
 loop-again-2 c =
     let b = c .before .before in
     let l = b .before .before .before in
-    laws.puts-full (l .before .before .before .before .pre .0) (l .before .reduced-form .ensures) (l .loop .inv) (b .before .before .loop-test .taken) (b .has-entry .ensures)
-    (c .before .if1 .taken) (c .if2 .left)
+    laws.puts-full (l .before .before .before .before .pre .0) (l .before .reduced-form .ensures) (l .loop .inv) (b .before .before .loop-test .taken)
+    (b .has-entry .ensures) (c .before .if1 .taken) (c .if2 .left)
 
 loop-again-3 : tie.Need-loop-again-3 Inv-loop μ-loop
 loop-again-3 c =
     let b = c .before in
     let l = b .before .before .before in
-    laws.puts-on (l .before .before .before .before .pre .0) (l .before .reduced-form .ensures) (l .loop .inv) (b .before .before .loop-test .taken) (b .has-entry .ensures)
-    (c .if1 .left)
+    laws.puts-on (l .before .before .before .before .pre .0) (l .before .reduced-form .ensures) (l .loop .inv) (b .before .before .loop-test .taken)
+    (b .has-entry .ensures) (c .if1 .left)
 
 returns : tie.Need-returns Inv-loop μ-loop
 returns c =
