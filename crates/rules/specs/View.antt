@@ -11,7 +11,7 @@ coefIn form s = getD form s 0
 unfoldable pub boundIn : ℕ → List ℕ → ℕ → ℕ
 boundIn p bounds s = getD bounds s (p - 1)
 
--- where those past the end are marked or not
+-- marks, where all signals past the end are marked or none is
 unfoldable pub markPast : Bool → List Bool → ℕ → Bool
 markPast past marks s = getD marks s past
 

@@ -31,7 +31,7 @@ pub(crate) fn bound_on(row: &[u32], bounds: &[u32], i: usize, p: u32) -> u32
     bound_at(bounds, (row[2 * i] % FORMS) as usize, p)
 }
 
-// The mark of signal s, where those past the end are given.
+// The mark of signal s; `past` is that of all signals past the end.
 pub(crate) fn mark_or(marks: &[bool], s: usize, past: bool) -> bool
     ensures { λ r. ⌜ r ≡ markPast past (now (marks .entry)) s ⌝ }
 {
