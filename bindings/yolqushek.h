@@ -5,6 +5,10 @@
  * the signal q (yolqushek_signal). Memory that is lent, answer included, is written only on a result, and no further than stated.
  * Lengths are in bytes; a pointer of length 0 is not read. What is lent to one call must not overlap.
  *
+ * All calls but the first take a tag sheet right after the circuit: upper limits of signals (binary, maxbit, maxvalue), in the file format of rules 2.5 and
+ * 2.6 in docs/RULES.md. Tags on inputs are assumed: they lower the first bounds, and the inputs of a pair must obey them. A tag on any other signal is shown
+ * if the bound that is reached is at most its limit, and else it isn't. No tags are the 7 bytes of yolqushek_no_tags; no bytes at all are Refusal 26.
+ *
  * There is no heap. What each call needs of the stack is said below, as measured on x86-64 in steps of 4 kB with what a thread itself takes; it hardly
  * depends on the circuit. A thread with 256 kB of stack is enough for every call. */
 #ifndef YOLQUSHEK_H
@@ -17,7 +21,10 @@
 extern "C" {
 #endif
 
-/* The refusal's number, 1 to 25; 0 on a result. */
+/* The sheet without tags. */
+static const uint8_t yolqushek_no_tags[7] = {84, 81, 84, 1, 0, 0, 0};
+
+/* The refusal's number, 1 to 28; 0 on a result. */
 static inline uint32_t yolqushek_number(uint64_t returned) { return (uint32_t)(returned >> 32); }
 
 /* The refusal's place. */
@@ -29,17 +36,20 @@ static inline uint32_t yolqushek_signal(uint64_t returned) { return (uint32_t)re
 /* Reads a circuit: refusals 1 to 10. answer: p, n, i, o, m. Stack: 36 kB. */
 uint64_t yolqushek_read(const uint8_t *circuit, size_t circuit_length, uint64_t answer[5]);
 
-/* Judges a derivation: refusals 1 to 17. Writes n bytes to marks, 1 for marked and 0 for not. answer: how many signals are marked, and 1 for fixed and
- * 0 for open. Stack: 124 kB. */
-uint64_t yolqushek_mark(const uint8_t *circuit, size_t circuit_length, const uint8_t *derivation, size_t derivation_length, uint8_t *marks,
-                        size_t marks_length, uint64_t answer[2]);
+/* Judges a derivation: refusals 1 to 10, 26, 27 and 11 to 17, in this order. Writes n bytes to marks, 1 for marked and 0 for not. answer: how many signals
+ * are marked, 1 for fixed and 0 for open, how many tags on signals other than inputs are shown, and the sheet's entry number of the first that isn't, or 0.
+ * Stack: 124 kB. */
+uint64_t yolqushek_mark(const uint8_t *circuit, size_t circuit_length, const uint8_t *sheet, size_t sheet_length, const uint8_t *derivation,
+                        size_t derivation_length, uint8_t *marks, size_t marks_length, uint64_t answer[4]);
 
-/* Judges a pair of runs: refusals 1 to 10 and 18 to 24. Writes nothing. Stack: 40 kB. */
-uint64_t yolqushek_pair(const uint8_t *circuit, size_t circuit_length, const uint8_t *pair, size_t pair_length);
+/* Judges a pair of runs: refusals 1 to 10, 26, 27, 18 to 23, 28 and 24, in this order. Writes nothing. Stack: 40 kB. */
+uint64_t yolqushek_pair(const uint8_t *circuit, size_t circuit_length, const uint8_t *sheet, size_t sheet_length, const uint8_t *pair,
+                        size_t pair_length);
 
-/* Solves a circuit: refusals 1 to 10 and 25. Writes its derivation to output, which has 7 + 14 * n bytes at least. answer: how many signals are marked,
- * 1 for fixed and 0 for open, and the derivation's length. Stack: 164 kB, for refused circuits too. */
-uint64_t yolqushek_solve(const uint8_t *circuit, size_t circuit_length, uint8_t *output, size_t output_length, uint64_t answer[3]);
+/* Solves a circuit: refusals 1 to 10, 26, 27 and 25, in this order. Writes its derivation to output, which has 7 + 14 * n bytes at least. answer: the four
+ * numbers of yolqushek_mark, and the derivation's length. Stack: 164 kB, for refused circuits too. */
+uint64_t yolqushek_solve(const uint8_t *circuit, size_t circuit_length, const uint8_t *sheet, size_t sheet_length, uint8_t *output,
+                         size_t output_length, uint64_t answer[5]);
 
 #ifdef __cplusplus
 }

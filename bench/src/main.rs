@@ -5,6 +5,8 @@
 use std::hint::black_box;
 use std::time::Instant;
 
+use second::planted::Planted;
+use second::sheet::{write_sheet, Tag, BINARY, MAXBIT, NO_TAGS};
 use second::{wide_digits, worst};
 
 /// One row: what is timed, and the two calls.
@@ -36,13 +38,14 @@ fn reading(name: &str, circuit: &[u8]) -> Row {
 }
 
 /// Solving, and the derivation's bytes, which both find.
-fn solved(name: &str, circuit: &[u8]) -> (Row, Vec<u8>) {
+fn solved(name: &str, circuit: &[u8], sheet: &[u8]) -> (Row, Vec<u8>) {
     let (mut one, mut two) = (vec![0; longest(circuit)], vec![0; longest(circuit)]);
-    let (_, length) = yolqushek::solve(circuit, &mut one).expect("the buffer is long enough");
-    assert_eq!(second::solve(circuit, &mut two).map(|(_, _, length)| length), Ok(length));
+    let (marked, length) = yolqushek::solve(circuit, sheet, &mut one).expect("the buffer is long enough");
+    let (judgement, second_length) = second::solve(circuit, sheet, &mut two).expect("the buffer is long enough");
+    assert_eq!((marked.count as usize, marked.shown as usize, length), (judgement.count, judgement.shown, second_length));
     assert_eq!(one, two);
     let derivation = one[..length].to_vec();
-    (row(format!("solve {name}"), || yolqushek::solve(circuit, &mut one), || second::solve(circuit, &mut two)), derivation)
+    (row(format!("solve {name}"), || yolqushek::solve(circuit, sheet, &mut one), || second::solve(circuit, sheet, &mut two)), derivation)
 }
 
 fn signals(circuit: &[u8]) -> usize {
@@ -55,22 +58,35 @@ fn longest(circuit: &[u8]) -> usize {
 }
 
 /// Solving, and marking the derivation, also padded to 4,096 steps by repeating it.
-fn solving(name: &str, circuit: &[u8], rows: &mut Vec<Row>) {
-    let (row, derivation) = solved(name, circuit);
+fn solving(name: &str, circuit: &[u8], sheet: &[u8], rows: &mut Vec<Row>) {
+    let (row, derivation) = solved(name, circuit, sheet);
     rows.push(row);
-    rows.push(marking(&format!("mark {name}"), circuit, &derivation));
+    rows.push(marking(&format!("mark {name}"), circuit, sheet, &derivation));
     if derivation.len() > 7 {
-        rows.push(marking(&format!("mark {name}, 4,096 steps"), circuit, &repeated(&derivation[7..])));
+        rows.push(marking(&format!("mark {name}, 4,096 steps"), circuit, sheet, &repeated(&derivation[7..])));
     }
+}
+
+/// Sheets of 256 tags: solving and marking, where bounds fall only because of them too, and a pair whose inputs have them all.
+fn tagged(largest: &Planted, rows: &mut Vec<Row>) {
+    for worst::Tagged { name, circuit, sheet } in worst::tagged() {
+        solving(&format!("{}, 256 tags", name.replace('_', " ")), &circuit, &sheet, rows);
+    }
+    rows.push(pairing("of the largest circuit, 256 tags", &largest.circuit, &worst::obeyed_sheet(largest), &pair_file(largest)));
+    let small = second::cases::case_c(13);
+    solving("case c", &small, NO_TAGS, rows);
+    // The input is a number of 3 bits, and the bits are bits.
+    let tags = [(1, MAXBIT, 3), (2, BINARY, 0), (3, BINARY, 0), (4, BINARY, 0)].map(|(signal, kind, v)| Tag::new(signal, kind, v));
+    solving("case c, 4 tags", &small, &write_sheet(&tags), rows);
 }
 
 /// The widest digits tests: marking 4,096 steps, and solving circuits with more and more sums that nothing settles.
 fn wide_digits(rows: &mut Vec<Row>) {
     for marked in wide_digits::all_marked() {
-        rows.push(marking(&format!("mark digits on {}, 4,096 steps", marked.name), &marked.circuit, &marked.derivation));
+        rows.push(marking(&format!("mark digits on {}, 4,096 steps", marked.name), &marked.circuit, NO_TAGS, &marked.derivation));
     }
     for sums in [35, 71, wide_digits::MOST_SUMS] {
-        rows.push(solved(&format!("{sums} broken sums"), &wide_digits::broken_sums(sums)).0);
+        rows.push(solved(&format!("{sums} broken sums"), &wide_digits::broken_sums(sums), NO_TAGS).0);
     }
 }
 
@@ -81,25 +97,26 @@ fn repeated(steps: &[u8]) -> Vec<u8> {
     derivation
 }
 
-fn marking(name: &str, circuit: &[u8], derivation: &[u8]) -> Row {
+fn marking(name: &str, circuit: &[u8], sheet: &[u8], derivation: &[u8]) -> Row {
     let (mut one, mut two) = (vec![9; signals(circuit)], vec![9; signals(circuit)]);
-    assert!(yolqushek::check_derivation(circuit, derivation, &mut one).is_ok());
-    assert!(second::check_derivation(circuit, derivation, &mut two).is_ok());
+    assert!(yolqushek::check_derivation(circuit, sheet, derivation, &mut one).is_ok());
+    assert!(second::check_derivation(circuit, sheet, derivation, &mut two).is_ok());
     assert_eq!(one, two);
-    row(name, || yolqushek::check_derivation(circuit, derivation, &mut one), || second::check_derivation(circuit, derivation, &mut two))
+    row(name, || yolqushek::check_derivation(circuit, sheet, derivation, &mut one), || second::check_derivation(circuit, sheet, derivation, &mut two))
 }
 
 /// The planted runs as a pair file.
-fn pair_file(planted: &second::planted::Planted) -> Vec<u8> {
+fn pair_file(planted: &Planted) -> Vec<u8> {
     let mut pair = b"PQT\x01\x00".to_vec();
     pair.extend(planted.q.to_le_bytes());
     planted.first.iter().chain(&planted.second).for_each(|value| pair.extend(value.to_le_bytes()));
     pair
 }
 
-fn pairing(name: &str, circuit: &[u8], pair: &[u8]) -> Row {
-    assert_eq!(yolqushek::check_pair(circuit, pair).ok(), second::check_pair(circuit, pair).ok().map(u32::from));
-    row(format!("pair {name}"), || yolqushek::check_pair(circuit, pair), || second::check_pair(circuit, pair))
+fn pairing(name: &str, circuit: &[u8], sheet: &[u8], pair: &[u8]) -> Row {
+    let q = second::check_pair(circuit, sheet, pair).expect("an accepted pair");
+    assert_eq!(yolqushek::check_pair(circuit, sheet, pair), Ok(q.into()));
+    row(format!("pair {name}"), || yolqushek::check_pair(circuit, sheet, pair), || second::check_pair(circuit, sheet, pair))
 }
 
 /// How the cost of a call grows: sizes with their times, and the power of the size that the time grows by from the one before.
@@ -115,18 +132,18 @@ fn growth(name: &str, timed: &[(usize, f64)]) {
 fn all_growth() {
     let circuits: Vec<Vec<u8>> = [2, 4, 8].map(worst::numbers_behind_decoys).into();
     let mut output = vec![0; 7 + 14 * 256];
-    let mut solve = |circuit: &[u8]| shortest(|| yolqushek::solve(circuit, &mut output));
+    let mut solve = |circuit: &[u8]| shortest(|| yolqushek::solve(circuit, NO_TAGS, &mut output));
     growth("solve: bytes of the circuit", &circuits.iter().map(|circuit| (circuit.len(), solve(circuit))).collect::<Vec<_>>());
     let read = |circuit: &[u8]| shortest(|| yolqushek::read_circuit(circuit));
     growth("read: bytes of the circuit", &circuits.iter().map(|circuit| (circuit.len(), read(circuit))).collect::<Vec<_>>());
     let (circuit, mut marks) = (&circuits[2], vec![0; 256]);
-    let (_, length) = yolqushek::solve(circuit, &mut output).expect("the buffer is long enough");
+    let (_, length) = yolqushek::solve(circuit, NO_TAGS, &mut output).expect("the buffer is long enough");
     let whole = repeated(&output[7..length]);
     let mut mark = |steps: usize| {
         let mut derivation = whole[..7 + 7 * steps].to_vec();
         derivation[5..7].copy_from_slice(&(steps as u16).to_le_bytes());
-        assert!(yolqushek::check_derivation(circuit, &derivation, &mut marks).is_ok());
-        shortest(|| yolqushek::check_derivation(circuit, &derivation, &mut marks))
+        assert!(yolqushek::check_derivation(circuit, NO_TAGS, &derivation, &mut marks).is_ok());
+        shortest(|| yolqushek::check_derivation(circuit, NO_TAGS, &derivation, &mut marks))
     };
     growth("mark: steps", &[512, 1024, 2048, 4096].map(|steps| (steps, mark(steps))));
 }
@@ -135,7 +152,7 @@ fn all_growth() {
 fn warm_up(circuit: &[u8]) {
     let (start, mut output) = (Instant::now(), vec![0; 7 + 14 * 256]);
     while start.elapsed().as_secs() < 1 {
-        let _ = black_box(yolqushek::solve(circuit, &mut output));
+        let _ = black_box(yolqushek::solve(circuit, NO_TAGS, &mut output));
     }
 }
 
@@ -148,15 +165,16 @@ fn main() {
         reading("a circuit of the largest prime, no constraints", &bare),
         reading("the largest circuit", &largest.circuit),
         reading("the largest circuit, last byte missing", &largest.circuit[..largest.circuit.len() - 1]),
-        pairing("of the largest circuit", &largest.circuit, &pair_file(&largest)),
+        pairing("of the largest circuit", &largest.circuit, NO_TAGS, &pair_file(&largest)),
     ];
     for bits in [3, 7, 15, 30] {
-        solving(&format!("{bits} bits and their sum"), &worst::bits_and_long_sum(bits), &mut rows);
+        solving(&format!("{bits} bits and their sum"), &worst::bits_and_long_sum(bits), NO_TAGS, &mut rows);
     }
     for (name, circuit) in worst::all() {
-        solving(&name.replace('_', " "), &circuit, &mut rows);
+        solving(&name.replace('_', " "), &circuit, NO_TAGS, &mut rows);
     }
     wide_digits(&mut rows);
+    tagged(&largest, &mut rows);
     println!("| call | proved µs | second µs | ratio |\n|---|---:|---:|---:|");
     for row in rows {
         println!("| {} | {:.2} | {:.2} | {:.2} |", row.name, row.proved, row.second, row.proved / row.second);

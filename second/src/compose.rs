@@ -4,21 +4,22 @@ use crate::damage::damaged;
 use crate::edge::{any_edge, listed_edges, tied, Edge};
 use crate::generate::{any, small, tiny, PRIMES};
 use crate::grow::grown;
-use crate::hand_in::{damaged_derivation, damaged_pair, faulty_derivation, faulty_pair};
-use crate::hand_in::{padded, random_derivation, random_step, small_pairs, with_changed_fields};
+use crate::hand_in::{damaged_derivation, damaged_pair, damaged_sheet, faulty_derivation, faulty_pair};
+use crate::hand_in::{padded, random_derivation, random_step, random_tags, small_pairs, tags_about, with_changed_fields};
 use crate::marker::write_steps;
-use crate::pair::write_pair;
+use crate::pair::{values, write_pair};
 use crate::planted::{planted, Planted};
 use crate::random::Random;
 use crate::reader::{read_circuit, Circuit};
 use crate::rules::Rules;
+use crate::sheet::{read_sheet, write_sheet, Tag, NO_TAGS};
 use crate::solver::derive;
 use crate::two_faults::KINDS;
 use crate::vectors::{Record, DERIVATION, PAIR, READ, SOLVE};
 use crate::{brute, worst};
 
 /// The usual length of all files together.
-pub const USUAL_SIZE: usize = 1_036_000;
+pub const USUAL_SIZE: usize = 1_215_000;
 
 /// How many random circuits at the edge of a rule there always are.
 const EDGES: usize = 60;
@@ -32,6 +33,7 @@ pub fn compose(seed: u64, size: usize) -> Vec<Record> {
     maker.fixed_calls();
     if size >= 1_500_000 {
         worst::all().iter().for_each(|(_, circuit)| maker.solve_and_mark(circuit));
+        worst::tagged().iter().for_each(|tagged| maker.solve_and_mark_under(&tagged.circuit, &tagged.sheet));
     }
     listed_edges(&mut maker.rng).iter().for_each(|edge| maker.edge(edge, true));
     maker.random_calls(size)
@@ -64,9 +66,14 @@ impl Maker {
         self.records
     }
 
-    /// Adds a call with its answer.
+    /// Adds a call without tags, with its answer.
     pub fn call(&mut self, kind: u8, circuit: &[u8], hand_in: &[u8], lent: usize) {
-        let record = Record::answered(kind, circuit, hand_in, lent);
+        self.call_with(kind, circuit, if kind == READ { &[] } else { NO_TAGS }, hand_in, lent);
+    }
+
+    /// Adds a call with a sheet, with its answer.
+    pub fn call_with(&mut self, kind: u8, circuit: &[u8], sheet: &[u8], hand_in: &[u8], lent: usize) {
+        let record = Record::answered(kind, circuit, sheet, hand_in, lent);
         self.size += record.size(self.records.last().is_some_and(|last| last.circuit == circuit));
         self.records.push(record);
     }
@@ -82,7 +89,8 @@ impl Maker {
             _ => Vec::new(),
         };
         let lent = if kind.is_multiple_of(2) { self.rng.below(60) } else { 0 };
-        self.call(kind, circuit, &hand_in, lent);
+        let sheet = if good { NO_TAGS } else { &b"no sheet"[..self.rng.below(8)] };
+        self.call_with(kind, circuit, if kind == READ { &[] } else { sheet }, &hand_in, lent);
     }
 
     /// The solver and its own derivation, followed by the marker.
@@ -91,7 +99,20 @@ impl Maker {
         let n = usize::from(read.signals);
         self.call(READ, circuit, &[], 0);
         self.call(SOLVE, circuit, &[], 7 + 14 * n);
-        self.call(DERIVATION, circuit, &write_steps(&derive(&read).0), n);
+        self.call(DERIVATION, circuit, &write_steps(&derive(&read, &[]).0), n);
+    }
+
+    /// The solver and its own derivation with these tags.
+    pub fn solve_and_mark_with(&mut self, circuit: &[u8], tags: &[Tag]) {
+        self.solve_and_mark_under(circuit, &write_sheet(tags));
+    }
+
+    /// The solver and its own derivation with a sheet.
+    fn solve_and_mark_under(&mut self, circuit: &[u8], sheet: &[u8]) {
+        let read = read_circuit(circuit).expect("a valid circuit");
+        let (n, tags) = (usize::from(read.signals), read_sheet(&read, sheet).expect("a valid sheet"));
+        self.call_with(SOLVE, circuit, sheet, &[], 7 + 14 * n);
+        self.call_with(DERIVATION, circuit, sheet, &write_steps(&derive(&read, &tags).0), n);
     }
 
     /// A random circuit with some calls on it and on damaged versions of it.
@@ -104,41 +125,63 @@ impl Maker {
         }
         let circuit = self.any_circuit();
         let read = read_circuit(&circuit).expect("generated circuits are valid");
+        let tags = self.tags(&read);
         if self.rng.once_in(6) {
             self.call(READ, &circuit, &[], 0);
         }
         if self.rng.once_in(2) {
-            let lent = self.lent(7 + 14 * usize::from(read.signals));
-            self.call(SOLVE, &circuit, &[], lent);
+            let (lent, sheet) = (self.lent(7 + 14 * usize::from(read.signals)), self.sheet(&read, &tags));
+            self.call_with(SOLVE, &circuit, &sheet, &[], lent);
         }
         if self.rng.once_in(2) {
-            self.derivations(&circuit, &read);
+            self.derivations(&circuit, &read, &tags);
         }
         if brute::is_small(&read) && self.rng.once_in(4) {
-            self.pairs(&circuit, &read);
+            self.pairs(&circuit, &read, &tags);
         }
         for _ in 0..self.rng.pick(&[0, 0, 1, 2]) {
-            self.faulty_call(&circuit, &read);
+            self.faulty_call(&circuit, &read, &tags);
         }
     }
 
-    /// Any call with a damaged circuit, mostly, and with a hand-in and a buffer that have faults as well, or not.
-    fn faulty_call(&mut self, good: &[u8], read: &Circuit) {
+    /// No tags, or random ones.
+    fn tags(&mut self, read: &Circuit) -> Vec<Tag> {
+        match self.rng.once_in(3) {
+            true => Vec::new(),
+            false => random_tags(&mut self.rng, read),
+        }
+    }
+
+    /// The sheet with these tags, now and then with a fault.
+    fn sheet(&mut self, read: &Circuit, tags: &[Tag]) -> Vec<u8> {
+        match self.rng.once_in(14) {
+            true => damaged_sheet(&mut self.rng, read, tags),
+            false => write_sheet(tags),
+        }
+    }
+
+    /// Any call with a damaged circuit, mostly, and with a sheet, a hand-in and a buffer that have faults as well, or not.
+    fn faulty_call(&mut self, good: &[u8], read: &Circuit, tags: &[Tag]) {
         let rng = &mut self.rng;
         let circuit = if rng.once_in(4) { good.to_vec() } else { damaged(rng, good) };
         let kind = rng.pick(&KINDS);
         let n = usize::from(read.signals);
         let hand_in = match kind {
-            DERIVATION => faulty_derivation(rng, read),
+            DERIVATION => faulty_derivation(rng, read, tags),
             PAIR => faulty_pair(rng, read),
             _ => Vec::new(),
+        };
+        let sheet = match kind {
+            READ => Vec::new(),
+            _ if rng.once_in(3) => damaged_sheet(rng, read, tags),
+            _ => write_sheet(tags),
         };
         let lent = match kind {
             DERIVATION => self.lent(n),
             SOLVE => self.lent(7 + 14 * n),
             _ => 0,
         };
-        self.call(kind, &circuit, &hand_in, lent);
+        self.call_with(kind, &circuit, &sheet, &hand_in, lent);
     }
 
     /// The solver alone.
@@ -147,10 +190,12 @@ impl Maker {
         self.call(SOLVE, circuit, &[], 7 + 14 * n);
     }
 
-    /// The solver where many steps are on offer.
+    /// The solver where many steps are on offer, perhaps from tags.
     fn ties(&mut self) {
         let circuit = tied(&mut self.rng);
-        self.solve(&circuit);
+        let read = read_circuit(&circuit).expect("circuits with ties are valid");
+        let tags = self.tags(&read);
+        self.call_with(SOLVE, &circuit, &write_sheet(&tags), &[], 7 + 14 * usize::from(read.signals));
     }
 
     fn random_edge(&mut self) {
@@ -161,12 +206,12 @@ impl Maker {
 
     /// Derivations at the edge of a rule, and perhaps the solver on their circuit.
     fn edge(&mut self, edge: &Edge, solve: bool) {
-        let n = usize::from(read_circuit(&edge.circuit).expect("edge circuits are valid").signals);
+        let (n, sheet) = (usize::from(read_circuit(&edge.circuit).expect("edge circuits are valid").signals), write_sheet(&edge.tags));
         for steps in &edge.derivations {
-            self.call(DERIVATION, &edge.circuit, &write_steps(steps), n);
+            self.call_with(DERIVATION, &edge.circuit, &sheet, &write_steps(steps), n);
         }
         if solve {
-            self.solve(&edge.circuit);
+            self.call_with(SOLVE, &edge.circuit, &sheet, &[], 7 + 14 * n);
         }
     }
 
@@ -198,11 +243,11 @@ impl Maker {
     }
 
     /// One or two derivations: the solver's, or a random one, as it is or changed.
-    fn derivations(&mut self, circuit: &[u8], read: &Circuit) {
+    fn derivations(&mut self, circuit: &[u8], read: &Circuit, tags: &[Tag]) {
         let rules = Rules::new(read);
         for _ in 0..self.rng.range(1, 2) {
             let rng = &mut self.rng;
-            let found = if rng.once_in(2) { derive(read).0 } else { random_derivation(rng, &rules, 40) };
+            let found = if rng.once_in(2) { derive(read, tags).0 } else { random_derivation(rng, &rules, tags, 40) };
             let steps = match rng.below(6) {
                 0 => padded(rng, &found, (found.len() + 5).min(30)),
                 1 => {
@@ -222,16 +267,20 @@ impl Maker {
             if rng.once_in(6) {
                 derivation = damaged_derivation(rng, &derivation);
             }
-            let lent = self.lent(usize::from(read.signals));
-            self.call(DERIVATION, circuit, &derivation, lent);
+            let (lent, sheet) = (self.lent(usize::from(read.signals)), self.sheet(read, tags));
+            self.call_with(DERIVATION, circuit, &sheet, &derivation, lent);
         }
     }
 
-    fn pairs(&mut self, circuit: &[u8], read: &Circuit) {
+    fn pairs(&mut self, circuit: &[u8], read: &Circuit, tags: &[Tag]) {
         for pair in small_pairs(&mut self.rng, read) {
             let pair = if self.rng.once_in(4) { damaged_pair(&mut self.rng, read, &pair) } else { pair };
             if self.rng.below(3) > 0 {
-                self.call(PAIR, circuit, &pair, 0);
+                let sheet = match self.rng.once_in(2) && pair.len() == 7 + 8 * usize::from(read.signals) {
+                    true => write_sheet(&tags_about(&mut self.rng, read, &values(&pair))),
+                    false => self.sheet(read, tags),
+                };
+                self.call_with(PAIR, circuit, &sheet, &pair, 0);
             }
         }
     }
@@ -245,9 +294,11 @@ impl Maker {
         let pair = write_pair(q, &first, &second);
         let broken = damaged_pair(rng, &read, &pair);
         let reversed = damaged_pair(rng, &read, &write_pair(q, &second, &first));
+        let tags = if rng.once_in(3) { random_tags(rng, &read) } else { tags_about(rng, &read, &first) };
         for pair in [pair, broken, reversed] {
-            self.call(PAIR, &circuit, &pair, 0);
+            let sheet = self.sheet(&read, &tags);
+            self.call_with(PAIR, &circuit, &sheet, &pair, 0);
         }
-        self.derivations(&circuit, &read);
+        self.derivations(&circuit, &read, &tags);
     }
 }

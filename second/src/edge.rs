@@ -5,19 +5,23 @@ use crate::field::is_prime;
 use crate::generate::Weaver;
 use crate::random::Random;
 use crate::rules::{Step, DIGITS, PRODUCT, ROOT, SUM, ZERO};
+use crate::sheet::{Tag, MAXVALUE};
 use crate::writer::{Draft, Terms};
 
-/// A circuit and derivations for it, of which the last step may not be met.
+/// A circuit, tags and derivations for it, of which the last step may not be met.
 pub struct Edge {
     pub circuit: Vec<u8>,
+    pub tags: Vec<Tag>,
     pub derivations: Vec<Vec<Step>>,
 }
 
 /// Any of the edges below.
 pub fn any_edge(rng: &mut Random) -> Edge {
-    match rng.below(5) {
+    match rng.below(7) {
         0..=2 => weighted(rng),
         3 => product(rng),
+        4 => tagged_sum(rng),
+        5 => tagged_digits(rng),
         _ => roots(rng),
     }
 }
@@ -71,17 +75,43 @@ const OVERFLOWING: [Weight; 5] = [
     (1_189_934_601, 2_147_483_646),
 ];
 
-/// Random weights and a constant; p is their sum, with or without the constant, or one more.
-fn weighted(rng: &mut Random) -> Edge {
+/// Random weights and a constant, and a prime that is their sum, with or without the constant, or one more.
+fn near_prime(rng: &mut Random) -> (u32, Vec<Weight>, i64) {
     loop {
         let (weights, constant) = (weights(rng), rng.pick(&[0, 0, 1, 2]));
         let sum: i64 = weights.iter().map(|(weight, bound)| weight * bound).sum();
         let p = sum + rng.pick(&[0, 1, constant, constant + 1]);
         if p >= 5 && is_prime(p as u64) {
-            let i = rng.below(2) as u16;
-            return weighted_edge(rng, i, p as u32, &weights, constant);
+            return (p as u32, weights, constant);
         }
     }
+}
+
+fn weighted(rng: &mut Random) -> Edge {
+    let (p, weights, constant) = near_prime(rng);
+    let i = rng.below(2) as u16;
+    weighted_edge(rng, i, p, &weights, constant)
+}
+
+/// The last signal as a weighted sum of inputs, which have their bounds from tags, and of a constant; it too is tagged, about where the sum's bound is.
+fn tagged_sum(rng: &mut Random) -> Edge {
+    let (p, weights, constant) = near_prime(rng);
+    let n = weights.len() as u16 + 1;
+    let mut weaver = Weaver::new(rng, Draft::new(p, n, n - 1, 1));
+    let (mut terms, mut tags): (Terms, Vec<Tag>) = (vec![(n, -1), (0, constant)], Vec::new());
+    let mut sum = constant;
+    for (signal, &(weight, bound)) in (1..).zip(&weights) {
+        terms.push((signal, weight));
+        tags.push(Tag::new(signal, MAXVALUE, bound as u32));
+        sum += weight * bound;
+    }
+    weaver.linear(&terms);
+    let circuit = weaver.draft.bytes();
+    let limit = sum - rng.pick(&[0, 0, 1]);
+    tags.push(Tag::new(n, MAXVALUE, limit.clamp(0, i64::from(p) - 1) as u32));
+    rng.shuffle(&mut tags);
+    let input = rng.range(1, weights.len()) as u16;
+    Edge { circuit, tags, derivations: [(n, SUM, 0), (input, SUM, 0), (n, DIGITS, n)].map(|(t, kind, r)| vec![Step::new(kind, t, 1, r)]).to_vec() }
 }
 
 /// Signal 1, marked or not, as a weighted sum of bounded signals and a constant.
@@ -100,7 +130,30 @@ fn weighted_edge(rng: &mut Random, i: u16, p: u32, weights: &[Weight], constant:
     let sum = [Step::new(SUM, 1, n, 0)];
     let digits = [Step::new(DIGITS, signal(2), n, 2), Step::new(DIGITS, signal(2), n, 2)];
     let others = [Step::new(DIGITS, signal(1), n, signal(1)), Step::new(DIGITS, signal(1), n, signal(1))];
-    Edge { circuit, derivations: [&sum[..], &digits, &others].map(|steps| [&bounds[..], steps].concat()).to_vec() }
+    Edge { circuit, tags: Vec::new(), derivations: [&sum[..], &digits, &others].map(|steps| [&bounds[..], steps].concat()).to_vec() }
+}
+
+/// Input 1 as a weighted sum in which the first digit, signal 4, is input 2 and the bounded signal 3 together: its bound, and so the digits rule, rests on a
+/// tag on input 2, which is right or one off.
+pub fn tagged_digits(rng: &mut Random) -> Edge {
+    let (p, weights, constant) = near_prime(rng);
+    let n = weights.len() as u16 + 3;
+    let bound = weights[0].1;
+    let own = rng.range(usize::from(bound > 0), bound as usize) as i64;
+    let mut weaver = Weaver::new(rng, Draft::new(p, n, 2, n - 2));
+    weaver.roots(3, 0, own);
+    let mut terms: Terms = vec![(1, -1), (0, constant)];
+    for (signal, &(weight, bound)) in (4..).zip(&weights) {
+        weaver.roots(signal, 0, if signal == 4 { i64::from(p) - 1 } else { bound });
+        terms.push((signal, weight));
+    }
+    weaver.linear(&[(2, 1), (3, 1), (4, -1)]);
+    weaver.linear(&terms);
+    let circuit = weaver.draft.bytes();
+    let bounds: Vec<Step> = (3..=n).map(|signal| Step::new(ROOT, signal, signal - 2, 0)).chain([Step::new(SUM, 4, n - 1, 0)]).collect();
+    let limit = (bound - own + rng.pick(&[0, 0, 0, 1, -1])).max(0);
+    let digits = Step::new(DIGITS, rng.range(4, usize::from(n)) as u16, n, 4);
+    Edge { circuit, tags: vec![Tag::new(2, MAXVALUE, limit as u32)], derivations: vec![[&bounds[..], &[digits]].concat()] }
 }
 
 /// Products over inputs 1 and 2 in which signal 3 is the only new one: as it should be, or with one thing amiss.
@@ -137,7 +190,7 @@ fn product_edge(rng: &mut Random, index: usize) -> Edge {
         weaver.repeat();
         weaver.draft.constraints.swap_remove(0);
     }
-    Edge { circuit: weaver.draft.bytes(), derivations: vec![vec![Step::new(PRODUCT, 3, 1, 0); 2]] }
+    Edge { circuit: weaver.draft.bytes(), tags: Vec::new(), derivations: vec![vec![Step::new(PRODUCT, 3, 1, 0); 2]] }
 }
 
 /// The listed weights and products, one after the other.
@@ -162,7 +215,7 @@ fn roots(rng: &mut Random) -> Edge {
     let c: Terms = if rng.once_in(6) { vec![(rng.below(3) as u16, 1)] } else { Vec::new() };
     let circuit = Draft::new(rng.pick(&[5, 7, 13]), 2, 0, 2).with(&a, &b, &c).bytes();
     let zero = Step::new(ZERO, 1, 0, 0);
-    Edge { circuit, derivations: vec![vec![Step::new(ROOT, 1, 1, 0), zero, zero]] }
+    Edge { circuit, tags: Vec::new(), derivations: vec![vec![Step::new(ROOT, 1, 1, 0), zero, zero]] }
 }
 
 /// A circuit in which bounds and marks can be had in many ways at once: by several kinds, constraints and references.

@@ -1,4 +1,4 @@
-//! Derivations and pairs to hand in, good and bad.
+//! Derivations, pairs and tag sheets to hand in, good and bad.
 
 use crate::brute;
 use crate::marker::{write_steps, MOST_STEPS};
@@ -6,6 +6,7 @@ use crate::pair::write_pair;
 use crate::random::Random;
 use crate::reader::{number16, number32, Circuit};
 use crate::rules::{Rules, Standing, Step, ROOT, ZERO};
+use crate::sheet::{write_sheet, Tag, BINARY, MAXBIT, MAXVALUE, MOST_TAGS};
 use crate::solver::derive;
 
 /// A random step with its fields in range, if the circuit has any for the kind drawn.
@@ -29,8 +30,8 @@ pub fn random_step(rng: &mut Random, circuit: &Circuit) -> Option<Step> {
 }
 
 /// Random steps, each of which meets its rule where it stands; so many are tried.
-pub fn random_derivation(rng: &mut Random, rules: &Rules, tries: usize) -> Vec<Step> {
-    let mut standing = Standing::start(rules.circuit);
+pub fn random_derivation(rng: &mut Random, rules: &Rules, tags: &[Tag], tries: usize) -> Vec<Step> {
+    let mut standing = Standing::start(rules.circuit, tags);
     let mut steps = Vec::new();
     for _ in 0..tries {
         let step = random_step(rng, rules.circuit);
@@ -130,8 +131,8 @@ fn fault_in_pair(rng: &mut Random, circuit: &Circuit, pair: &[u8]) -> Vec<u8> {
 }
 
 /// The solver's derivation, mostly with a fault or several in its steps, its first bytes or its length.
-pub fn faulty_derivation(rng: &mut Random, circuit: &Circuit) -> Vec<u8> {
-    let mut steps = derive(circuit).0;
+pub fn faulty_derivation(rng: &mut Random, circuit: &Circuit, tags: &[Tag]) -> Vec<u8> {
+    let mut steps = derive(circuit, tags).0;
     if rng.once_in(2) {
         steps = with_changed_fields(rng, circuit, &steps);
     }
@@ -172,4 +173,94 @@ pub fn small_pairs(rng: &mut Random, circuit: &Circuit) -> Vec<Vec<u8>> {
         result.push(if rng.once_in(2) { write_pair(output(rng), &values, &runs[first]) } else { write_pair(output(rng), &runs[first], &values) });
     }
     result
+}
+
+/// Tags for a sheet, mostly few: on inputs and on others, with small limits, with limits about p and about the bounds that the solver reaches.
+pub fn random_tags(rng: &mut Random, circuit: &Circuit) -> Vec<Tag> {
+    let count = rng.pick(&[1, 1, 1, 2, 2, 3, 5]);
+    let mut tags: Vec<Tag> = (0..count).map(|_| random_tag(rng, circuit)).collect();
+    let standing = derive(circuit, &tags).1;
+    for _ in 0..rng.pick(&[0, 0, 1, 1, 2]) {
+        let signal = rng.range(usize::from(circuit.inputs) + 1, usize::from(circuit.signals)) as u16;
+        let (bound, most) = (standing.bound(signal), circuit.field.prime() - 1);
+        let limit = rng.pick(&[bound, bound, bound.saturating_sub(1), most.min(bound + 1)]);
+        tags.push(Tag::new(signal, MAXVALUE, limit as u32));
+    }
+    rng.shuffle(&mut tags);
+    tags
+}
+
+/// Tags on some inputs with limits about their values in a run, and on any signals.
+pub fn tags_about(rng: &mut Random, circuit: &Circuit, run: &[u32]) -> Vec<Tag> {
+    let mut tags: Vec<Tag> = (0..rng.below(2)).map(|_| random_tag(rng, circuit)).collect();
+    for (signal, &value) in (1..=circuit.inputs).zip(run) {
+        let most = circuit.field.prime() as u32 - 1;
+        if !rng.once_in(3) {
+            tags.push(Tag::new(signal, MAXVALUE, rng.pick(&[value, value, value, value.saturating_add(1), most, value.saturating_sub(1)]).min(most)));
+        }
+    }
+    rng.shuffle(&mut tags);
+    tags
+}
+
+/// A tag of any kind, on an input in most cases.
+fn random_tag(rng: &mut Random, circuit: &Circuit) -> Tag {
+    let p = circuit.field.prime();
+    let bits = 64 - (p - 1).leading_zeros();
+    let highest = if circuit.inputs > 0 && !rng.once_in(3) { circuit.inputs } else { circuit.signals };
+    let signal = rng.range(1, usize::from(highest)) as u16;
+    match rng.below(4) {
+        0 => Tag::new(signal, BINARY, 0),
+        1 => Tag::new(signal, MAXBIT, rng.pick(&[0, 1, 1, 2, 2, 3, 8, bits - 1, bits.min(30), 30])),
+        _ => {
+            let limit = rng.pick(&[0, 1, 1, 2, 3, 4, p / 3, p / 2, p - 2, p - 1]).min(p - 1);
+            Tag::new(signal, MAXVALUE, limit as u32)
+        }
+    }
+}
+
+/// A sheet with these tags and a fault in its first bytes, its length or an entry, or with two.
+pub fn damaged_sheet(rng: &mut Random, circuit: &Circuit, tags: &[Tag]) -> Vec<u8> {
+    let mut tags = tags.to_vec();
+    let faults = rng.range(1, 2);
+    let in_entries = (0..faults).filter(|_| rng.once_in(2)).count();
+    for _ in 0..in_entries {
+        let at = rng.below(tags.len() + 1);
+        let tag = faulty_tag(rng, circuit);
+        tags.insert(at, tag);
+    }
+    let mut bytes = write_sheet(&tags);
+    (in_entries..faults).for_each(|_| fault_in_sheet(rng, &mut bytes));
+    bytes
+}
+
+/// A tag with a wrong signal, kind or number, or with two of them wrong.
+fn faulty_tag(rng: &mut Random, circuit: &Circuit) -> Tag {
+    let mut tag = random_tag(rng, circuit);
+    let (n, p) = (circuit.signals, circuit.field.prime() as u32);
+    for _ in 0..rng.pick(&[1, 1, 2]) {
+        match rng.below(5) {
+            0 => tag.signal = rng.pick(&[0, n + 1, n + 256, 65_535]),
+            1 => tag.kind = rng.pick(&[0, 4, 128, 255]),
+            2 => (tag.kind, tag.number) = (BINARY, rng.pick(&[1, 2, 256, u32::MAX])),
+            3 => (tag.kind, tag.number) = (MAXBIT, rng.pick(&[31, 32, 63, 64, 256, u32::MAX])),
+            _ => (tag.kind, tag.number) = (MAXVALUE, rng.pick(&[p, p + 1, 2 * p, 0x8000_0000, u32::MAX])),
+        }
+    }
+    tag
+}
+
+fn fault_in_sheet(rng: &mut Random, bytes: &mut Vec<u8>) {
+    let length = bytes.len();
+    let count = if length < 7 { 0 } else { number16(bytes, 5) };
+    match rng.below(7) {
+        _ if length < 7 => bytes.clear(),
+        0 => bytes[rng.below(3)] = rng.pick(b"tqtCDP\0"),
+        1 => bytes[rng.range(3, 4)] = rng.pick(&[2, 3, 255]),
+        2 => bytes[5..7].copy_from_slice(&(count + 1).to_le_bytes()),
+        3 => bytes[5..7].copy_from_slice(&rng.pick(&[0, count.saturating_sub(1), MOST_TAGS as u16 + 1, count + 256, 65_535]).to_le_bytes()),
+        4 => bytes.truncate(rng.below(length)),
+        5 => bytes.extend((0..rng.range(1, 7)).map(|byte| byte as u8)),
+        _ => bytes.truncate(rng.below(8)),
+    }
 }

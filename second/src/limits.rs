@@ -41,6 +41,7 @@ impl Maker {
         self.every_value();
         self.every_two_faults();
         ties::circuits().iter().for_each(|circuit| self.solve(circuit));
+        self.tagged_calls();
     }
 
     /// Every kind of call, with a derivation without steps, a pair of runs of zeros, and buffers that are long enough for n signals.
@@ -121,7 +122,7 @@ impl Maker {
     fn buffer_limits(&mut self) {
         let chain = worst::bits_and_long_sum(9);
         for (circuit, n) in [(case_f(), 1), (case_a(), 2), (case_c(13), 4), (chain, 10), (Draft::new(13, 256, 3, 1).bytes(), 256)] {
-            let steps = write_steps(&derive(&read_circuit(&circuit).expect("a valid circuit")).0);
+            let steps = write_steps(&derive(&read_circuit(&circuit).expect("a valid circuit"), &[]).0);
             for lent in [n - 1, n, n + 1] {
                 self.call(DERIVATION, &circuit, &steps, lent);
                 self.call(DERIVATION, &circuit, &write_steps(&[Step::new(3, 1, 0, 0)]), lent);
@@ -159,7 +160,7 @@ impl Maker {
     fn every_step(&mut self) {
         let circuit = worst::bits_and_long_sum(6);
         let read = read_circuit(&circuit).expect("a valid circuit");
-        let steps = derive(&read).0;
+        let steps = derive(&read, &[]).0;
         for at in 0..steps.len() {
             let fault = |change: &dyn Fn(&mut Step)| {
                 let mut faulty = steps.clone();
@@ -230,7 +231,7 @@ impl Maker {
     /// Derivations with 4,095 and 4,096 steps and with one more, some with a fault in a step.
     fn many_steps(&mut self) {
         let c = case_c(13);
-        let steps = derive(&read_circuit(&c).expect("a valid circuit")).0;
+        let steps = derive(&read_circuit(&c).expect("a valid circuit"), &[]).0;
         let longest = padded(&mut self.rng, &steps, MOST_STEPS);
         let unmet = [Step::new(4, 2, 4, 0)];
         self.call(DERIVATION, &c, &write_steps(&longest[..MOST_STEPS - 1]), 4);
@@ -259,14 +260,14 @@ impl Maker {
     fn too_long(&mut self) {
         let long = two_faults::long_circuit();
         for kind in two_faults::KINDS {
-            let calls = two_faults::own(kind).iter().map(|fault| two_faults::with(kind, fault)).chain([two_faults::good(kind)]);
-            calls.for_each(|call| self.call(kind, &long, &call.hand_in, call.lent));
+            let calls = two_faults::beyond_circuit(kind).map(|fault| two_faults::with(kind, fault)).chain([two_faults::good(kind)]);
+            calls.for_each(|call| self.call_with(kind, &long, &call.sheet, &call.hand_in, call.lent));
         }
     }
 
     fn every_two_faults(&mut self) {
         for Pair { call, .. } in two_faults::pairs() {
-            self.call(call.kind, &call.circuit, &call.hand_in, call.lent);
+            self.call_with(call.kind, &call.circuit, &call.sheet, &call.hand_in, call.lent);
         }
     }
 }

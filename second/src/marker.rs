@@ -1,27 +1,49 @@
 //! The derivation file and the derivation call: refusals 11 to 17.
 
-use crate::reader::{number16, read_circuit, refuse, Refusal};
+use crate::reader::{number16, read_circuit, refuse, Circuit, Refusal};
 use crate::rules::{Rules, Standing, Step};
+use crate::sheet::{read_sheet, shown, Tag};
 
 /// The largest step count of a derivation.
 pub const MOST_STEPS: usize = 4096;
 
-/// Follows a derivation. If it is accepted, writes n marks and answers how many are 1 and whether every output is marked.
-pub fn check_derivation(circuit: &[u8], derivation: &[u8], marks: &mut [u8]) -> Result<(usize, bool), Refusal> {
+/// What is answered of the standing that a derivation reaches.
+#[derive(Clone, Copy, Debug, PartialEq, Eq)]
+pub struct Judgement {
+    /// How many signals are marked.
+    pub count: usize,
+    /// Whether every output is.
+    pub fixed: bool,
+    /// How many of the sheet's tags on signals other than inputs are shown.
+    pub shown: usize,
+    /// The sheet's entry number of the first that isn't, or 0.
+    pub unshown: usize,
+}
+
+impl Judgement {
+    pub fn of(circuit: &Circuit, tags: &[Tag], standing: &Standing) -> Judgement {
+        let (shown, unshown) = shown(circuit, tags, standing);
+        Judgement { count: standing.count(), fixed: standing.is_fixed(circuit), shown, unshown }
+    }
+}
+
+/// Follows a derivation. If it is accepted, writes n marks and judges what they and the bounds come to.
+pub fn check_derivation(circuit: &[u8], sheet: &[u8], derivation: &[u8], marks: &mut [u8]) -> Result<Judgement, Refusal> {
     let circuit = read_circuit(circuit)?;
+    let tags = read_sheet(&circuit, sheet)?;
     let steps = read_steps(derivation)?;
     if marks.len() < usize::from(circuit.signals) {
         return refuse(14, 0);
     }
     let rules = Rules::new(&circuit);
-    let mut standing = Standing::start(&circuit);
+    let mut standing = Standing::start(&circuit, &tags);
     for (number, step) in (1..).zip(steps) {
         take_step(&rules, &mut standing, step, number)?;
     }
     for (signal, mark) in circuit.all_signals().zip(marks) {
         *mark = u8::from(standing.is_marked(signal));
     }
-    Ok((standing.count(), standing.is_fixed(&circuit)))
+    Ok(Judgement::of(&circuit, &tags, &standing))
 }
 
 /// Checks one step in full and takes it.

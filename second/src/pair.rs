@@ -1,12 +1,14 @@
-//! The pair file and the pair call: refusals 18 to 24.
+//! The pair file and the pair call: refusals 18 to 24 and 28.
 
 use crate::reader::{number16, number32, read_circuit, refuse, Circuit, Refusal};
+use crate::sheet::{broken, read_sheet};
 
-/// Checks that two satisfying runs share their inputs and differ at the output q; answers q.
-pub fn check_pair(circuit: &[u8], pair: &[u8]) -> Result<u16, Refusal> {
+/// Checks that two satisfying runs share their inputs, which obey the sheet, and differ at the output q; answers q.
+pub fn check_pair(circuit: &[u8], sheet: &[u8], pair: &[u8]) -> Result<u16, Refusal> {
     let circuit = read_circuit(circuit)?;
+    let tags = read_sheet(&circuit, sheet)?;
     let q = read_q(&circuit, pair)?;
-    let values: Vec<u32> = pair[7..].chunks_exact(4).map(|value| number32(value, 0)).collect();
+    let values = values(pair);
     if let Some(high) = values.iter().position(|&value| u64::from(value) >= circuit.field.prime()) {
         return refuse(21, high + 1);
     }
@@ -18,6 +20,9 @@ pub fn check_pair(circuit: &[u8], pair: &[u8]) -> Result<u16, Refusal> {
     }
     if let Some(index) = (0..usize::from(circuit.inputs)).find(|&index| first[index] != second[index]) {
         return refuse(23, index + 1);
+    }
+    if let Some(input) = broken(&circuit, &tags, first) {
+        return refuse(28, usize::from(input));
     }
     let index = usize::from(q) - 1;
     if first[index] == second[index] {
@@ -39,6 +44,11 @@ fn read_q(circuit: &Circuit, pair: &[u8]) -> Result<u16, Refusal> {
         return refuse(20, 0);
     }
     Ok(q)
+}
+
+/// The values of a pair file.
+pub fn values(pair: &[u8]) -> Vec<u32> {
+    pair[7..].chunks_exact(4).map(|value| number32(value, 0)).collect()
 }
 
 /// The version 1 pair file with this output and these runs.

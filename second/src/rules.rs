@@ -4,6 +4,7 @@ use std::collections::BTreeSet;
 
 use crate::field::Field;
 use crate::reader::{Circuit, Constraint, Form};
+use crate::sheet::Tag;
 
 pub const ROOT: u8 = 1;
 pub const SUM: u8 = 2;
@@ -34,9 +35,12 @@ pub struct Standing {
 }
 
 impl Standing {
-    /// Every bound is p - 1 and exactly the inputs are marked.
-    pub fn start(circuit: &Circuit) -> Standing {
-        Standing { bounds: vec![circuit.field.prime() - 1; usize::from(circuit.signals)], marked: (1..=circuit.inputs).collect() }
+    /// Every bound is p - 1, that of an input no more than the tags on it allow, and exactly the inputs are marked.
+    pub fn start(circuit: &Circuit, tags: &[Tag]) -> Standing {
+        let bounds = vec![circuit.field.prime() - 1; usize::from(circuit.signals)];
+        let mut start = Standing { bounds, marked: (1..=circuit.inputs).collect() };
+        tags.iter().filter(|tag| tag.signal <= circuit.inputs).for_each(|tag| start.lower(tag.signal, tag.limit()));
+        start
     }
 
     pub fn bound(&self, signal: u16) -> u64 {

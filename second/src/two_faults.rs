@@ -6,14 +6,16 @@ use std::collections::BTreeSet;
 use crate::marker::write_steps;
 use crate::pair::write_pair;
 use crate::rules::{Step, DIGITS, PRODUCT, ROOT, SUM, ZERO};
+use crate::sheet::{write_sheet, Tag, BINARY, MAXBIT, MAXVALUE};
 use crate::vectors::{DERIVATION, PAIR, READ, SOLVE};
 use crate::writer::Draft;
 
-/// A call: its kind, its circuit, what is handed in, and the length of the buffer.
+/// A call: its kind, its circuit, the sheet, what is handed in, and the length of the buffer.
 #[derive(Clone, Debug, PartialEq, Eq)]
 pub struct Call {
     pub kind: u8,
     pub circuit: Vec<u8>,
+    pub sheet: Vec<u8>,
     pub hand_in: Vec<u8>,
     pub lent: usize,
 }
@@ -26,12 +28,14 @@ pub struct Fault {
 }
 
 impl Fault {
-    /// Least first is the checking order: 6 to 9 by place in the file, 15 to 17 by step.
+    /// Least first is the checking order: 6 to 9 by place in the file, 15 to 17 by step; the sheet's 26 and 27 after 10, 28 after 23.
     pub fn order(&self) -> (u16, u32, u16) {
         match self.number {
-            6..=9 => (6, self.place, self.number),
-            15..=17 => (15, self.place, self.number),
-            number => (number, self.place, 0),
+            6..=9 => (60, self.place, self.number),
+            15..=17 => (150, self.place, self.number),
+            26 | 27 => (75 + self.number, self.place, 0),
+            28 => (235, self.place, 0),
+            number => (10 * number, self.place, 0),
         }
     }
 }
@@ -41,24 +45,29 @@ const fn fault(number: u16, place: u32, breaks: fn(&mut Call)) -> Fault {
 }
 
 /// n of the good circuit.
-const SIGNALS: usize = 7;
+const SIGNALS: usize = 9;
 
-/// Inputs 1 and 2, outputs 3 and 4. A square that is 0 (17 to 31), a product (32 to 52), an equation with a constant (53 to 73): 74 bytes.
+/// Inputs 1 to 4, outputs 5 and 6. A square that is 0 (17 to 31), a product (32 to 52), an equation with a constant (53 to 73): 74 bytes.
 fn good_circuit() -> Vec<u8> {
-    let draft = Draft::new(13, SIGNALS as u16, 2, 2).with(&[(5, 1)], &[(5, 1)], &[]).with(&[(1, 1)], &[(2, 1)], &[(3, 1)]);
-    draft.with(&[(0, 1)], &[(0, 10), (6, 1)], &[]).bytes()
+    let draft = Draft::new(13, SIGNALS as u16, 4, 2).with(&[(7, 1)], &[(7, 1)], &[]).with(&[(1, 1)], &[(2, 1)], &[(5, 1)]);
+    draft.with(&[(0, 1)], &[(0, 10), (8, 1)], &[]).bytes()
+}
+
+/// Tags on inputs 3 and 4, which stand in no constraint, and on output 6, whose value in the second run breaks it.
+fn good_sheet() -> Vec<u8> {
+    write_sheet(&[Tag::new(3, MAXBIT, 2), Tag::new(4, MAXVALUE, 3), Tag::new(6, BINARY, 0)])
 }
 
 /// One step of each kind, all met.
 fn good_steps() -> Vec<u8> {
-    let bounds = [Step::new(ROOT, 5, 1, 0), Step::new(SUM, 6, 3, 0)];
-    let marks = [Step::new(ZERO, 5, 0, 0), Step::new(PRODUCT, 3, 2, 0), Step::new(DIGITS, 6, 3, 6)];
+    let bounds = [Step::new(ROOT, 7, 1, 0), Step::new(SUM, 8, 3, 0)];
+    let marks = [Step::new(ZERO, 7, 0, 0), Step::new(PRODUCT, 5, 2, 0), Step::new(DIGITS, 8, 3, 8)];
     write_steps(&[&bounds[..], &marks].concat())
 }
 
-/// Runs that differ at output 4 alone. One input may differ, signal 7 may have any value; 5, 3 and 6 each break one constraint.
+/// Runs that differ at output 6 alone. One of inputs 1 and 2 may differ, 3 and 4 and signal 9 may have any values; 7, 5 and 8 each break one constraint.
 fn good_pair() -> Vec<u8> {
-    write_pair(4, &[0, 0, 0, 1, 0, 3, 0], &[0, 0, 0, 2, 0, 3, 0])
+    write_pair(6, &[0, 0, 2, 3, 0, 1, 0, 3, 0], &[0, 0, 2, 3, 0, 2, 0, 3, 0])
 }
 
 /// The call of this kind without a fault.
@@ -69,7 +78,7 @@ pub fn good(kind: u8) -> Call {
         SOLVE => (Vec::new(), 7 + 14 * SIGNALS),
         _ => (Vec::new(), 0),
     };
-    Call { kind, circuit: good_circuit(), hand_in, lent }
+    Call { kind, circuit: good_circuit(), sheet: if kind == READ { Vec::new() } else { good_sheet() }, hand_in, lent }
 }
 
 /// Bytes in place of those at an offset, as far as there are any.
@@ -83,6 +92,11 @@ fn circuit16(call: &mut Call, at: usize, number: u16) {
 
 fn circuit32(call: &mut Call, at: usize, number: u32) {
     put(&mut call.circuit, at, &number.to_le_bytes());
+}
+
+/// Bytes of an entry of the sheet: from 0 its signal, from 2 its kind, from 3 its number.
+fn entry(call: &mut Call, entry: usize, at: usize, new: &[u8]) {
+    put(&mut call.sheet, 7 * entry + at, new);
 }
 
 /// A byte of a step of the derivation: 0 its kind, 1 and 2 its target, 3 its constraint, 5 its reference.
@@ -106,7 +120,7 @@ pub const CIRCUIT: [Fault; 24] = [
     fault(4, 0, |call| circuit32(call, 5, 2)),
     fault(5, 0, |call| circuit16(call, 9, 257)),
     fault(5, 0, |call| circuit16(call, 13, 0)),
-    fault(5, 0, |call| circuit16(call, 11, 6)),
+    fault(5, 0, |call| circuit16(call, 11, 8)),
     fault(5, 0, |call| circuit16(call, 15, 513)),
     // A count byte is due, in the first constraint and as the last byte; a whole term, early and late.
     fault(6, 24, |call| call.circuit.truncate(24)),
@@ -126,7 +140,33 @@ pub const CIRCUIT: [Fault; 24] = [
     fault(10, 74, |call| call.circuit.extend([1, 0, 0, 0])),
 ];
 
-/// Faults of the derivation call beyond the circuit's.
+/// Faults of the sheet, which every call but reading may meet.
+pub const SHEET: [Fault; 21] = [
+    fault(26, 0, |call| call.sheet.truncate(6)),
+    fault(26, 0, |call| put(&mut call.sheet, 0, b"C")),
+    fault(26, 0, |call| put(&mut call.sheet, 4, &[1])),
+    fault(26, 0, |call| put(&mut call.sheet, 5, &257u16.to_le_bytes())),
+    fault(26, 0, |call| call.sheet.truncate(27)),
+    fault(26, 0, |call| call.sheet.push(0)),
+    fault(26, 0, |call| put(&mut call.sheet, 5, &[2])),
+    // A signal that is 0 or above n, a kind that there isn't, a number that isn't its kind's; in the first entry and in a later one.
+    fault(27, 1, |call| entry(call, 1, 0, &[0, 0])),
+    fault(27, 1, |call| entry(call, 1, 0, &[10, 0])),
+    fault(27, 1, |call| entry(call, 1, 2, &[0])),
+    fault(27, 1, |call| entry(call, 1, 2, &[4])),
+    fault(27, 1, |call| entry(call, 1, 2, &[BINARY, 1])),
+    fault(27, 1, |call| entry(call, 1, 3, &[31])),
+    fault(27, 1, |call| entry(call, 1, 2, &[MAXVALUE, 13])),
+    fault(27, 3, |call| entry(call, 3, 0, &[0, 0])),
+    fault(27, 3, |call| entry(call, 3, 0, &[6, 1])),
+    fault(27, 3, |call| entry(call, 3, 2, &[0])),
+    fault(27, 3, |call| entry(call, 3, 2, &[4])),
+    fault(27, 3, |call| entry(call, 3, 3, &[1])),
+    fault(27, 3, |call| entry(call, 3, 2, &[MAXBIT, 31])),
+    fault(27, 2, |call| entry(call, 2, 3, &[13])),
+];
+
+/// Faults of the derivation call beyond those of circuit and sheet.
 pub const DERIVATIONS: [Fault; 16] = [
     fault(11, 0, |call| call.hand_in.truncate(6)),
     fault(11, 0, |call| put(&mut call.hand_in, 0, b"P")),
@@ -147,33 +187,53 @@ pub const DERIVATIONS: [Fault; 16] = [
     fault(17, 4, |call| step(call, 4, 3, 1)),
 ];
 
-/// Faults of the pair call beyond the circuit's.
-pub const PAIRS: [Fault; 19] = [
+/// Faults of the pair call beyond those of circuit and sheet.
+pub const PAIRS: [Fault; 25] = [
     fault(18, 0, |call| call.hand_in.truncate(6)),
     fault(18, 0, |call| put(&mut call.hand_in, 1, b"P")),
     fault(19, 0, |call| put(&mut call.hand_in, 3, &[0, 1])),
     fault(20, 0, |call| call.hand_in.truncate(7 + 8 * SIGNALS - 1)),
     fault(20, 0, |call| call.hand_in.push(0)),
-    fault(20, 0, |call| put(&mut call.hand_in, 5, &[2])),
-    fault(20, 0, |call| put(&mut call.hand_in, 5, &[5])),
-    fault(21, 7, |call| value(call, 0, 7, 13)),
-    fault(21, 14, |call| value(call, 1, 7, u32::MAX)),
-    fault(22, 1, |call| value(call, 0, 5, 1)),
-    fault(22, 2, |call| value(call, 0, 3, 1)),
-    fault(22, 3, |call| value(call, 0, 6, 4)),
-    fault(22, 4, |call| value(call, 1, 5, 1)),
-    fault(22, 5, |call| value(call, 1, 3, 1)),
-    fault(22, 6, |call| value(call, 1, 6, 4)),
+    fault(20, 0, |call| put(&mut call.hand_in, 5, &[4])),
+    fault(20, 0, |call| put(&mut call.hand_in, 5, &[7])),
+    fault(21, 9, |call| value(call, 0, 9, 13)),
+    fault(21, 18, |call| value(call, 1, 9, u32::MAX)),
+    fault(22, 1, |call| value(call, 0, 7, 1)),
+    fault(22, 2, |call| value(call, 0, 5, 1)),
+    fault(22, 3, |call| value(call, 0, 8, 4)),
+    fault(22, 4, |call| value(call, 1, 7, 1)),
+    fault(22, 5, |call| value(call, 1, 5, 1)),
+    fault(22, 6, |call| value(call, 1, 8, 4)),
     fault(23, 1, |call| value(call, 1, 1, 1)),
     fault(23, 2, |call| value(call, 0, 2, 1)),
-    fault(24, 4, |call| value(call, 1, 4, 1)),
-    fault(24, 3, |call| put(&mut call.hand_in, 5, &[3])),
+    fault(23, 3, |call| value(call, 0, 3, 1)),
+    fault(23, 4, |call| value(call, 1, 4, 2)),
+    // Values that the tags don't allow; a tag with a lower limit, and one of another signal that is now the input's.
+    fault(28, 3, |call| [0, 1].iter().for_each(|&run| value(call, run, 3, 4))),
+    fault(28, 4, |call| [0, 1].iter().for_each(|&run| value(call, run, 4, 12))),
+    fault(28, 4, |call| entry(call, 2, 3, &[2])),
+    fault(28, 3, |call| entry(call, 3, 0, &[3])),
+    fault(24, 6, |call| value(call, 1, 6, 1)),
+    fault(24, 5, |call| put(&mut call.hand_in, 5, &[5])),
 ];
 
-/// The faults of the solver call beyond the circuit's.
+/// The faults of the solver call beyond those of circuit and sheet.
 pub const SOLVER: [Fault; 2] = [fault(25, 0, |call| call.lent = 7 + 14 * SIGNALS - 1), fault(25, 0, |call| call.lent = 0)];
 
+/// The faults of the sheet that this kind of call may meet.
+pub fn of_sheet(kind: u8) -> &'static [Fault] {
+    match kind {
+        READ => &[],
+        _ => &SHEET,
+    }
+}
+
 /// The faults of this kind of call beyond the circuit's.
+pub fn beyond_circuit(kind: u8) -> impl Iterator<Item = &'static Fault> {
+    of_sheet(kind).iter().chain(own(kind))
+}
+
+/// The faults of this kind of call beyond those of circuit and sheet.
 pub fn own(kind: u8) -> &'static [Fault] {
     match kind {
         DERIVATION => &DERIVATIONS,
@@ -193,12 +253,13 @@ pub struct Pair {
 }
 
 /// Every two faults that can stand together. Two of the circuit: all on reading it, and in the other calls each two numbers one time for each order of their
-/// places; so too one of the circuit and one of what is handed in or lent. Then every two of those.
+/// places; so too one of the circuit and one of what comes along, is handed in or lent. Two of the sheet: all on solving, else as those of the circuit; one of
+/// the sheet and one of what is handed in or lent: three times so. Then every two of those.
 pub fn pairs() -> Vec<Pair> {
     let mut pairs = Vec::new();
     let mut seen = BTreeSet::new();
-    let mut add = |always: bool, kind: u8, x: &'static Fault, y: &'static Fault| {
-        let sort = (kind, x.number, y.number, x.place.cmp(&y.place));
+    let mut add = |always: bool, turn: usize, kind: u8, x: &'static Fault, y: &'static Fault| {
+        let sort = (kind, x.number, y.number, x.place.cmp(&y.place), turn);
         if let Some(call) = both(kind, x, y).filter(|_| always || !seen.contains(&sort)) {
             seen.insert(sort);
             pairs.push(Pair { call, faults: [x, y] });
@@ -206,15 +267,19 @@ pub fn pairs() -> Vec<Pair> {
     };
     for (at, x) in CIRCUIT.iter().enumerate() {
         for y in &CIRCUIT[at + 1..] {
-            KINDS.iter().for_each(|&kind| add(kind == READ, kind, x, y));
+            KINDS.iter().for_each(|&kind| add(kind == READ, 0, kind, x, y));
         }
         for kind in KINDS {
-            own(kind).iter().for_each(|y| add(false, kind, x, y));
+            beyond_circuit(kind).for_each(|y| add(false, 0, kind, x, y));
         }
     }
     for kind in KINDS {
+        for (at, x) in of_sheet(kind).iter().enumerate() {
+            of_sheet(kind)[at + 1..].iter().for_each(|y| add(kind == SOLVE, 0, kind, x, y));
+            own(kind).iter().for_each(|y| add(false, at % 3, kind, x, y));
+        }
         for (at, x) in own(kind).iter().enumerate() {
-            own(kind)[at + 1..].iter().for_each(|y| add(true, kind, x, y));
+            own(kind)[at + 1..].iter().for_each(|y| add(true, 0, kind, x, y));
         }
     }
     pairs
@@ -253,14 +318,16 @@ fn keeps(good: &Call, one: &Call, both: &Call) -> bool {
         (one.len() == good.len() || one.len() == both.len()) && changed.into_iter().all(|at| one.get(at) == both.get(at))
     };
     let lent = one.lent == good.lent || one.lent == both.lent;
-    lent && kept(&good.circuit, &one.circuit, &both.circuit) && kept(&good.hand_in, &one.hand_in, &both.hand_in)
+    let sheet = kept(&good.sheet, &one.sheet, &both.sheet);
+    lent && sheet && kept(&good.circuit, &one.circuit, &both.circuit) && kept(&good.hand_in, &one.hand_in, &both.hand_in)
 }
 
 /// A circuit of 60,001 bytes with every fault from 2 to 9: as 1 comes before them all, an order in which it doesn't gives another answer, whichever it is.
 pub fn long_circuit() -> Vec<u8> {
     let form: Vec<u8> = (1..=32u16).flat_map(|signal| [signal.to_le_bytes(), [1, 0], [0, 0]].concat()).collect();
     let body = [&[32][..], &form].concat().repeat(3 * 512);
-    let mut call = Call { kind: READ, circuit: [&Draft::new(13, 256, 1, 1).bytes()[..], &body].concat(), hand_in: Vec::new(), lent: 0 };
+    let circuit = [&Draft::new(13, 256, 1, 1).bytes()[..], &body].concat();
+    let mut call = Call { kind: READ, circuit, sheet: Vec::new(), hand_in: Vec::new(), lent: 0 };
     call.circuit.truncate(60_001);
     circuit16(&mut call, 15, 512);
     // Mark, version, p, o; a signal number, a coefficient, the count of the last form that the file reaches; and it ends within that form.

@@ -1,12 +1,15 @@
-//! The file of test vectors: calls with the answers that they must get. Little-endian; `VQT`, 16-bit version 1, 32-bit count, then the records.
+//! The file of test vectors: calls with the answers that they must get. Little-endian; `VQT`, 16-bit version 2, 32-bit count, then the records.
 
 use crate::reader::{number16, number32, Refusal};
-use crate::{check_derivation, check_pair, read_circuit, solve};
+use crate::{check_derivation, check_pair, read_circuit, solve, Judgement};
 
 pub const READ: u8 = 1;
 pub const DERIVATION: u8 = 2;
 pub const PAIR: u8 = 3;
 pub const SOLVE: u8 = 4;
+
+/// The version of the file.
+const VERSION: u16 = 2;
 
 /// Stands for the length of a circuit that is the one of the record before.
 const SAME_CIRCUIT: u32 = u32::MAX;
@@ -20,11 +23,12 @@ pub struct Answer {
     pub written: Vec<u8>,
 }
 
-/// One call: its kind, its arguments and its answer.
+/// One call: its kind, its arguments and its answer. Reading takes no sheet, which then has no bytes.
 #[derive(Clone, Debug, PartialEq, Eq)]
 pub struct Record {
     pub kind: u8,
     pub circuit: Vec<u8>,
+    pub sheet: Vec<u8>,
     pub hand_in: Vec<u8>,
     pub lent: u32,
     pub answer: Answer,
@@ -32,26 +36,27 @@ pub struct Record {
 
 impl Record {
     /// The call with the answer that this crate gives.
-    pub fn answered(kind: u8, circuit: &[u8], hand_in: &[u8], lent: usize) -> Record {
-        Record { kind, circuit: circuit.to_vec(), hand_in: hand_in.to_vec(), lent: lent as u32, answer: answer(kind, circuit, hand_in, lent) }
+    pub fn answered(kind: u8, circuit: &[u8], sheet: &[u8], hand_in: &[u8], lent: usize) -> Record {
+        let answer = answer(kind, circuit, sheet, hand_in, lent);
+        Record { kind, circuit: circuit.to_vec(), sheet: sheet.to_vec(), hand_in: hand_in.to_vec(), lent: lent as u32, answer }
     }
 
     /// Whether this crate gives the same answer.
     pub fn agrees(&self) -> bool {
-        self.answer == answer(self.kind, &self.circuit, &self.hand_in, self.lent as usize)
+        self.answer == answer(self.kind, &self.circuit, &self.sheet, &self.hand_in, self.lent as usize)
     }
 
     /// How many bytes the record takes in the file.
     pub fn size(&self, same_circuit: bool) -> usize {
-        43 + if same_circuit { 0 } else { self.circuit.len() } + self.hand_in.len() + self.answer.written.len()
+        47 + if same_circuit { 0 } else { self.circuit.len() } + self.sheet.len() + self.hand_in.len() + self.answer.written.len()
     }
 }
 
 /// Makes the call on a buffer of the lent length and checks that no byte beyond the written ones has changed.
-pub fn answer(kind: u8, circuit: &[u8], hand_in: &[u8], lent: usize) -> Answer {
+pub fn answer(kind: u8, circuit: &[u8], sheet: &[u8], hand_in: &[u8], lent: usize) -> Answer {
     let filling: Vec<u8> = (0..lent).map(|index| (index * 37 + 90) as u8 | 2).collect();
     let mut buffer = filling.clone();
-    let result = call(kind, circuit, hand_in, &mut buffer);
+    let result = call(kind, circuit, sheet, hand_in, &mut buffer);
     let written = result.map_or(0, |(_, written)| written);
     assert_eq!(buffer[written..], filling[written..], "bytes beyond the written ones have changed");
     buffer.truncate(written);
@@ -62,21 +67,24 @@ pub fn answer(kind: u8, circuit: &[u8], hand_in: &[u8], lent: usize) -> Answer {
 }
 
 /// The values that the call answers, and how many bytes it writes.
-fn call(kind: u8, circuit: &[u8], hand_in: &[u8], buffer: &mut [u8]) -> Result<([u32; 5], usize), Refusal> {
+fn call(kind: u8, circuit: &[u8], sheet: &[u8], hand_in: &[u8], buffer: &mut [u8]) -> Result<([u32; 5], usize), Refusal> {
     let read = read_circuit(circuit)?;
     let [n, i, o] = [read.signals, read.inputs, read.outputs].map(u32::from);
     Ok(match kind {
         READ => ([read.field.prime() as u32, n, i, o, read.constraints.len() as u32], 0),
-        DERIVATION => {
-            let (count, fixed) = check_derivation(circuit, hand_in, buffer)?;
-            ([count as u32, u32::from(fixed), 0, 0, 0], n as usize)
-        }
-        PAIR => ([u32::from(check_pair(circuit, hand_in)?), 0, 0, 0, 0], 0),
+        DERIVATION => (judged(check_derivation(circuit, sheet, hand_in, buffer)?, 0), n as usize),
+        PAIR => ([u32::from(check_pair(circuit, sheet, hand_in)?), 0, 0, 0, 0], 0),
         _ => {
-            let (count, fixed, length) = solve(circuit, buffer)?;
-            ([count as u32, u32::from(fixed), length as u32, 0, 0], length)
+            let (judgement, length) = solve(circuit, sheet, buffer)?;
+            (judged(judgement, length), length)
         }
     })
+}
+
+/// The values of a judgement, and a derivation's length.
+fn judged(judgement: Judgement, length: usize) -> [u32; 5] {
+    let Judgement { count, fixed, shown, unshown } = judgement;
+    [count, usize::from(fixed), shown, unshown, length].map(|value| value as u32)
 }
 
 /// The most bytes of one file: what a reader makes room for.
@@ -100,7 +108,7 @@ pub fn volumes(records: &[Record]) -> Vec<&[Record]> {
 /// The file with these records.
 pub fn write(records: &[Record]) -> Vec<u8> {
     let mut file = b"VQT".to_vec();
-    file.extend(1u16.to_le_bytes());
+    file.extend(VERSION.to_le_bytes());
     file.extend((records.len() as u32).to_le_bytes());
     let mut last: Option<&[u8]> = None;
     for record in records {
@@ -111,6 +119,7 @@ pub fn write(records: &[Record]) -> Vec<u8> {
             put_bytes(&mut file, &record.circuit);
         }
         last = Some(&record.circuit);
+        put_bytes(&mut file, &record.sheet);
         put_bytes(&mut file, &record.hand_in);
         file.extend(record.lent.to_le_bytes());
         file.extend(record.answer.number.to_le_bytes());
@@ -136,8 +145,8 @@ pub struct Records<'a> {
 
 /// Starts reading a file of vectors.
 pub fn records(file: &[u8]) -> Result<Records<'_>, String> {
-    if file.len() < 9 || &file[..3] != b"VQT" || number16(file, 3) != 1 {
-        return Err("not a version 1 file of vectors".to_string());
+    if file.len() < 9 || &file[..3] != b"VQT" || number16(file, 3) != VERSION {
+        return Err(format!("not a version {VERSION} file of vectors"));
     }
     Ok(Records { file, at: 9, left: number32(file, 5), circuit: None })
 }
@@ -169,7 +178,7 @@ impl<'a> Records<'a> {
 
     fn record(&mut self) -> Result<Record, String> {
         let kind = self.take(1)?[0];
-        let (circuit, hand_in) = (self.circuit()?.to_vec(), self.bytes()?.to_vec());
+        let (circuit, sheet, hand_in) = (self.circuit()?.to_vec(), self.bytes()?.to_vec(), self.bytes()?.to_vec());
         let lent = self.number()?;
         let number = number16(self.take(2)?, 0);
         let place = self.number()?;
@@ -178,7 +187,7 @@ impl<'a> Records<'a> {
             *value = self.number()?;
         }
         let written = self.bytes()?.to_vec();
-        Ok(Record { kind, circuit, hand_in, lent, answer: Answer { number, place, values, written } })
+        Ok(Record { kind, circuit, sheet, hand_in, lent, answer: Answer { number, place, values, written } })
     }
 }
 
@@ -204,7 +213,7 @@ pub fn summary(records: &[Record]) -> String {
         let accepted = all.clone().filter(|record| record.answer.number == 0).count();
         text += &format!("kind {kind} ({name}): {} records, {accepted} not refused\n", all.count());
     }
-    for number in 1..=25 {
+    for number in 1..=28 {
         let places: Vec<u32> = records.iter().filter(|record| record.answer.number == number).map(|record| record.answer.place).collect();
         let different: std::collections::BTreeSet<&u32> = places.iter().collect();
         text += &format!("refusal {number}: {} records, {} places\n", places.len(), different.len());

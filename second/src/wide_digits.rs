@@ -106,7 +106,7 @@ fn broken_terms(sum: u16, rng: &mut Random) -> Terms {
 fn sums_in_turn() -> Marked {
     let circuit = broken_sums(MOST_SUMS);
     let read = read_circuit(&circuit).expect("a valid circuit");
-    let (rules, mut standing) = (Rules::new(&read), Standing::start(&read));
+    let (rules, mut standing) = (Rules::new(&read), Standing::start(&read, &[]));
     let mut first: Vec<Step> = (1..=256).map(|signal| Step::new(ROOT, signal, MOST_SUMS + signal, 0)).collect();
     first.push(Step::new(ZERO, 256, 0, 0));
     assert!(first.iter().all(|&step| rules.take(&mut standing, step)));

@@ -1,7 +1,9 @@
-//! Circuits on which a solver works longest: many steps, and for each of them many long forms to look at.
+//! Circuits on which a solver works longest: many steps, and for each of them many long forms to look at; and some with sheets of 256 tags.
 
 use crate::planted::{bent_constraint, Planted};
 use crate::random::Random;
+use crate::reader::number16;
+use crate::sheet::{write_sheet, Tag, BINARY, MAXBIT, MAXVALUE, MOST_TAGS};
 use crate::writer::{Draft, Terms};
 
 /// The largest prime.
@@ -19,6 +21,47 @@ pub fn all() -> Vec<(&'static str, Vec<u8>)> {
         ("wide_sums", wide_sums()),
         ("largest", largest(1).circuit),
     ]
+}
+
+/// A large circuit with a sheet of 256 tags.
+pub struct Tagged {
+    pub name: &'static str,
+    pub circuit: Vec<u8>,
+    pub sheet: Vec<u8>,
+}
+
+/// The large circuits with sheets: tags on every signal, most of which are shown; tags that let bounds fall; many tags on few inputs.
+pub fn tagged() -> Vec<Tagged> {
+    let bits: Vec<Tag> = (1..=MOST_TAGS as u16).map(|number| Tag::new(1 + number % 248, MAXBIT, if number % 248 < 8 { 30 } else { 1 })).collect();
+    let largest = largest(1);
+    vec![
+        Tagged { name: "bits_behind_decoys", circuit: bits_behind_decoys(), sheet: write_sheet(&bits) },
+        sums_over_tagged_inputs(),
+        Tagged { name: "largest", sheet: obeyed_sheet(&largest), circuit: largest.circuit },
+    ]
+}
+
+/// 128 inputs with two tags each, and a chain of 128 sums, the last one first in the file: each is the one before plus 61 inputs. Without the tags no bound
+/// falls; with them each waits for the one before. Fixed.
+fn sums_over_tagged_inputs() -> Tagged {
+    let (mut draft, inputs) = (Draft::new(P, 256, 128, 128), 128u16);
+    for sum in (inputs + 1..=256).rev() {
+        let before = if sum == inputs + 1 { 1 } else { sum - 1 };
+        let input = |index: u16| 2 + (sum * 5 + index) % (inputs - 1);
+        let mut b: Terms = vec![(sum, -1), (before, 1)];
+        b.extend((0..30).map(|index| (input(index), i64::from(index) + 1)));
+        let c: Terms = (30..61).map(|index| (input(index), -i64::from(index) - 1)).collect();
+        draft.add(&[(0, 1)], &b, &c);
+    }
+    let tags: Vec<Tag> = (1..=inputs).flat_map(|input| [Tag::new(input, MAXBIT, 8), Tag::new(input, BINARY, 0)]).collect();
+    Tagged { name: "sums_over_tagged_inputs", circuit: draft.bytes(), sheet: write_sheet(&tags) }
+}
+
+/// 256 tags on the inputs in turn, each with the value that the planted runs have there as its limit.
+pub fn obeyed_sheet(planted: &Planted) -> Vec<u8> {
+    let inputs = usize::from(number16(&planted.circuit, 11));
+    let tags: Vec<Tag> = (0..MOST_TAGS).map(|index| Tag::new((index % inputs) as u16 + 1, MAXVALUE, planted.first[index % inputs])).collect();
+    write_sheet(&tags)
 }
 
 pub(crate) fn bit(draft: &mut Draft, signal: u16) {

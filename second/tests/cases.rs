@@ -4,6 +4,7 @@ use second::cases::{case_a, case_b, case_c, case_e, case_f, case_g};
 use second::marker::write_steps;
 use second::pair::write_pair;
 use second::rules::Step;
+use second::sheet::{write_sheet, Tag, BINARY, MAXBIT, MAXVALUE, NO_TAGS};
 use second::writer::Draft;
 use second::{check_derivation, check_pair, read_circuit, solve, Refusal};
 
@@ -14,14 +15,15 @@ type Fields = (u8, u16, u16, u16);
 fn solved(circuit: &[u8]) -> (Vec<Fields>, usize, bool) {
     let n = usize::from(read_circuit(circuit).unwrap().signals);
     let mut out = vec![0; 7 + 14 * n];
-    let (count, fixed, length) = solve(circuit, &mut out).unwrap();
-    assert_eq!(check_derivation(circuit, &out[..length], &mut vec![0; n]), Ok((count, fixed)));
+    let (judgement, length) = solve(circuit, NO_TAGS, &mut out).unwrap();
+    assert_eq!(check_derivation(circuit, NO_TAGS, &out[..length], &mut vec![0; n]), Ok(judgement));
+    assert_eq!((judgement.shown, judgement.unshown), (0, 0));
     let steps = second::marker::read_steps(&out[..length]).unwrap();
-    (steps.iter().map(|s| (s.kind, s.target, s.constraint, s.reference)).collect(), count, fixed)
+    (steps.iter().map(|s| (s.kind, s.target, s.constraint, s.reference)).collect(), judgement.count, judgement.fixed)
 }
 
 fn marked(circuit: &[u8], steps: &[Step]) -> Result<(usize, bool), Refusal> {
-    check_derivation(circuit, &write_steps(steps), &mut [0; 300])
+    check_derivation(circuit, NO_TAGS, &write_steps(steps), &mut [0; 300]).map(|judgement| (judgement.count, judgement.fixed))
 }
 
 fn refusal<T>(number: u16, place: u32) -> Result<T, Refusal> {
@@ -38,7 +40,7 @@ fn a_square() {
 fn b_two_ways() {
     let (_, _, fixed) = solved(&case_b());
     assert!(!fixed);
-    assert_eq!(check_pair(&case_b(), &write_pair(2, &[0, 1, 0], &[0, 2, 1])), Ok(2));
+    assert_eq!(check_pair(&case_b(), NO_TAGS, &write_pair(2, &[0, 1, 0], &[0, 2, 1])), Ok(2));
 }
 
 #[test]
@@ -49,7 +51,7 @@ fn c_three_bits() {
     assert_eq!(solved(&c), (steps, 4, true));
     let read = read_circuit(&c).unwrap();
     assert_eq!((read.field.prime(), read.signals, read.inputs, read.outputs, read.constraints.len()), (13, 4, 1, 3, 4));
-    assert_eq!(solve(&c[..112], &mut [0; 63]), refusal(6, 112));
+    assert_eq!(solve(&c[..112], NO_TAGS, &mut [0; 63]), refusal(6, 112));
 }
 
 #[test]
@@ -68,11 +70,26 @@ fn c_as_printed() {
 }
 
 #[test]
+fn c_as_printed_with_a_sheet() {
+    use std::process::{Command, Stdio};
+    let folder = std::path::Path::new(env!("CARGO_TARGET_TMPDIR"));
+    let (circuit, sheet) = (folder.join("case-c.cqt"), folder.join("case-c.tqt"));
+    std::fs::write(&circuit, case_c(13)).unwrap();
+    // The bits are shown to be bits, but not to be 0; the input is 5 at most, less than the bits give.
+    std::fs::write(&sheet, write_sheet(&[Tag::new(1, MAXVALUE, 5), Tag::new(2, BINARY, 0), Tag::new(4, MAXBIT, 0)])).unwrap();
+    let input = Stdio::from(std::fs::File::open(&circuit).unwrap());
+    let output = Command::new(env!("CARGO_BIN_EXE_second-solve")).arg(&sheet).stdin(input).output().unwrap();
+    let expected = "circuit 13 4 1 3 4\nstep 1 root 2 1 0\nstep 2 root 3 2 0\nstep 3 root 4 3 0\n\
+        step 4 digits 2 4 2\nstep 5 digits 3 4 2\nstep 6 digits 4 4 1\nfixed 4\nshown 1 3\n";
+    assert_eq!(String::from_utf8(output.stdout).unwrap(), expected);
+}
+
+#[test]
 fn d_sum_equal_to_p() {
     let (_, count, fixed) = solved(&case_c(7));
     assert_eq!((count, fixed), (1, false));
     for q in 2..=4 {
-        assert_eq!(check_pair(&case_c(7), &write_pair(q, &[0, 0, 0, 0], &[0, 1, 1, 1])), Ok(q));
+        assert_eq!(check_pair(&case_c(7), NO_TAGS, &write_pair(q, &[0, 0, 0, 0], &[0, 1, 1, 1])), Ok(q));
     }
 }
 
@@ -86,7 +103,7 @@ fn e_square_is_zero() {
 fn f_square_is_itself() {
     let f = case_f();
     assert_eq!(solved(&f), (vec![], 0, false));
-    assert_eq!(check_pair(&f, &write_pair(1, &[0], &[1])), Ok(1));
+    assert_eq!(check_pair(&f, NO_TAGS, &write_pair(1, &[0], &[1])), Ok(1));
 }
 
 #[test]

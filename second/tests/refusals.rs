@@ -1,17 +1,23 @@
-//! Every refusal from 1 to 25: its number, its place, what comes before what; and that a refusal writes nothing.
+//! Every refusal from 1 to 28: its number, its place, what comes before what; and that a refusal writes nothing.
 
 use second::cases::{case_a, case_c};
 use second::damage::Layout;
 use second::marker::write_steps;
 use second::pair::write_pair;
 use second::rules::Step;
+use second::sheet::{write_sheet, Tag, BINARY, MAXBIT, MAXVALUE, NO_TAGS};
 use second::vectors::{answer, DERIVATION, PAIR, READ, SOLVE};
 use second::writer::Draft;
 
-/// Number and place of the answer; `answer` checks that a refusal leaves the buffer as it was.
-fn refused(kind: u8, circuit: &[u8], hand_in: &[u8], lent: usize) -> (u16, u32) {
-    let answer = answer(kind, circuit, hand_in, lent);
+/// Number and place of the answer with a sheet; `answer` checks that a refusal leaves the buffer as it was.
+fn refused_with(kind: u8, circuit: &[u8], sheet: &[u8], hand_in: &[u8], lent: usize) -> (u16, u32) {
+    let answer = answer(kind, circuit, sheet, hand_in, lent);
     (answer.number, answer.place)
+}
+
+/// Number and place of the answer without tags.
+fn refused(kind: u8, circuit: &[u8], hand_in: &[u8], lent: usize) -> (u16, u32) {
+    refused_with(kind, circuit, NO_TAGS, hand_in, lent)
 }
 
 /// The refusal of a circuit, which must be the same in all calls, whatever is handed in.
@@ -19,6 +25,8 @@ fn refused_circuit(circuit: &[u8]) -> (u16, u32) {
     let refusal = refused(READ, circuit, &[], 0);
     for (kind, lent) in [(DERIVATION, 0), (PAIR, 0), (SOLVE, 0), (SOLVE, 4000)] {
         assert_eq!(refused(kind, circuit, b"bad", lent), refusal);
+        assert_eq!(refused_with(kind, circuit, b"bad", b"bad", lent), refusal);
+        assert_eq!(refused_with(kind, circuit, &write_sheet(&[Tag::new(0, 0, 0)]), b"bad", lent), refusal);
     }
     refusal
 }
@@ -265,6 +273,109 @@ fn solver_buffers() {
 
 #[test]
 fn marks_are_written_and_nothing_beyond() {
-    let answer = answer(DERIVATION, &case_a(), &write_steps(&[]), 9);
+    let answer = answer(DERIVATION, &case_a(), NO_TAGS, &write_steps(&[]), 9);
     assert_eq!((answer.values, answer.written), ([1, 0, 0, 0, 0], vec![1, 0]));
+}
+
+/// The answer for a sheet with a good derivation, a good pair or a buffer that is long enough, which must be the same in all three calls; and, where it is a
+/// refusal, whatever else is handed in.
+fn refused_sheet(p: u32, sheet: &[u8]) -> (u16, u32) {
+    let circuit = Draft::new(p, 4, 2, 1).bytes();
+    let refusal = refused_with(SOLVE, &circuit, sheet, &[], 63);
+    assert_eq!(refused_with(DERIVATION, &circuit, sheet, &write_steps(&[]), 4), refusal);
+    assert_eq!(refused_with(PAIR, &circuit, sheet, &write_pair(3, &[0; 4], &[0, 0, 1, 0]), 0), refusal);
+    if refusal.0 > 0 {
+        assert_eq!(refused_with(SOLVE, &circuit, sheet, &[], 0), refusal, "before 25");
+        for bad in [&b"bad"[..], b"no hand-in", &write_steps(&[Step::new(0, 0, 0, 0)])] {
+            assert_eq!(refused_with(DERIVATION, &circuit, sheet, bad, 0), refusal, "before 11 to 17");
+        }
+        for bad in [&b"bad"[..], b"PQT\x01\0\0\0", &write_pair(3, &[p; 4], &[0; 4]), &write_pair(3, &[0; 4], &[1; 4])] {
+            assert_eq!(refused_with(PAIR, &circuit, sheet, bad, 0), refusal, "before 18 to 24");
+        }
+    }
+    refusal
+}
+
+#[test]
+fn sheet_files() {
+    let good = write_sheet(&[Tag::new(1, MAXVALUE, 5), Tag::new(3, MAXBIT, 6), Tag::new(4, BINARY, 0)]);
+    assert_eq!(refused_sheet(13, &good), (0, 0));
+    assert_eq!(refused_sheet(13, NO_TAGS), (0, 0));
+    for length in 0..7 {
+        assert_eq!(refused_sheet(13, &good[..length]), (26, 0));
+        assert_eq!(refused_sheet(13, &NO_TAGS[..length]), (26, 0), "no bytes aren't no tags");
+    }
+    for length in 7..28 {
+        assert_eq!(refused_sheet(13, &good[..length]), (26, 0));
+    }
+    for more in 1..9 {
+        assert_eq!(refused_sheet(13, &[&good[..], &vec![0; more]].concat()), (26, 0));
+        assert_eq!(refused_sheet(13, &[NO_TAGS, &vec![0; more]].concat()), (26, 0));
+    }
+    for at in 0..3 {
+        assert_eq!(refused_sheet(13, &put(&good, at, b"X")), (26, 0));
+    }
+    for version in [0u16, 2, 256, 257, 65_535] {
+        assert_eq!(refused_sheet(13, &put(&good, 3, &version.to_le_bytes())), (26, 0));
+    }
+    for count in [0u16, 2, 4, 259, 65_535] {
+        assert_eq!(refused_sheet(13, &put(&good, 5, &count.to_le_bytes())), (26, 0));
+    }
+    for (count, refusal) in [(255, 0), (256, 0), (257, 26), (512, 26)] {
+        assert_eq!(refused_sheet(13, &write_sheet(&vec![Tag::new(1, BINARY, 0); count])), (refusal, 0));
+    }
+}
+
+#[test]
+fn entries_of_sheets() {
+    let bad = [(0, 1, 0), (5, 1, 0), (257, 1, 0), (65_535, 1, 0), (1, 0, 0), (1, 4, 0), (1, 255, 0)];
+    let numbers = [(1, 1, 1), (1, 1, 256), (1, 1, u32::MAX), (4, 2, 31), (4, 2, 32), (4, 2, 256), (4, 2, u32::MAX)];
+    let values = |p: u32| [(2, 3, p), (2, 3, p + 1), (3, 3, u32::MAX)];
+    for p in [3, 13, 2_147_483_647] {
+        for (signal, kind, number) in [&bad[..], &numbers, &values(p)].concat() {
+            let (tag, good) = (Tag::new(signal, kind, number), Tag::new(3, MAXBIT, 30));
+            assert_eq!(refused_sheet(p, &write_sheet(&[tag])), (27, 1), "{tag:?}");
+            assert_eq!(refused_sheet(p, &write_sheet(&[good, good, tag, good, tag])), (27, 3), "{tag:?}");
+            assert_eq!(refused_sheet(p, &write_sheet(&[&vec![good; 255][..], &[tag]].concat())), (27, 256), "{tag:?}");
+            let sheet = write_sheet(&[tag, good]);
+            assert_eq!(refused_sheet(p, &sheet[..20]), (26, 0), "26 before 27");
+            assert_eq!(refused_sheet(p, &put(&sheet, 3, &[2])), (26, 0), "26 before 27");
+        }
+        for (signal, kind, number) in [(1, 1, 0), (4, 1, 0), (1, 2, 0), (1, 2, 30), (3, 3, 0), (1, 3, p - 1)] {
+            assert_eq!(refused_sheet(p, &write_sheet(&[Tag::new(signal, kind, number)])), (0, 0));
+        }
+    }
+}
+
+#[test]
+fn inputs_that_break_their_tags() {
+    // 3 inputs, 4 an output, 5 free; nothing between them.
+    let free = Draft::new(31, 5, 3, 1).bytes();
+    let refused = |tags: &[(u16, u8, u32)], first: [u32; 5], second: [u32; 5]| {
+        let tags: Vec<Tag> = tags.iter().map(|&(signal, kind, number)| Tag::new(signal, kind, number)).collect();
+        refused_with(PAIR, &free, &write_sheet(&tags), &write_pair(4, &first, &second), 0)
+    };
+    let alike = |tags: &[(u16, u8, u32)], [x, y, z]: [u32; 3]| refused(tags, [x, y, z, 0, 0], [x, y, z, 1, 0]);
+    let tags = [(3, MAXVALUE, 5), (1, BINARY, 0), (2, MAXBIT, 3)];
+    assert_eq!(alike(&tags, [1, 7, 5]), (0, 0));
+    assert_eq!(alike(&tags, [2, 7, 5]), (28, 1));
+    assert_eq!(alike(&tags, [1, 8, 5]), (28, 2));
+    assert_eq!(alike(&tags, [1, 7, 6]), (28, 3));
+    assert_eq!(alike(&tags, [1, 8, 6]), (28, 2), "the lowest input, not the first entry");
+    assert_eq!(alike(&[(2, MAXVALUE, 9), (2, MAXVALUE, 4), (2, MAXVALUE, 30)], [30, 5, 30]), (28, 2), "each of several");
+    assert_eq!(alike(&[(2, MAXVALUE, 9), (2, MAXVALUE, 4), (2, MAXVALUE, 30)], [30, 4, 30]), (0, 0));
+    assert_eq!(alike(&[(4, MAXVALUE, 0), (5, MAXBIT, 0), (4, BINARY, 0)], [30; 3]), (0, 0), "tags on other signals");
+    assert_eq!(alike(&[(1, MAXBIT, 5), (2, MAXBIT, 30), (3, MAXVALUE, 30)], [30; 3]), (0, 0), "limits of p - 1 and more");
+    // After 23, before 24.
+    assert_eq!(refused(&tags, [2, 0, 0, 0, 0], [2, 0, 1, 1, 0]), (23, 3));
+    assert_eq!(refused(&tags, [2, 0, 0, 0, 0], [3, 0, 0, 1, 0]), (23, 1));
+    assert_eq!(refused(&tags, [0, 0, 6, 0, 0], [1, 0, 6, 0, 0]), (23, 1));
+    assert_eq!(refused(&tags, [0, 0, 6, 3, 0], [0, 0, 6, 3, 0]), (28, 3));
+    assert_eq!(refused(&tags, [0, 0, 5, 3, 0], [0, 0, 5, 3, 0]), (24, 4));
+    assert_eq!(refused(&tags, [0, 0, 31, 3, 0], [0, 0, 31, 3, 0]), (21, 3));
+    // After 22: the output must be 0.
+    let zero = Draft::new(31, 2, 1, 1).with(&[(0, 1)], &[(2, 1)], &[]).bytes();
+    let sheet = write_sheet(&[Tag::new(1, BINARY, 0)]);
+    assert_eq!(refused_with(PAIR, &zero, &sheet, &write_pair(2, &[9, 0], &[9, 1]), 0), (22, 2));
+    assert_eq!(refused_with(PAIR, &zero, &sheet, &write_pair(2, &[9, 0], &[9, 0]), 0), (28, 1));
 }

@@ -3,8 +3,9 @@
 use second::cases::case_c;
 use second::marker::write_steps;
 use second::rules::{Rules, Standing, Step, DIGITS, PRODUCT, ROOT, SUM, ZERO};
+use second::sheet::{read_sheet, shown, write_sheet, Tag, BINARY, MAXBIT, MAXVALUE, NO_TAGS};
 use second::writer::Draft;
-use second::{brute, check_derivation, read_circuit, Circuit};
+use second::{brute, check_derivation, read_circuit, solve, Circuit, Judgement};
 
 type Form<'a> = &'a [(u16, i64)];
 
@@ -16,7 +17,12 @@ fn circuit(p: u32, n: u16, i: u16, constraints: &[(Form, Form, Form)]) -> Circui
 
 /// The standing after these steps; none if some rule isn't met.
 fn after(circuit: &Circuit, steps: &[(u8, u16, u16, u16)]) -> Option<Standing> {
-    let (rules, mut standing) = (Rules::new(circuit), Standing::start(circuit));
+    after_with(circuit, &[], steps)
+}
+
+/// The standing after these steps with tags.
+fn after_with(circuit: &Circuit, tags: &[Tag], steps: &[(u8, u16, u16, u16)]) -> Option<Standing> {
+    let (rules, mut standing) = (Rules::new(circuit), Standing::start(circuit, tags));
     let met = steps.iter().all(|&(kind, target, constraint, reference)| {
         let (step, before) = (Step::new(kind, target, constraint, reference), standing.clone());
         assert!(rules.in_range(step));
@@ -226,5 +232,105 @@ fn a_mark_doesnt_say_that_some_run_exists() {
     let bytes = Draft::new(5, 1, 0, 1).with(&[(1, 1)], &[(1, 1)], &[]).with(&[], &[], &[(0, 1)]).bytes();
     assert!(brute::satisfying_runs(&read_circuit(&bytes).unwrap()).is_empty());
     let steps = write_steps(&[Step::new(ROOT, 1, 1, 0), Step::new(ZERO, 1, 0, 0)]);
-    assert_eq!(check_derivation(&bytes, &steps, &mut [0]), Ok((1, true)));
+    assert_eq!(check_derivation(&bytes, NO_TAGS, &steps, &mut [0]), Ok(Judgement { count: 1, fixed: true, shown: 0, unshown: 0 }));
+}
+
+/// The first bounds of signals 1 to 3, of which 1 and 2 are inputs, over p.
+fn first_bounds(p: u32, tags: &[(u16, u8, u32)]) -> [u64; 3] {
+    let circuit = circuit(p, 3, 2, &[]);
+    let tags: Vec<Tag> = tags.iter().map(|&(signal, kind, number)| Tag::new(signal, kind, number)).collect();
+    let tags = read_sheet(&circuit, &write_sheet(&tags)).unwrap();
+    let standing = after_with(&circuit, &tags, &[]).unwrap();
+    assert!((1..=3).all(|signal| standing.is_marked(signal) == (signal < 3)));
+    [1, 2, 3].map(|signal| standing.bound(signal))
+}
+
+#[test]
+fn a_tag_lowers_the_first_bound_of_an_input() {
+    assert_eq!(first_bounds(13, &[]), [12, 12, 12]);
+    assert_eq!(first_bounds(13, &[(1, BINARY, 0)]), [1, 12, 12]);
+    assert_eq!(first_bounds(13, &[(2, MAXBIT, 3), (1, MAXVALUE, 9)]), [9, 7, 12]);
+    assert_eq!(first_bounds(13, &[(1, MAXBIT, 0), (2, MAXVALUE, 0)]), [0, 0, 12]);
+    assert_eq!(first_bounds(13, &[(1, MAXBIT, 4), (2, MAXVALUE, 12)]), [12, 12, 12], "15 lowers nothing");
+    assert_eq!(first_bounds(13, &[(1, MAXBIT, 30), (2, MAXVALUE, 11)]), [12, 11, 12]);
+    assert_eq!(first_bounds(7, &[(1, MAXBIT, 3), (2, MAXBIT, 2)]), [6, 3, 6], "7 values by 3 bits are one too many");
+    assert_eq!(first_bounds(3, &[(1, BINARY, 0), (2, MAXBIT, 2)]), [1, 2, 2]);
+    assert_eq!(first_bounds(2_147_483_647, &[(1, MAXBIT, 30), (2, MAXVALUE, 2_147_483_646)]), [1_073_741_823, 2_147_483_646, 2_147_483_646]);
+}
+
+#[test]
+fn of_several_tags_on_an_input_each_counts() {
+    for tags in [[9, 4, 7], [4, 7, 9], [9, 7, 4], [4, 4, 9]] {
+        assert_eq!(first_bounds(13, &tags.map(|limit| (1, MAXVALUE, limit))), [4, 12, 12]);
+    }
+    assert_eq!(first_bounds(13, &[(1, MAXBIT, 3), (2, BINARY, 0), (1, MAXVALUE, 5), (2, MAXVALUE, 8), (1, MAXBIT, 30)]), [5, 1, 12]);
+}
+
+#[test]
+fn a_tag_on_another_signal_lowers_nothing() {
+    assert_eq!(first_bounds(13, &[(3, BINARY, 0), (3, MAXBIT, 0), (3, MAXVALUE, 4)]), [12, 12, 12]);
+    assert_eq!(first_bounds(13, &[(3, BINARY, 0), (2, MAXVALUE, 4)]), [12, 4, 12]);
+}
+
+#[test]
+fn sums_rest_on_first_bounds() {
+    // 3 is three times 1 and 2.
+    let circuit = circuit(13, 3, 2, &[(&[(0, 1)], &[(1, 3), (2, 1), (3, -1)], &[])]);
+    let bound = |x: u32, y: u32| {
+        let tags = [Tag::new(1, MAXVALUE, x), Tag::new(2, MAXVALUE, y)];
+        Some(after_with(&circuit, &tags, &[(SUM, 3, 1, 0)])?.bound(3))
+    };
+    assert_eq!([bound(1, 8), bound(1, 9), bound(0, 12), bound(4, 0), bound(0, 0)], [Some(11), Some(12), Some(12), Some(12), Some(0)]);
+    assert_eq!([bound(1, 10), bound(4, 1), bound(12, 12)], [None; 3], "p or more");
+    let zero = [Tag::new(1, MAXBIT, 0)];
+    assert!(after_with(&circuit, &zero, &[(ZERO, 1, 0, 0)]).is_some(), "an input of bound 0, which is marked already");
+    assert!(after_with(&circuit, &[Tag::new(3, MAXBIT, 0)], &[(ZERO, 3, 0, 0)]).is_none(), "no bound, a tag alone");
+}
+
+#[test]
+fn a_tagged_input_is_lowered_further() {
+    // 1 equals 2, which is 0 or 3.
+    let circuit = circuit(13, 2, 1, &[(&[(0, 1)], &[(1, 1), (2, -1)], &[]), (&[(2, 1)], &[(2, 1), (0, -3)], &[])]);
+    let steps = [(ROOT, 2, 2, 0), (SUM, 1, 1, 0)];
+    for (limit, bound) in [(12, 3), (5, 3), (3, 3), (2, 2), (0, 0)] {
+        assert_eq!(after_with(&circuit, &[Tag::new(1, MAXVALUE, limit)], &steps).unwrap().bound(1), bound);
+    }
+}
+
+#[test]
+fn shown_is_what_the_last_bounds_show() {
+    // 1 is an input, 2 is a bit, 3 has any value.
+    let circuit = circuit(13, 3, 1, &[(&[(2, 1)], &[(2, 1), (0, -1)], &[])]);
+    let after = |tags: &[(u16, u8, u32)], steps: &[(u8, u16, u16, u16)]| {
+        let tags: Vec<Tag> = tags.iter().map(|&(signal, kind, number)| Tag::new(signal, kind, number)).collect();
+        shown(&circuit, &tags, &after_with(&circuit, &tags, steps).unwrap())
+    };
+    let root = [(ROOT, 2, 1, 0)];
+    assert_eq!(after(&[], &root), (0, 0));
+    assert_eq!(after(&[(2, BINARY, 0)], &[]), (0, 1));
+    assert_eq!(after(&[(2, BINARY, 0)], &root), (1, 0));
+    assert_eq!(after(&[(2, MAXBIT, 0), (2, MAXVALUE, 0)], &root), (0, 1));
+    assert_eq!(after(&[(2, MAXBIT, 1), (2, MAXVALUE, 1), (2, BINARY, 0)], &root), (3, 0), "each counts");
+    assert_eq!(after(&[(3, MAXVALUE, 12), (3, MAXBIT, 4)], &[]), (2, 0), "p - 1 and above");
+    assert_eq!(after(&[(1, BINARY, 0), (3, MAXVALUE, 11), (1, MAXVALUE, 0), (2, BINARY, 0), (3, MAXBIT, 3)], &root), (1, 2));
+    assert_eq!(after(&[(1, BINARY, 0), (2, BINARY, 0), (2, MAXBIT, 0)], &root), (1, 3), "the entry's number, inputs counted");
+    assert_eq!(after(&[(1, BINARY, 0), (1, MAXVALUE, 3)], &root), (0, 0), "inputs alone");
+}
+
+/// New bounds that the solver finds in the order of their size, from first bounds of every size.
+#[test]
+fn the_solver_begins_at_the_first_bounds() {
+    // 2 is twice 1 and 1 more, 3 is their sum; 1 and 2 are inputs.
+    let draft = Draft::new(31, 3, 2, 1).with(&[(0, 1)], &[(1, 2), (0, 1), (2, -1)], &[]).with(&[(0, 1)], &[(1, 1), (2, 1), (3, -1)], &[]);
+    let steps = |x: u32, y: u32| {
+        let (mut out, tags) = ([0; 49], [Tag::new(1, MAXVALUE, x), Tag::new(3, MAXVALUE, 7), Tag::new(2, MAXVALUE, y)]);
+        let (judgement, length) = solve(&draft.bytes(), &write_sheet(&tags), &mut out).unwrap();
+        let bounds = second::marker::read_steps(&out[..length]).unwrap().into_iter().filter(|step| step.kind == SUM);
+        (bounds.map(|step| (step.target, step.constraint)).collect::<Vec<_>>(), judgement.shown)
+    };
+    assert_eq!(steps(2, 11), (vec![(2, 1), (3, 2)], 1), "5, then 7");
+    assert_eq!(steps(2, 5), (vec![(3, 2)], 1), "5 is no less");
+    assert_eq!(steps(2, 4), (vec![(3, 2)], 1));
+    assert_eq!(steps(3, 11), (vec![(2, 1), (3, 2)], 0), "7, then 10");
+    assert_eq!(steps(30, 30), (vec![], 0));
 }

@@ -5,7 +5,7 @@ use std::path::Path;
 
 use second::compose::{compose, USUAL_SIZE};
 use second::marker::read_steps;
-use second::reader::number16;
+use second::reader::{number16, number32};
 use second::rules::Step;
 use second::vectors::{records, volumes, write, Record, DERIVATION, MOST_BYTES, PAIR, READ, SOLVE};
 
@@ -14,7 +14,7 @@ fn files_are_read_back_and_agree() {
     for seed in [1, 2, 77] {
         let made = compose(seed, USUAL_SIZE);
         let files: Vec<Vec<u8>> = volumes(&made).into_iter().map(write).collect();
-        assert_eq!(files.len(), 2);
+        assert_eq!(files.len(), 3);
         assert!(files.iter().all(|file| file.len() <= MOST_BYTES));
         let read: Vec<Record> = files.iter().flat_map(|file| records(file).unwrap().map(Result::unwrap)).collect();
         assert_eq!(read, made);
@@ -74,6 +74,41 @@ fn no_limit_hangs_on_one_vector() {
     }
 }
 
+/// The limits of sheets and of the numbers of their entries.
+#[test]
+fn no_limit_of_tags_hangs_on_one_vector() {
+    let made = compose(1, USUAL_SIZE);
+    let several = |what: &str, least: usize, number: u16, test: &dyn Fn(&Record) -> bool| {
+        let count = made.iter().filter(|record| record.answer.number == number && test(record)).count();
+        assert!(count >= least, "{what} with {number}: {count}");
+    };
+    for (length, number) in [(6, 26), (7, 0), (8, 26)] {
+        several("length", 3, number, &|r| r.sheet.len() == length);
+    }
+    for (count, least, number) in [(255, 1, 0), (256, 3, 0), (257, 1, 26)] {
+        several("count", least, number, &|r| r.sheet.len() == 7 + 7 * count && usize::from(number16(&r.sheet, 5)) == count);
+    }
+    // The entry that is refused, or the first one.
+    let entry = |r: &Record| r.sheet.get(7 * r.answer.place.max(1) as usize..).filter(|rest| rest.len() >= 7).map(|rest| rest[..7].to_vec());
+    let kind_and_number = |r: &Record| entry(r).map(|entry| (entry[2], number32(&entry, 3)));
+    let p = |r: &Record| if r.circuit.len() < 17 { 0 } else { number32(&r.circuit, 5) };
+    for (kind, v, number) in [(1, 0, 0), (1, 1, 27), (2, 30, 0), (2, 31, 27)] {
+        several("number", 3, number, &|r| kind_and_number(r) == Some((kind, v)));
+    }
+    for (more, number) in [(-1, 0), (0, 27)] {
+        several("maxvalue", 3, number, &|r| kind_and_number(r).is_some_and(|(kind, v)| kind == 3 && i64::from(v) == i64::from(p(r)) + more));
+    }
+    for (kind, number) in [(0, 27), (1, 0), (3, 0), (4, 27)] {
+        several("kind", 3, number, &|r| kind_and_number(r).is_some_and(|(found, _)| found == kind));
+    }
+    for (more, number) in [(0, 0), (1, 27)] {
+        several("signal", 3, number, &|r| {
+            r.circuit.len() >= 17 && entry(r).is_some_and(|entry| number16(&entry, 0) == number16(&r.circuit, 9) + more)
+        });
+    }
+    several("signal 0", 3, 27, &|r| entry(r).is_some_and(|entry| number16(&entry, 0) == 0));
+}
+
 /// The last steps of derivations, and how they are refused.
 #[test]
 fn fields_hang_on_several_vectors() {
@@ -96,10 +131,10 @@ fn fields_hang_on_several_vectors() {
 fn every_refusal_occurs_at_several_places() {
     for seed in [1, 2, 3] {
         let made = compose(seed, USUAL_SIZE);
-        for number in 0..=25 {
+        for number in 0..=28 {
             let places: Vec<u32> = made.iter().filter(|record| record.answer.number == number).map(|record| record.answer.place).collect();
             assert!(places.len() >= 5, "refusal {number}: {places:?}");
-            if [6, 7, 8, 9, 10, 15, 16, 17, 21, 22, 23, 24].contains(&number) {
+            if [6, 7, 8, 9, 10, 15, 16, 17, 21, 22, 23, 24, 27, 28].contains(&number) {
                 assert!(places.iter().collect::<BTreeSet<_>>().len() >= 5, "refusal {number}: {places:?}");
             }
         }

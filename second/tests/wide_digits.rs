@@ -4,6 +4,7 @@ use second::check_derivation;
 use second::marker::{read_steps, MOST_STEPS};
 use second::read_circuit;
 use second::rules::{Rules, Standing, Step, DIGITS, ROOT, ZERO};
+use second::sheet::NO_TAGS;
 use second::solver::derive;
 use second::wide_digits::{all_marked, broken_sums, MOST_SUMS};
 
@@ -13,7 +14,12 @@ fn derivations_of_wide_digits_are_accepted() {
         let steps = read_steps(&marked.derivation).unwrap();
         assert_eq!(steps.len(), MOST_STEPS);
         assert!(steps.iter().filter(|step| step.kind == DIGITS).count() >= MOST_STEPS - 257);
-        assert_eq!(check_derivation(&marked.circuit, &marked.derivation, &mut [9; 256]).map(|(count, _)| count), Ok(1), "{}", marked.name);
+        assert_eq!(
+            check_derivation(&marked.circuit, NO_TAGS, &marked.derivation, &mut [9; 256]).map(|judgement| judgement.count),
+            Ok(1),
+            "{}",
+            marked.name
+        );
     }
 }
 
@@ -32,11 +38,11 @@ fn broken_sums_have_64_signals() {
 #[test]
 fn broken_sums_mark_no_bit_before_the_last_zero() {
     let circuit = read_circuit(&broken_sums(35)).unwrap();
-    let (steps, _) = derive(&circuit);
+    let (steps, _) = derive(&circuit, &[]);
     assert!(steps[..256].iter().all(|step| step.kind == ROOT));
     assert_eq!(steps[256..510], (3..=256).map(|signal| Step::new(ZERO, signal, 0, 0)).collect::<Vec<_>>());
     assert_eq!(steps[510..].iter().map(|step| (step.kind, step.target)).collect::<Vec<_>>(), [(DIGITS, 1), (DIGITS, 2)]);
-    let (rules, mut standing) = (Rules::new(&circuit), Standing::start(&circuit));
+    let (rules, mut standing) = (Rules::new(&circuit), Standing::start(&circuit, &[]));
     assert!(steps[..256].iter().all(|&step| rules.take(&mut standing, step)));
     for (constraint, reference) in (1..=35).flat_map(|constraint| (1..=256).map(move |reference| (constraint, reference))) {
         assert!(!rules.take(&mut standing, Step::new(DIGITS, 1, constraint, reference)));

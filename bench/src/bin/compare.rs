@@ -1,17 +1,18 @@
 //! compare CALLS [SEED]: makes at least so many calls of the proved library and of the second implementation on the same inputs and stops at the first
-//! that differs. Prints how many agree, by kind and by refusal.
+//! that differs. Prints how many agree, by kind and by refusal, and how many had tags.
 
 use std::collections::BTreeMap;
 
 use bench::proved;
 use second::compose::{compose, compose_random};
+use second::sheet::NO_TAGS;
 use second::vectors::{Record, DERIVATION, SOLVE};
 use second::wide_digits::{all_marked, broken_sums, MOST_SUMS};
 
 /// Solving and marking where the digits test is widest.
 fn wide_digits() -> Vec<Record> {
-    let solved = [1, 35, MOST_SUMS].map(|sums| Record::answered(SOLVE, &broken_sums(sums), &[], 7 + 14 * 256));
-    let marked = all_marked().map(|marked| Record::answered(DERIVATION, &marked.circuit, &marked.derivation, 256));
+    let solved = [1, 35, MOST_SUMS].map(|sums| Record::answered(SOLVE, &broken_sums(sums), NO_TAGS, &[], 7 + 14 * 256));
+    let marked = all_marked().map(|marked| Record::answered(DERIVATION, &marked.circuit, NO_TAGS, &marked.derivation, 256));
     solved.into_iter().chain(marked).collect()
 }
 
@@ -19,7 +20,7 @@ fn main() {
     let mut arguments = std::env::args().skip(1);
     let wanted: u64 = arguments.next().and_then(|text| text.parse().ok()).expect("use: compare CALLS [SEED]");
     let mut seed: u64 = arguments.next().map_or(1, |text| text.parse().expect("a seed is a number"));
-    let (mut calls, mut kinds, mut numbers) = (0, BTreeMap::<u8, u64>::new(), BTreeMap::<u16, u64>::new());
+    let (mut calls, mut tagged, mut kinds, mut numbers) = (0, 0, BTreeMap::<u8, u64>::new(), BTreeMap::<u16, u64>::new());
     // The first records are the fixed calls, with the worst circuits among them; all others are random.
     let mut records = compose(seed, 1_600_000);
     records.extend(wide_digits());
@@ -31,11 +32,12 @@ fn main() {
                 std::process::exit(1);
             }
             calls += 1;
+            tagged += u64::from(record.sheet.len() > NO_TAGS.len());
             *kinds.entry(record.kind).or_default() += 1;
             *numbers.entry(record.answer.number).or_default() += 1;
         }
         seed += 1;
         records = compose_random(seed, 400_000);
     }
-    println!("{calls} calls agree; by kind {kinds:?}; by refusal {numbers:?}");
+    println!("{calls} calls agree, {tagged} of them with tags; by kind {kinds:?}; by refusal {numbers:?}");
 }

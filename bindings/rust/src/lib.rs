@@ -1,23 +1,39 @@
 //! Safe calls of the proved solver and marker. The library behind them has no precondition: every call ends on all bytes and lengths, and a refusal
 //! writes into no buffer. Nothing checks the declarations here against the proved source, so they are few and on bytes and numbers alone. There is no heap;
 //! the stack that a call needs was measured (tests/stack.rs), and 256 kB are enough for every call.
+//!
+//! All calls but the first take a tag sheet right after the circuit: upper limits of signals, which are assumed of inputs and shown, or not, of others. Where
+//! there are none it is [`NO_TAGS`]; an empty slice is refused.
+
+/// The sheet without tags.
+pub const NO_TAGS: &[u8] = &[84, 81, 84, 1, 0, 0, 0];
 
 extern "C" {
     fn yolqushek_read(circuit: *const u8, circuit_length: usize, answer: *mut [u64; 5]) -> u64;
     fn yolqushek_mark(
         circuit: *const u8,
         circuit_length: usize,
+        sheet: *const u8,
+        sheet_length: usize,
         derivation: *const u8,
         derivation_length: usize,
         marks: *mut u8,
         marks_length: usize,
-        answer: *mut [u64; 2],
+        answer: *mut [u64; 4],
     ) -> u64;
-    fn yolqushek_pair(circuit: *const u8, circuit_length: usize, pair: *const u8, pair_length: usize) -> u64;
-    fn yolqushek_solve(circuit: *const u8, circuit_length: usize, output: *mut u8, output_length: usize, answer: *mut [u64; 3]) -> u64;
+    fn yolqushek_pair(circuit: *const u8, circuit_length: usize, sheet: *const u8, sheet_length: usize, pair: *const u8, pair_length: usize) -> u64;
+    fn yolqushek_solve(
+        circuit: *const u8,
+        circuit_length: usize,
+        sheet: *const u8,
+        sheet_length: usize,
+        output: *mut u8,
+        output_length: usize,
+        answer: *mut [u64; 5],
+    ) -> u64;
 }
 
-/// Why a call was refused: its number, 1 to 25, and its place.
+/// Why a call was refused: its number, 1 to 28, and its place.
 #[derive(Clone, Copy, Debug, PartialEq, Eq)]
 pub struct Refusal {
     pub number: u32,
@@ -34,11 +50,21 @@ pub struct Sizes {
     pub constraints: u32,
 }
 
-/// How many signals are marked, and whether every output is.
+/// How many signals are marked, and whether every output is; how many tags on signals other than inputs are shown, and the sheet's entry number of the first
+/// that isn't, or 0.
 #[derive(Clone, Copy, Debug, PartialEq, Eq)]
 pub struct Marked {
     pub count: u32,
     pub fixed: bool,
+    pub shown: u32,
+    pub unshown: u32,
+}
+
+impl Marked {
+    /// From the four numbers that marking and solving begin their answers with.
+    fn of(count: u64, fixed: u64, shown: u64, unshown: u64) -> Marked {
+        Marked { count: count as u32, fixed: fixed == 1, shown: shown as u32, unshown: unshown as u32 }
+    }
 }
 
 /// Takes a returned value apart: a refusal's number in the high half and its place in the low half, or 0 and the low half.
@@ -57,26 +83,36 @@ pub fn read_circuit(circuit: &[u8]) -> Result<Sizes, Refusal> {
     Ok(Sizes { prime, signals, inputs, outputs, constraints })
 }
 
-/// Judges a derivation and writes a byte for each signal to `marks`: refusals 1 to 17. Needs 124 kB of stack.
-pub fn check_derivation(circuit: &[u8], derivation: &[u8], marks: &mut [u8]) -> Result<Marked, Refusal> {
-    let mut answer = [0; 2];
+/// Judges a derivation and writes a byte for each signal to `marks`: refusals 1 to 10, 26, 27 and 11 to 17. Needs 124 kB of stack.
+pub fn check_derivation(circuit: &[u8], sheet: &[u8], derivation: &[u8], marks: &mut [u8]) -> Result<Marked, Refusal> {
+    let mut answer = [0; 4];
     taken(unsafe {
-        yolqushek_mark(circuit.as_ptr(), circuit.len(), derivation.as_ptr(), derivation.len(), marks.as_mut_ptr(), marks.len(), &mut answer)
+        yolqushek_mark(
+            circuit.as_ptr(),
+            circuit.len(),
+            sheet.as_ptr(),
+            sheet.len(),
+            derivation.as_ptr(),
+            derivation.len(),
+            marks.as_mut_ptr(),
+            marks.len(),
+            &mut answer,
+        )
     })?;
-    let [count, fixed] = answer;
-    Ok(Marked { count: count as u32, fixed: fixed == 1 })
+    let [count, fixed, shown, unshown] = answer;
+    Ok(Marked::of(count, fixed, shown, unshown))
 }
 
-/// Judges a pair of runs and answers its signal: refusals 1 to 10 and 18 to 24. Needs 40 kB of stack.
-pub fn check_pair(circuit: &[u8], pair: &[u8]) -> Result<u32, Refusal> {
-    taken(unsafe { yolqushek_pair(circuit.as_ptr(), circuit.len(), pair.as_ptr(), pair.len()) })
+/// Judges a pair of runs and answers its signal: refusals 1 to 10, 26, 27, 18 to 23, 28 and 24. Needs 40 kB of stack.
+pub fn check_pair(circuit: &[u8], sheet: &[u8], pair: &[u8]) -> Result<u32, Refusal> {
+    taken(unsafe { yolqushek_pair(circuit.as_ptr(), circuit.len(), sheet.as_ptr(), sheet.len(), pair.as_ptr(), pair.len()) })
 }
 
-/// Solves a circuit, writes its derivation to `output`, and answers the derivation's length too: refusals 1 to 10 and 25. Needs 164 kB of stack, for
-/// refused circuits too.
-pub fn solve(circuit: &[u8], output: &mut [u8]) -> Result<(Marked, usize), Refusal> {
-    let mut answer = [0; 3];
-    taken(unsafe { yolqushek_solve(circuit.as_ptr(), circuit.len(), output.as_mut_ptr(), output.len(), &mut answer) })?;
-    let [count, fixed, length] = answer;
-    Ok((Marked { count: count as u32, fixed: fixed == 1 }, length as usize))
+/// Solves a circuit, writes its derivation to `output`, and answers the derivation's length too: refusals 1 to 10, 26, 27 and 25. Needs 164 kB of stack,
+/// for refused circuits too.
+pub fn solve(circuit: &[u8], sheet: &[u8], output: &mut [u8]) -> Result<(Marked, usize), Refusal> {
+    let mut answer = [0; 5];
+    taken(unsafe { yolqushek_solve(circuit.as_ptr(), circuit.len(), sheet.as_ptr(), sheet.len(), output.as_mut_ptr(), output.len(), &mut answer) })?;
+    let [count, fixed, shown, unshown, length] = answer;
+    Ok((Marked::of(count, fixed, shown, unshown), length as usize))
 }

@@ -4,6 +4,7 @@ use std::process::{Command, Stdio};
 use std::thread::Builder;
 
 use second::pair::write_pair;
+use second::sheet::NO_TAGS;
 use second::wide_digits::{broken_sums, MOST_SUMS};
 use second::worst;
 use second::writer::Draft;
@@ -21,32 +22,35 @@ const TRIAL: &str = "STACK_TRIAL";
 struct Input {
     name: &'static str,
     circuit: Vec<u8>,
+    sheet: Vec<u8>,
     derivation: Vec<u8>,
     pair: Vec<u8>,
 }
 
 impl Input {
     /// With the solver's derivation, as the second implementation finds it; where the circuit is refused, one without steps.
-    fn new(name: &'static str, circuit: Vec<u8>, pair: Vec<u8>) -> Input {
+    fn new(name: &'static str, circuit: Vec<u8>, sheet: &[u8], pair: Vec<u8>) -> Input {
         let mut derivation = vec![0; 7 + 14 * 256];
-        let length = second::solve(&circuit, &mut derivation).map_or(7, |(_, _, length)| length);
+        let length = second::solve(&circuit, sheet, &mut derivation).map_or(7, |(_, length)| length);
         derivation.truncate(length);
-        Input { name, circuit, derivation, pair }
+        Input { name, circuit, sheet: sheet.to_vec(), derivation, pair }
     }
 }
 
-/// Two refused circuits that are short, a small one, one that is refused at its last byte, and the two that have most to work on.
-fn inputs() -> [Input; 6] {
+/// Two refused circuits that are short, a small one, one that is refused at its last byte, and the two that have most to work on, one also with 256 tags.
+fn inputs() -> [Input; 7] {
     let (largest, zeros) = (worst::largest(1), [0; 256]);
+    let tags = worst::obeyed_sheet(&largest);
     let pair = write_pair(largest.q, &largest.first, &largest.second);
     let small = |p: u32| Draft::new(p, 1, 0, 1).bytes();
     [
-        Input::new("no bytes", Vec::new(), Vec::new()),
-        Input::new("no prime", small(2_147_483_645), write_pair(1, &[0], &[1])),
-        Input::new("no constraints", small(2_147_483_647), write_pair(1, &[0], &[1])),
-        Input::new("the largest, last byte missing", largest.circuit[..largest.circuit.len() - 1].to_vec(), pair.clone()),
-        Input::new("the largest", largest.circuit, pair),
-        Input::new("142 broken sums", broken_sums(MOST_SUMS), write_pair(1, &zeros, &zeros)),
+        Input::new("no bytes", Vec::new(), &[], Vec::new()),
+        Input::new("no prime", small(2_147_483_645), NO_TAGS, write_pair(1, &[0], &[1])),
+        Input::new("no constraints", small(2_147_483_647), NO_TAGS, write_pair(1, &[0], &[1])),
+        Input::new("the largest, last byte missing", largest.circuit[..largest.circuit.len() - 1].to_vec(), NO_TAGS, pair.clone()),
+        Input::new("the largest", largest.circuit.clone(), NO_TAGS, pair.clone()),
+        Input::new("the largest, 256 tags", largest.circuit, &tags, pair),
+        Input::new("142 broken sums", broken_sums(MOST_SUMS), NO_TAGS, write_pair(1, &zeros, &zeros)),
     ]
 }
 
@@ -59,15 +63,19 @@ const CALLS: [(&str, Call, Call); 5] = [
     ("read", |i, _| yolqushek::read_circuit(&i.circuit).map_or_else(|r| r.number, |_| 0), |i, _| number(second::read_circuit(&i.circuit))),
     (
         "mark",
-        |i, lent| yolqushek::check_derivation(&i.circuit, &i.derivation, lent).map_or_else(|r| r.number, |_| 0),
-        |i, lent| number(second::check_derivation(&i.circuit, &i.derivation, lent)),
+        |i, lent| yolqushek::check_derivation(&i.circuit, &i.sheet, &i.derivation, lent).map_or_else(|r| r.number, |_| 0),
+        |i, lent| number(second::check_derivation(&i.circuit, &i.sheet, &i.derivation, lent)),
     ),
     (
         "pair",
-        |i, _| yolqushek::check_pair(&i.circuit, &i.pair).map_or_else(|r| r.number, |_| 0),
-        |i, _| number(second::check_pair(&i.circuit, &i.pair)),
+        |i, _| yolqushek::check_pair(&i.circuit, &i.sheet, &i.pair).map_or_else(|r| r.number, |_| 0),
+        |i, _| number(second::check_pair(&i.circuit, &i.sheet, &i.pair)),
     ),
-    ("solve", |i, lent| yolqushek::solve(&i.circuit, lent).map_or_else(|r| r.number, |_| 0), |i, lent| number(second::solve(&i.circuit, lent))),
+    (
+        "solve",
+        |i, lent| yolqushek::solve(&i.circuit, &i.sheet, lent).map_or_else(|r| r.number, |_| 0),
+        |i, lent| number(second::solve(&i.circuit, &i.sheet, lent)),
+    ),
 ];
 
 fn number<T>(answer: Result<T, second::Refusal>) -> u32 {
@@ -116,7 +124,7 @@ fn least(call: usize, input: usize) -> usize {
             too_small = middle;
         }
     }
-    enough * STEP >> 10
+    (enough * STEP) >> 10
 }
 
 /// Prints the least stack for every call and circuit: `cargo test --offline --release --test stack -- --ignored --exact least_stack --nocapture`.

@@ -1,8 +1,9 @@
--- The circuits of the table: those of cases a to g (Rule 7.4), a copy of an input, and headers alone.
+-- The circuits of the table: those of cases a to g (Rule 7.4), a copy of an input, headers alone, and bits as inputs with their tags.
 use Prim.Native.Nat.{ℕ, _-_}
 use mathlib.Core.Bool.{Bool, true, false}
 use mathlib.Core.List.{[], _∷_}
 use Rattle.circuit.specs.Circuit.{Term, Form, Constraint, Circuit}
+use Rattle.tags.specs.Tag.{Binary, Maxbit, Maxvalue, Tag}
 
 abbrev pub times : ℕ → ℕ → Term
 times c s = record { signal = s; coefficient = c }
@@ -93,3 +94,41 @@ copy false = record { p = 7; n = 2; i = 1; o = 1; m = 1; constraints = product (
 -- j: p and n as given, one output and no constraint
 abbrev pub bare : ℕ → ℕ → Circuit
 bare p n = record { p = p; n = n; i = 0; o = 1; m = 0; constraints = [] }
+
+-- three bits as inputs and the number that they make, output 4, over 13: its sum is below 13 only thanks to tags on the inputs
+abbrev pub bits : Circuit
+bits =
+    record {
+      p = 13;
+      n = 4;
+      i = 3;
+      o = 1;
+      m = 1;
+      constraints = product (one 1 ∷ []) (times 1 1 ∷ times 2 2 ∷ times 4 3 ∷ times 12 4 ∷ []) [] ∷ [];
+    }
+
+-- two bits, signals 3 and 5, and the number 4 that input 2 and bit 3 make; input 1 is 4 and three times bit 5, over 7: marked only if input 2 is small
+abbrev pub carry : Circuit
+carry =
+    record {
+      p = 7;
+      n = 5;
+      i = 2;
+      o = 3;
+      m = 4;
+      constraints =
+          binary 7 3 ∷ binary 7 5
+          ∷ product (one 1 ∷ []) (times 1 2 ∷ times 1 3 ∷ times 6 4 ∷ []) []
+          ∷ product (one 1 ∷ []) (times 6 1 ∷ times 1 4 ∷ times 3 5 ∷ []) []
+          ∷ [];
+    }
+
+-- tags of a sheet
+abbrev pub isBinary : ℕ → Tag
+isBinary s = record { signal = s; kind = Binary; number = 0 }
+
+abbrev pub hasBits : ℕ → ℕ → Tag
+hasBits s v = record { signal = s; kind = Maxbit; number = v }
+
+abbrev pub isMost : ℕ → ℕ → Tag
+isMost s v = record { signal = s; kind = Maxvalue; number = v }

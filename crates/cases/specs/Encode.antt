@@ -1,8 +1,9 @@
--- The bytes of circuits, pairs and steps, for the table: the formats of Rules 1.1, 1.3, 2.1 and 2.4 written out.
+-- The bytes of circuits, sheets, pairs and steps, for the table: the formats of Rules 1.1, 1.3, 2.1, 2.4 and 2.5 written out.
 use Prim.Native.Nat.{ℕ, _/_, _%_}
 use mathlib.Core.List.{List, [], _∷_, _++_}
 use lib.ListN.{length}
 use Rattle.circuit.specs.Circuit.{Form, Constraint, Circuit}
+use Rattle.tags.specs.Tag.{Kind, Binary, Maxbit, Maxvalue, Tag}
 
 -- Rule 1.1: low byte first
 unfoldable pub u16Bytes : ℕ → List ℕ
@@ -27,6 +28,20 @@ circuitBytes C =
     67 ∷ 81 ∷ 84 ∷ 1 ∷ 0
     ∷ u32Bytes (C .p) ++ u16Bytes (C .n) ++ u16Bytes (C .i) ++ u16Bytes (C .o) ++ u16Bytes (C .m)
     ++ constraintsBytes (C .constraints)
+
+-- Rule 2.6: the number of a tag's kind
+abbrev pub kindByte : Kind → ℕ
+kindByte Binary = 1
+kindByte Maxbit = 2
+kindByte Maxvalue = 3
+
+unfoldable pub entriesBytes : List Tag → List ℕ
+entriesBytes [] = []
+entriesBytes (t ∷ ts) = u16Bytes (t .signal) ++ kindByte (t .kind) ∷ u32Bytes (t .number) ++ entriesBytes ts
+
+-- a sheet with these tags
+unfoldable pub sheetBytes : List Tag → List ℕ
+sheetBytes ts = 84 ∷ 81 ∷ 84 ∷ 1 ∷ 0 ∷ u16Bytes (length ts) ++ entriesBytes ts
 
 unfoldable pub valuesBytes : List ℕ → List ℕ
 valuesBytes [] = []

@@ -9,3 +9,4 @@ pub mod SearchLaws
 pub mod CopyLaws
 pub mod Sized
 pub mod OffsetLaws
+pub mod AnswerLaws

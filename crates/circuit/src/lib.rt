@@ -4,5 +4,5 @@
 pub mod bytes;
 pub mod offsets;
 pub mod reader;
-mod run;
+pub mod run;
 pub mod runs;

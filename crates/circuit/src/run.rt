@@ -12,7 +12,7 @@ ghost use Rattle.circuit.specs.Reader.{formMost, formIn, constraintIn};
 ghost use Rattle.circuit.specs.Run.{valuesIn, termMod, evalMod, holds};
 
 // The value of a signal, 0 past the end.
-pub(crate) fn value_of(values: &[u32], signal: u32) -> u32
+pub fn value_of(values: &[u32], signal: u32) -> u32
     ensures { λ r. ⌜ r ≡ valuesIn (now (values .entry)) signal ⌝ }
 {
     let s = signal as usize;

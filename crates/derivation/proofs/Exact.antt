@@ -9,16 +9,18 @@ use lib.Dec.{leb, eqb}
 use lib.ListN.{length}
 use Rattle.circuit.specs.Bytes.{u16At}
 use Rattle.circuit.specs.Circuit.{Circuit}
-use Rattle.circuit.specs.Reading.{whole}
-use Rattle.circuit.specs.Reader.{readCircuit, derivationLetter, hasMark}
+use Rattle.circuit.specs.Reader.{derivationLetter, hasMark}
 use Rattle.circuit.specs.Answer.{Answer, given, andThen}
-use Rattle.laws.specs.Problem.{Problem, problem}
+use Rattle.circuit.proofs.AnswerLaws.{ask-given, next-given}
+use Rattle.laws.specs.Problem.{Problem}
 use Rattle.laws.specs.Standing.{Standing, start}
 use Rattle.laws.specs.Step as laws
+use Rattle.tags.specs.Tag.{Sheet, tagged}
+use Rattle.tags.specs.Sheet.{Unrefused}
 use Rattle.derivation.specs.Steps.{headSize, stepSize, stepsMost, walkFrom, stepsFrom, stepsOf}
 use Rattle.derivation.specs.Call.{Judgement, judged, headed, derivationOn, derivationCall, lastOf, Accepted}
 use Rattle.derivation.specs.Exact.{Framed, FineStep, WellFormedDerivation, EachMet, Exact, ExactCall}
-use Rattle.derivation.proofs.Walks.{ask-given, next-given, walk-accepted, accepted-walk, steps-known}
+use Rattle.derivation.proofs.Walks.{walk-accepted, accepted-walk, steps-known}
 
 -- 11 to 14
 
@@ -60,20 +62,20 @@ pub record AcceptedAs (P : Problem) (d : List ℕ) (room : ℕ) : Type 0 where
   pub met : EachMet P d
   pub counted : length (stepsOf d) ≡ u16At d 5
 
-module _ (P : Problem) (d : List ℕ) (room : ℕ) where
-  pub derivation-accepted : {judgement : Judgement} → derivationOn P d room ≡ given judgement → AcceptedAs P d room
+module _ (P : Problem) (T : Sheet) (d : List ℕ) (room : ℕ) where
+  pub derivation-accepted : {judgement : Judgement} → derivationOn P T d room ≡ given judgement → AcceptedAs P d room
   unfolding derivationOn stepsOf
   derivation-accepted e =
       let head = headed-given d (P .n) room _ e in
-      let walk = next-given (walkFrom P d 0 (u16At d 5) (start P)) (λ (S : Standing). given (judged P S)) (head .1) in
+      let walk = next-given (walkFrom P d 0 (u16At d 5) (start P)) (λ (S : Standing). given (judged P T S)) (head .1) in
       let W = walk-accepted P d 0 (u16At d 5) (start P) (walk .result) (walk .first) in
       record { framed = head .0; met = W .accepts; counted = W .counted }
 
-  pub accepted-derivation : AcceptedAs P d room → derivationOn P d room ≡ given (judged P (lastOf P d))
+  pub accepted-derivation : AcceptedAs P d room → derivationOn P T d room ≡ given (judged P T (lastOf P d))
   unfolding derivationOn lastOf stepsOf
   accepted-derivation A =
       framed-headed d (P .n) room _ (A .framed)
-      ∙ ap (λ (r : Answer Standing). andThen r (λ (S : Standing). given (judged P S)))
+      ∙ ap (λ (r : Answer Standing). andThen r (λ (S : Standing). given (judged P T S)))
       (accepted-walk P d 0 (u16At d 5) (start P) (A .counted) (A .met))
 
 fine-counted : (P : Problem) (d : List ℕ) (k left : ℕ) → ((j : ℕ) → k ≤ j → j < k + left → FineStep P d j) → length (stepsFrom d k left) ≡ left
@@ -83,26 +85,27 @@ fine-counted P d k (suc left) h =
     ap length (steps-known d k left (h k (omega arith) (omega arith) .known))
     ∙ ap suc (fine-counted P d (suc k) left λ (j : ℕ) (g : suc k ≤ j) (l : j < suc k + left). h j (omega arith) (omega arith))
 
-pub exact : (P : Problem) (d : List ℕ) (room : ℕ) → WellFormedDerivation P d room → Exact P d (derivationOn P d room)
+pub exact : (P : Problem) (T : Sheet) (d : List ℕ) (room : ℕ) → WellFormedDerivation P d room → Exact P T d (derivationOn P T d room)
 unfolding stepsOf
-exact P d room W =
+exact P T d room W =
     record {
       accepts = λ met.
-          accepted-derivation P d room
+          accepted-derivation P T d room
           (record {
             framed = W .framed;
             met = met;
             counted = fine-counted P d 0 (u16At d 5) λ (j : ℕ) (g : 0 ≤ j) (l : j < 0 + u16At d 5). W .each j (omega arith);
           });
-      only = λ judgement e. derivation-accepted P d room e .met;
+      only = λ judgement e. derivation-accepted P T d room e .met;
     }
 
-pub call-on : (c d : List ℕ) (room : ℕ) {C : Circuit} {size : ℕ} → readCircuit c ≡ whole C size → derivationCall c d room ≡ derivationOn (problem C) d room
+pub call-on : (d : List ℕ) (room : ℕ) {c h : List ℕ} {C : Circuit} {T : Sheet} → Unrefused c h C T
+    → derivationCall c h d room ≡ derivationOn (tagged C T) T d room
 unfolding derivationCall
-call-on c d room e = rw e
+call-on d room U = rw (U .read, U .sheeted)
 
-pub exact-call : (c d : List ℕ) (room : ℕ) → ExactCall c d room (derivationCall c d room)
-exact-call c d room C size e W = rw (call-on c d room e) (exact (problem C) d room W)
+pub exact-call : (c h d : List ℕ) (room : ℕ) → ExactCall c h d room (derivationCall c h d room)
+exact-call c h d room C T U W = rw (call-on d room U) (exact (tagged C T) T d room W)
 
 -- bytes that list steps: a header, then the steps, with none left out
 pub record Lists (d : List ℕ) (xs : List laws.Step) : Type 0 where
@@ -113,10 +116,10 @@ pub record Lists (d : List ℕ) (xs : List laws.Step) : Type 0 where
   pub steps : stepsOf d ≡ xs
 
 -- steps that are accepted make an accepted derivation
-pub lists-accepted : (P : Problem) (d : List ℕ) (xs : List laws.Step) → Lists d xs → length xs ≤ stepsMost
-    → laws.accepted P (start P) xs ≡ true → Accepted P d × (lastOf P d ≡ laws.replay P (start P) xs)
+pub lists-accepted : (P : Problem) (T : Sheet) (d : List ℕ) (xs : List laws.Step) → Lists d xs → length xs ≤ stepsMost
+    → laws.accepted P (start P) xs ≡ true → Accepted P T d × (lastOf P d ≡ laws.replay P (start P) xs)
 unfolding lastOf
-lists-accepted P d xs L few met = (record { judgement = _; is = accepted-derivation P d (P .n) A }, ap (laws.replay P (start P)) (L .steps))
+lists-accepted P T d xs L few met = (record { judgement = _; is = accepted-derivation P T d (P .n) A }, ap (laws.replay P (start P)) (L .steps))
   where
     A : AcceptedAs P d (P .n)
     A =

@@ -6,3 +6,5 @@ pub mod Written
 pub mod MarkLaws
 pub mod StepLaws
 pub mod CallLaws
+pub mod SheetViews
+pub mod Empty

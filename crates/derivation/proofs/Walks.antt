@@ -1,33 +1,19 @@
 -- Walks over a derivation's bytes against the derivation as a list of steps.
 use Prim.Native.Nat.{ℕ, zero, suc, _≤_}
 use mathlib.Core.Path.{_≡_, refl, ap}
-use mathlib.Core.Bool.{Bool, true, false}
+use mathlib.Core.Bool.{true}
 use mathlib.Core.List.{List, _∷_}
 use mathlib.Core.Option.{Option, none, some}
 use native.Mathlib.Omega.{arith}
 use lib.ListN.{length}
-use Rattle.circuit.specs.Answer.{Answer, refused, given, ask, andThen}
+use Rattle.circuit.specs.Answer.{given}
+use Rattle.circuit.proofs.AnswerLaws.{ask-given, next-given}
 use Rattle.laws.specs.Problem.{Problem}
 use Rattle.laws.specs.Standing.{Standing}
 use Rattle.laws.specs.Step.{Step, inRange, met, after, replay, fits, accepted}
 use Rattle.laws.proofs.Sum.{and-left, and-right, and-both}
 use Rattle.laws.proofs.Optimum.{fits-says, fits-holds}
 use Rattle.derivation.specs.Steps.{readStep, tried, walkFrom, listed, stepsFrom}
-
--- Chains
-
-pub ask-given : {A : Type 0} (b : Bool) (number place : ℕ) (r : Answer A) {x : A} → ask b number place r ≡ given x → (b ≡ true) × (r ≡ given x)
-ask-given true number place r e = (refl, e)
-ask-given false number place r e = let z : _≡_ {A = ℕ} 0 1 = cc in absurd (omega arith)
-
-pub record Came {A B : Type 0} (r : Answer A) (f : A → Answer B) (y : B) : Type 0 where
-  pub result : A
-  pub first : r ≡ given result
-  pub then : f result ≡ given y
-
-pub next-given : {A B : Type 0} (r : Answer A) (f : A → Answer B) {y : B} → andThen r f ≡ given y → Came r f y
-next-given (refused number place) f e = let z : _≡_ {A = ℕ} 0 1 = cc in absurd (omega arith)
-next-given (given x) f e = record { result = x; first = refl; then = e }
 
 -- One step
 

@@ -6,25 +6,26 @@ use mathlib.Core.List.{List, [], _∷_, _++_}
 use lib.Dec.{leb, eqb}
 use lib.ListN.{length, drop}
 use Rattle.circuit.specs.Bytes.{u16At}
-use Rattle.circuit.specs.Circuit.{Circuit}
-use Rattle.circuit.specs.Reading.{Reading, whole, fault}
 use Rattle.circuit.specs.Reader.{readCircuit, derivationLetter, hasMark}
 use Rattle.circuit.specs.Answer.{Answer, refused, given, ask, andThen}
-use Rattle.circuit.specs.Call.{onCircuit}
+use Rattle.circuit.specs.Call.{sizesOf, onCircuit, circuitOf}
 use Rattle.laws.specs.Sum.{all}
-use Rattle.laws.specs.Problem.{Problem, problem}
+use Rattle.laws.specs.Problem.{Problem}
 use Rattle.laws.specs.Standing.{Standing, start}
 use Rattle.laws.specs.Step.{replay}
+use Rattle.tags.specs.Tag.{Sheet, tagged, Shown, shownBy}
+use Rattle.tags.specs.Sheet.{sheetOf, sheetOn}
 use Rattle.derivation.specs.Steps.{headSize, stepSize, stepsMost, walkFrom, stepsOf}
 
 -- Rule 6.6: fixed where every output is marked, else open.
 pub data Verdict : Type 0 where
   Fixed Open : Verdict
 
--- Rule 6.6: how many signals are marked, and the verdict.
+-- Rule 6.6: how many signals are marked, the verdict, and what is shown of the sheet.
 pub record Judgement : Type 0 where
   pub count : ℕ
   pub verdict : Verdict
+  pub shown : Shown
 
 -- 1 for marked and 0 for not
 abbrev pub bit : Bool → ℕ
@@ -56,8 +57,8 @@ unfoldable pub verdictOf : Problem → Standing → Verdict
 verdictOf P S = verdictBy (all (P .o) (outputMarked (S .marked) (P .i)))
 
 -- Rule 6.6: what is answered of the standing after the last step.
-unfoldable pub judged : Problem → Standing → Judgement
-judged P S = record { count = total (marksOf (P .n) S); verdict = verdictOf P S }
+unfoldable pub judged : Problem → Sheet → Standing → Judgement
+judged P T S = record { count = total (marksOf (P .n) S); verdict = verdictOf P S; shown = shownBy (P .i) T (S .bound) }
 
 -- Refusals 11 to 14, and then r; room is the length of the lent buffer.
 unfoldable pub headed : {A : Type 0} → List ℕ → ℕ → ℕ → Answer A → Answer A
@@ -68,12 +69,12 @@ headed d n room r =
     (ask (leb (u16At d 5) stepsMost) 13 0 (ask (eqb (length d) (headSize + stepSize * u16At d 5)) 13 0 (ask (leb n room) 14 0 r)))))
 
 -- Rule 6.6: the header, the steps, then the judgement; refusals 11 to 17.
-unfoldable pub derivationOn : Problem → List ℕ → ℕ → Answer Judgement
-derivationOn P d room = headed d (P .n) room (andThen (walkFrom P d 0 (u16At d 5) (start P)) (λ S. given (judged P S)))
+unfoldable pub derivationOn : Problem → Sheet → List ℕ → ℕ → Answer Judgement
+derivationOn P T d room = headed d (P .n) room (andThen (walkFrom P d 0 (u16At d 5) (start P)) (λ S. given (judged P T S)))
 
--- The call's answer: the circuit first, refusals 1 to 10.
-unfoldable pub derivationCall : List ℕ → List ℕ → ℕ → Answer Judgement
-derivationCall c d room = onCircuit (readCircuit c) (λ C. derivationOn (problem C) d room)
+-- The call's answer, for a circuit c, a sheet h and a derivation d: the circuit first, refusals 1 to 10, then the sheet, 26 and 27.
+unfoldable pub derivationCall : List ℕ → List ℕ → List ℕ → ℕ → Answer Judgement
+derivationCall c h d room = onCircuit (readCircuit c) (λ C. andThen (sheetOn (sizesOf C) h) (λ T. derivationOn (tagged C T) T d room))
 
 -- Rule 3.5: the standing after the last step, whose bounds and marks are those that the derivation reaches.
 unfoldable pub lastOf : Problem → List ℕ → Standing
@@ -84,15 +85,11 @@ abbrev pub leftBy : Answer Judgement → Problem → List ℕ → List ℕ → L
 leftBy (refused number place) P d marks = marks
 leftBy (given judgement) P d marks = marksOf (P .n) (lastOf P d) ++ drop (P .n) marks
 
-abbrev pub leftOn : Reading Circuit → List ℕ → List ℕ → List ℕ
-leftOn (whole C size) d marks = leftBy (derivationOn (problem C) d (length marks)) (problem C) d marks
-leftOn (fault number place) d marks = marks
-
 -- what the call leaves in the buffer that held `marks`
-unfoldable pub derivationMarks : List ℕ → List ℕ → List ℕ → List ℕ
-derivationMarks c d marks = leftOn (readCircuit c) d marks
+unfoldable pub derivationMarks : List ℕ → List ℕ → List ℕ → List ℕ → List ℕ
+derivationMarks c h d marks = leftBy (derivationCall c h d (length marks)) (tagged (circuitOf c) (sheetOf h)) d marks
 
 -- Rule 3.6: the derivation call, with room for all marks, meets none of its refusals.
-pub record Accepted (P : Problem) (d : List ℕ) : Type 0 where
+pub record Accepted (P : Problem) (T : Sheet) (d : List ℕ) : Type 0 where
   pub judgement : Judgement
-  pub is : derivationOn P d (P .n) ≡ given judgement
+  pub is : derivationOn P T d (P .n) ≡ given judgement

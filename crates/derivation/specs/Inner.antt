@@ -1,5 +1,5 @@
 -- How the functions inside the call run: what they promise one another, not what the call means.
-use Prim.Native.Nat.{ℕ, suc}
+use Prim.Native.Nat.{ℕ, suc, min}
 use mathlib.Core.Path.{_≡_}
 use mathlib.Core.Bool.{true}
 use mathlib.Core.List.{List, []}
@@ -7,19 +7,23 @@ use mathlib.Core.Option.{Option, none, some}
 use lib.ListN.{length}
 use Rattle.circuit.specs.Answer.{Answer, refused}
 use Rattle.circuit.specs.Bytes.{u16At}
+use Rattle.circuit.specs.Reader.{signalsMost}
 use Rattle.circuit.specs.Circuit.{constraintAt}
 use Rattle.circuit.specs.Call.{circuitOf, Sized}
 use Rattle.circuit.specs.declared.reader.Sizes.{Sizes}
 use Rattle.circuit.specs.Offsets.{Offsets, partOf}
+use Rattle.laws.specs.Sum.{all}
 use Rattle.laws.specs.Problem as laws
 use Rattle.laws.specs.Problem.{Problem}
 use Rattle.laws.specs.Standing as standing
 use Rattle.laws.specs.Step as step
+use Rattle.tags.specs.Tag.{firstBound, tagged, shownBy}
+use Rattle.tags.specs.Sheet.{sheetOf}
 use Rattle.rules.specs.Promise.{subjectIn, kindOf, reduces}
 use Rattle.rules.specs.Rows.{Row, Rows, Roomy, rowOf}
 use Rattle.rules.specs.declared.standing.Kind.{Kind}
 use Rattle.derivation.specs.Steps.{readStep, tried, walkFrom}
-use Rattle.derivation.specs.Call.{Judgement, derivationCall, derivationMarks}
+use Rattle.derivation.specs.Call.{Judgement, marksFrom, total, outputMarked, verdictBy, derivationCall, derivationMarks}
 use Rattle.derivation.specs.declared.kinds.KindByte.{KindByte}
 use Rattle.derivation.specs.declared.kinds.KindByte.the-variants.{Known, Unknown}
 use Rattle.derivation.specs.declared.kinds.Names.{Names}
@@ -64,14 +68,31 @@ abbrev pub byWay : {A : Type 0} → Way → Answer A → Answer A
 byWay On r = r
 byWay (Stopped number place) r = refused number place
 
+-- the circuit with the sheet in the bytes
+abbrev pub taggedIn : List ℕ → List ℕ → Problem
+taggedIn c h = tagged (circuitOf c) (sheetOf h)
+
 -- what the steps from the start lead to
-abbrev pub Walked : List ℕ → List ℕ → Answer standing.Standing → Type 0
-Walked c d w = w ≡ walkFrom (laws.problem (circuitOf c)) d 0 (u16At d 5) (standing.start (laws.problem (circuitOf c)))
+abbrev pub Walked : List ℕ → List ℕ → List ℕ → Answer standing.Standing → Type 0
+Walked c h d w = w ≡ walkFrom (taggedIn c h) d 0 (u16At d 5) (standing.start (taggedIn c h))
 
 -- the call's answer, and what it leaves in the buffer that held `marks`
-pub record Answers (c d marks : List ℕ) (r : Answer Judgement) (left : List ℕ) : Type 0 where
-  pub answer : r ≡ derivationCall c d (length marks)
-  pub written : left ≡ derivationMarks c d marks
+pub record Answers (c h d marks : List ℕ) (r : Answer Judgement) (left : List ℕ) : Type 0 where
+  pub answer : r ≡ derivationCall c h d (length marks)
+  pub written : left ≡ derivationMarks c h d marks
+
+-- the judgement of a standing, with the sizes and the sheet at hand
+abbrev pub judgedBy : Sizes → List ℕ → standing.Standing → Judgement
+judgedBy z h S =
+    record {
+      count = total (marksFrom (S .marked) 0 (z .n));
+      verdict = verdictBy (all (z .o) (outputMarked (S .marked) (z .i)));
+      shown = shownBy (z .i) (sheetOf h) (S .bound);
+    }
+
+-- the arrays of the start of a problem with first bounds by a sheet, up to 256 inputs
+abbrev pub firstView : ℕ → ℕ → List ℕ → standing.Standing
+firstView p i h = record { bound = firstBound p (min i signalsMost) (sheetOf h); marked = standing.isInput (min i signalsMost) }
 
 -- the part of the circuit bytes that a step looks at, by what its constraint field names
 abbrev pub partNamed : laws.Names → List ℕ → List ℕ → ℕ → List ℕ

@@ -2,6 +2,7 @@
 
 use crate::answer::DerivationAnswer;
 use crate::marks::hand_over;
+use crate::sheets::start_with;
 use crate::step::StepRead;
 use crate::step::keep_row;
 use crate::step::part_named;
@@ -15,6 +16,8 @@ use circuit::reader::has_mark;
 use rules::rows::row_of;
 use rules::standing::Outcome;
 use rules::standing::Standing;
+use tags::sheet::SheetAnswer;
+use tags::sheet::check_sheet;
 ghost use mathlib.Core.Path.{_≡_};
 ghost use Prim.Native.Nat.{ℕ, _+_, _*_, _/_, _≤_};
 ghost use lib.ListN.{length};
@@ -22,6 +25,7 @@ ghost use Rattle.circuit.specs.Bytes.{u16At};
 ghost use Rattle.circuit.specs.Answer as answer;
 ghost use Rattle.circuit.specs.Answer.{Answer, given};
 ghost use Rattle.circuit.specs.Call.{Sized};
+ghost use Rattle.tags.specs.Sheet.{sheetOf, sheetOn};
 ghost use Rattle.rules.specs.Promise.{view};
 ghost use Rattle.derivation.specs.Steps.{walkFrom};
 ghost use Rattle.derivation.specs.Call.{Judgement, headed, derivationCall, derivationMarks};
@@ -128,11 +132,11 @@ fn walk(start: Standing, circuit: &[u8], derivation: &[u8], rows: &mut [u32], si
 }
 
 // All steps from the start. A small file gets a small array for its rows, since clearing a large one takes longer than a few steps.
-fn walk_all(circuit: &[u8], derivation: &[u8], sizes: Sizes) -> Turn
+fn walk_all(circuit: &[u8], sheet: &[u8], derivation: &[u8], sizes: Sizes) -> Turn
     requires { ⌜ Sized (now circuit) sizes ⌝ }
-    ensures { λ o. ⌜ Walked (now (circuit .entry)) (now (derivation .entry)) (byWay (o .way) (given (view (sizes .p) (o .next)))) ⌝ }
+    ensures { λ o. ⌜ Walked (now (circuit .entry)) (now (sheet .entry)) (now (derivation .entry)) (byWay (o .way) (given (view (sizes .p) (o .next)))) ⌝ }
 {
-    let start = Standing::start(sizes.p, sizes.i);
+    let start = start_with(sheet, sizes.p, sizes.i);
     if 2 * (circuit.len() / 6 + sizes.m as usize + 1) <= FEW_NUMBERS {
         let mut rows = [0u32; FEW_NUMBERS];
         return walk(start, circuit, derivation, &mut rows, sizes);
@@ -141,36 +145,68 @@ fn walk_all(circuit: &[u8], derivation: &[u8], sizes: Sizes) -> Turn
     walk(start, circuit, derivation, &mut rows, sizes)
 }
 
-// The call on a circuit that isn't refused. Nothing is written before the steps have come to their end.
-fn check_on(circuit: &[u8], derivation: &[u8], marks: &mut [u8], sizes: Sizes) -> DerivationAnswer
-    requires { ⌜ Sized (now circuit) sizes ⌝ }
-    ensures { λ r. ⌜ Answers (now (circuit .entry)) (now (derivation .entry)) (now (marks .entry)) (paperOf r) (now (marks .exit)) ⌝ }
+// The call on a circuit and a sheet that aren't refused. Nothing is written before the steps have come to their end.
+fn check_steps(
+    circuit: &[u8],
+    sheet: &[u8],
+    derivation: &[u8],
+    marks: &mut [u8],
+    sizes: Sizes,
+) -> DerivationAnswer
+    requires { ⌜ Sized (now circuit) sizes × (sheetOn sizes (now sheet) ≡ given (sheetOf (now sheet))) ⌝ }
+    ensures { λ r. ⌜ Answers (now (circuit .entry)) (now (sheet .entry)) (now (derivation .entry)) (now (marks .entry)) (paperOf r) (now (marks .exit)) ⌝ }
 {
     let header = check_header(derivation, sizes.n, marks.len());
     if let Way::Stopped { number, place } = header {
         return DerivationAnswer::Refused { number, place };
     }
-    let turn = walk_all(circuit, derivation, sizes);
+    let turn = walk_all(circuit, sheet, derivation, sizes);
     let way = turn.way;
     if let Way::Stopped { number, place } = way {
         return DerivationAnswer::Refused { number, place };
     }
     let last = turn.next;
-    hand_over(last, marks, sizes)
+    hand_over(last, sheet, marks, sizes)
 }
 
-// The derivation call: refusals 1 to 17, or the marks written, how many signals are marked, and the verdict.
-pub fn check_derivation(circuit: &[u8], derivation: &[u8], marks: &mut [u8]) -> DerivationAnswer
-    ensures answer { λ r. ⌜ paperOf r ≡ derivationCall (now (circuit .entry)) (now (derivation .entry)) (length (now (marks .entry))) ⌝ }
-    ensures written { λ r. ⌜ now (marks .exit) ≡ derivationMarks (now (circuit .entry)) (now (derivation .entry)) (now (marks .entry)) ⌝ }
-    ensures exact { λ r. ⌜ ExactCall (now (circuit .entry)) (now (derivation .entry)) (length (now (marks .entry))) (paperOf r) ⌝ }
-    ensures sound { λ r. ⌜ SoundCall (now (circuit .entry)) (now (derivation .entry)) (paperOf r) (now (marks .exit)) ⌝ }
+// The call on a circuit that isn't refused: the sheet, then the steps.
+fn check_on(
+    circuit: &[u8],
+    sheet: &[u8],
+    derivation: &[u8],
+    marks: &mut [u8],
+    sizes: Sizes,
+) -> DerivationAnswer
+    requires { ⌜ Sized (now circuit) sizes ⌝ }
+    ensures { λ r. ⌜ Answers (now (circuit .entry)) (now (sheet .entry)) (now (derivation .entry)) (now (marks .entry)) (paperOf r) (now (marks .exit)) ⌝ }
+{
+    let tagged = check_sheet(sheet, sizes);
+    match tagged {
+        SheetAnswer::Refused { number, place } => DerivationAnswer::Refused { number, place },
+        SheetAnswer::Whole => check_steps(circuit, sheet, derivation, marks, sizes),
+    }
+}
+
+// The derivation call: refusals 1 to 10, 26, 27 and 11 to 17, or the marks written, how many signals are marked, the verdict, and what is shown.
+pub fn check_derivation(
+    circuit: &[u8],
+    sheet: &[u8],
+    derivation: &[u8],
+    marks: &mut [u8],
+) -> DerivationAnswer
+    ensures answer { λ r. ⌜ paperOf r
+        ≡ derivationCall (now (circuit .entry)) (now (sheet .entry)) (now (derivation .entry)) (length (now (marks .entry))) ⌝ }
+    ensures written { λ r. ⌜ now (marks .exit)
+        ≡ derivationMarks (now (circuit .entry)) (now (sheet .entry)) (now (derivation .entry)) (now (marks .entry)) ⌝ }
+    ensures exact { λ r. ⌜ ExactCall (now (circuit .entry)) (now (sheet .entry)) (now (derivation .entry)) (length (now (marks .entry))) (paperOf r) ⌝ }
+    ensures sound { λ r. ⌜ SoundCall (now (circuit .entry)) (now (sheet .entry)) (now (derivation .entry)) (paperOf r) (now (marks .exit)) ⌝ }
 {
     let answer = check_circuit(circuit);
     match answer {
         CircuitAnswer::Refused { number, place } => DerivationAnswer::Refused { number, place },
         CircuitAnswer::Sizes { p, n, i, o, m } => check_on(
             circuit,
+            sheet,
             derivation,
             marks,
             Sizes { p, n, i, o, m },

@@ -4,5 +4,6 @@ pub mod answer;
 pub mod call;
 mod kinds;
 pub mod marks;
+pub mod sheets;
 pub mod step;
 pub mod writer;

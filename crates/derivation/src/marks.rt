@@ -2,6 +2,7 @@
 
 use crate::answer::DerivationAnswer;
 use crate::answer::Verdict;
+use crate::sheets::shown_of;
 use circuit::reader::Sizes;
 use rules::standing::Standing;
 use rules::view::mark_at;
@@ -12,9 +13,12 @@ ghost use lib.ListN.{length, drop};
 ghost use Rattle.circuit.specs.Reader.{signalsMost};
 ghost use Rattle.circuit.specs.Answer.{given};
 ghost use Rattle.laws.specs.Sum.{all};
+ghost use Rattle.tags.specs.Sheet.{sheetOf, Fitting};
 ghost use Rattle.rules.specs.View.{markIn};
+ghost use Rattle.rules.specs.Promise.{view};
 ghost use Rattle.derivation.specs.Call.{bit, marksFrom, total, outputMarked, verdictBy};
 ghost use Rattle.derivation.specs.Answer.{verdictIn, paperOf};
+ghost use Rattle.derivation.specs.Inner.{judgedBy};
 
 // 1 for marked and 0 for not.
 fn bit_of(marked: bool) -> u8
@@ -57,17 +61,23 @@ pub fn verdict_of(marks: &[bool], i: u32, o: u32) -> Verdict
 }
 
 // What is answered and written of the standing after the last step.
-pub(crate) fn hand_over(last: Standing, marks: &mut [u8], sizes: Sizes) -> DerivationAnswer
-    requires { ⌜ (sizes .n ≤ signalsMost) × (sizes .n ≤ length (now marks)) ⌝ }
-    ensures answer { λ r. ⌜ paperOf r
-        ≡ given (record {
-          count = total (marksFrom (markIn (last .marks)) 0 (sizes .n));
-          verdict = verdictBy (all (sizes .o) (outputMarked (markIn (last .marks)) (sizes .i)));
-        }) ⌝ }
+pub(crate) fn hand_over(
+    last: Standing,
+    sheet: &[u8],
+    marks: &mut [u8],
+    sizes: Sizes,
+) -> DerivationAnswer
+    requires { ⌜ (sizes .n ≤ signalsMost) × (sizes .n ≤ length (now marks)) × Fitting (sizes .n) (sizes .p) (sheetOf (now sheet)) ⌝ }
+    ensures answer { λ r. ⌜ paperOf r ≡ given (judgedBy sizes (now (sheet .entry)) (view (sizes .p) last)) ⌝ }
     ensures written { λ r. ⌜ now (marks .exit) ≡ marksFrom (markIn (last .marks)) 0 (sizes .n) ++ drop (sizes .n) (now (marks .entry)) ⌝ }
 {
     let marked = last.marks;
     let count = write_marks(marks, &marked, sizes.n);
     let verdict = verdict_of(&marked, sizes.i, sizes.o);
-    DerivationAnswer::Accepted { count, verdict }
+    let bounds = last.bounds;
+    DerivationAnswer::Accepted {
+        count,
+        verdict,
+        shown: shown_of(sheet, &bounds, sizes),
+    }
 }

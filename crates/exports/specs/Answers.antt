@@ -38,16 +38,20 @@ readAnswer r before = leftBy r (λ z. z .p ∷ z .n ∷ z .i ∷ z .o ∷ z .m �
 abbrev pub pairReturned : Answer ℕ → ℕ
 pairReturned r = returnedBy r (λ q. q)
 
--- judging a derivation: how many signals are marked, and the verdict
+-- judging a derivation: how many signals are marked, the verdict, how many tags are shown, and the first that isn't
 abbrev pub markReturned : Answer Judgement → ℕ
 markReturned r = returnedBy r (λ x. 0)
 
 abbrev pub markAnswer : Answer Judgement → List ℕ → List ℕ
-markAnswer r before = leftBy r (λ x. x .count ∷ verdictNumber (x .verdict) ∷ []) before
+markAnswer r before = leftBy r (λ x. x .count ∷ verdictNumber (x .verdict) ∷ x .shown .count ∷ x .shown .missed ∷ []) before
 
 -- solving a circuit: the same, and the bytes of the derivation
 abbrev pub solveReturned : Answer Solved → ℕ
 solveReturned r = returnedBy r (λ x. 0)
 
 abbrev pub solveAnswer : Answer Solved → List ℕ → List ℕ
-solveAnswer r before = leftBy r (λ x. x .judgement .count ∷ verdictNumber (x .judgement .verdict) ∷ x .bytes ∷ []) before
+solveAnswer r before =
+    leftBy r
+    (λ x.
+    x .judgement .count ∷ verdictNumber (x .judgement .verdict) ∷ x .judgement .shown .count ∷ x .judgement .shown .missed ∷ x .bytes ∷ [])
+    before

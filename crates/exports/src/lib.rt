@@ -43,12 +43,12 @@ pub extern "C" fn yolqushek_read(circuit: &[u8], answer: &mut [u64; 5]) -> u64
     }
 }
 
-// Judges a pair of runs, and returns the signal q.
+// Judges a pair of runs with a sheet, and returns the signal q.
 #[no_mangle]
-pub extern "C" fn yolqushek_pair(circuit: &[u8], pair: &[u8]) -> u64
-    ensures { λ r. ⌜ r ≡ pairReturned (pairCall (now (circuit .entry)) (now (pair .entry))) ⌝ }
+pub extern "C" fn yolqushek_pair(circuit: &[u8], sheet: &[u8], pair: &[u8]) -> u64
+    ensures { λ r. ⌜ r ≡ pairReturned (pairCall (now (circuit .entry)) (now (sheet .entry)) (now (pair .entry))) ⌝ }
 {
-    let result = check_pair(circuit, pair);
+    let result = check_pair(circuit, sheet, pair);
     match result {
         PairAnswer::Refused { number, place } => returned(number, place),
         PairAnswer::Accepted { q } => returned(0, q as usize),
@@ -64,46 +64,71 @@ fn number_of(verdict: Verdict) -> u64
     }
 }
 
-// Judges a derivation. `answer`: how many signals are marked, and 1 for fixed and 0 for open. The marks go to `marks`.
+// Judges a derivation with a sheet. `answer`: how many signals are marked, 1 for fixed and 0 for open, how many tags are shown, and the first that isn't.
+// The marks go to `marks`.
 #[no_mangle]
 pub extern "C" fn yolqushek_mark(
     circuit: &[u8],
+    sheet: &[u8],
     derivation: &[u8],
     marks: &mut [u8],
-    answer: &mut [u64; 2],
+    answer: &mut [u64; 4],
 ) -> u64
-    ensures returned { λ r. ⌜ r ≡ markReturned (derivationCall (now (circuit .entry)) (now (derivation .entry)) (length (now (marks .entry)))) ⌝ }
+    ensures returned { λ r. ⌜ r
+        ≡ markReturned (derivationCall (now (circuit .entry)) (now (sheet .entry)) (now (derivation .entry)) (length (now (marks .entry)))) ⌝ }
     ensures answered { λ r. ⌜ now (answer .exit)
-        ≡ markAnswer (derivationCall (now (circuit .entry)) (now (derivation .entry)) (length (now (marks .entry)))) (now (answer .entry)) ⌝ }
-    ensures written { λ r. ⌜ now (marks .exit) ≡ derivationMarks (now (circuit .entry)) (now (derivation .entry)) (now (marks .entry)) ⌝ }
+        ≡ markAnswer (derivationCall (now (circuit .entry)) (now (sheet .entry)) (now (derivation .entry)) (length (now (marks .entry)))) (now (answer .entry)) ⌝ }
+    ensures written { λ r. ⌜ now (marks .exit)
+        ≡ derivationMarks (now (circuit .entry)) (now (sheet .entry)) (now (derivation .entry)) (now (marks .entry)) ⌝ }
 {
-    let result = check_derivation(circuit, derivation, marks);
+    let result = check_derivation(circuit, sheet, derivation, marks);
     match result {
         DerivationAnswer::Refused { number, place } => returned(number, place),
-        DerivationAnswer::Accepted { count, verdict } => {
-            *answer = [count as u64, number_of(verdict)];
+        DerivationAnswer::Accepted {
+            count,
+            verdict,
+            shown,
+        } => {
+            *answer = [
+                count as u64,
+                number_of(verdict),
+                shown.count as u64,
+                shown.missed as u64,
+            ];
             returned(0, 0)
         }
     }
 }
 
-// Solves a circuit. `answer`: how many signals are marked, 1 for fixed and 0 for open, and the derivation's length. The derivation goes to `output`.
+// Solves a circuit with a sheet. `answer`: the same four numbers as of a derivation, and the derivation's length. The derivation goes to `output`.
 #[no_mangle]
-pub extern "C" fn yolqushek_solve(circuit: &[u8], output: &mut [u8], answer: &mut [u64; 3]) -> u64
-    ensures returned { λ r. ⌜ r ≡ solveReturned (solverCall (now (circuit .entry)) (length (now (output .entry)))) ⌝ }
+pub extern "C" fn yolqushek_solve(
+    circuit: &[u8],
+    sheet: &[u8],
+    output: &mut [u8],
+    answer: &mut [u64; 5],
+) -> u64
+    ensures returned { λ r. ⌜ r ≡ solveReturned (solverCall (now (circuit .entry)) (now (sheet .entry)) (length (now (output .entry)))) ⌝ }
     ensures answered { λ r. ⌜ now (answer .exit)
-        ≡ solveAnswer (solverCall (now (circuit .entry)) (length (now (output .entry)))) (now (answer .entry)) ⌝ }
-    ensures written { λ r. ⌜ now (output .exit) ≡ solverOutput (now (circuit .entry)) (now (output .entry)) ⌝ }
+        ≡ solveAnswer (solverCall (now (circuit .entry)) (now (sheet .entry)) (length (now (output .entry)))) (now (answer .entry)) ⌝ }
+    ensures written { λ r. ⌜ now (output .exit) ≡ solverOutput (now (circuit .entry)) (now (sheet .entry)) (now (output .entry)) ⌝ }
 {
-    let result = solve(circuit, output);
+    let result = solve(circuit, sheet, output);
     match result {
         SolverAnswer::Refused { number, place } => returned(number, place),
         SolverAnswer::Solved {
             count,
             verdict,
+            shown,
             bytes,
         } => {
-            *answer = [count as u64, number_of(verdict), bytes as u64];
+            *answer = [
+                count as u64,
+                number_of(verdict),
+                shown.count as u64,
+                shown.missed as u64,
+                bytes as u64,
+            ];
             returned(0, 0)
         }
     }

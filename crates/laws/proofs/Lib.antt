@@ -8,7 +8,6 @@ pub mod Digits
 pub mod DigitsRule
 pub mod Order
 pub mod Sound
-pub mod Plain
 pub mod Monotone
 pub mod Optimum
 pub mod Turns

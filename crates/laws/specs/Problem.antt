@@ -23,7 +23,7 @@ largest p s = p - 1
 abbrev pub given : Circuit → (ℕ → ℕ) → Problem
 given C first = record { p = C .p; n = C .n; i = C .i; o = C .o; m = C .m; constraint = constraintAt C; first = first }
 
--- Rule 3.2: a circuit alone, where every first bound is p - 1.
+-- Rule 7.7: a circuit alone, where every first bound is p - 1.
 abbrev pub problem : Circuit → Problem
 problem C = given C (largest (C .p))
 

@@ -1,4 +1,4 @@
--- The pair call (rule 6.8): the circuit's refusals 1 to 10, then 18 to 24 in checking order, or the signal q.
+-- The pair call (rule 6.8): the circuit's refusals 1 to 10, then the sheet's, 26 and 27, then 18 to 24 in checking order with 28 before 24, or the signal q.
 use Prim.Native.Nat.{ℕ, _+_, _*_}
 use mathlib.Core.Bool.{not}
 use mathlib.Core.List.{List}
@@ -11,6 +11,8 @@ use Rattle.circuit.specs.Runs.{valueSize, runIn, firstFrom, below, satisfiedBy,
 use Rattle.circuit.specs.Answer.{Answer, given, ask, askNone, andThen}
 use Rattle.circuit.specs.Call.{sizesOf, onCircuit}
 use Rattle.circuit.specs.declared.reader.Sizes.{Sizes}
+use Rattle.tags.specs.Tag.{Sheet, kept}
+use Rattle.tags.specs.Sheet.{sheetOn}
 
 -- Rule 2.4: the mark, the version and the signal q, then the first run's values, then the second's
 abbrev pub pairHeader : ℕ
@@ -40,21 +42,23 @@ fileOn z t =
     (askNone (firstFrom (below (z .p) (valuesOf t)) 1 (2 * z .n)) 21 0
     (given (signalOf t))))))))
 
--- Refusals 22 to 24 of two runs with values v and w, or q. The place of 22 is counted on from m in the second run.
-unfoldable pub runsOn : Sizes → (ℕ → Constraint) → (ℕ → ℕ) → (ℕ → ℕ) → ℕ → Answer ℕ
-runsOn z constraint v w q =
+-- Refusals 22, 23, 28 and 24 of two runs with values v and w, or q. The place of 22 is counted on from m in the second run. At 28 the runs have the same
+-- inputs: those of the first are asked.
+unfoldable pub runsOn : Sizes → Sheet → (ℕ → Constraint) → (ℕ → ℕ) → (ℕ → ℕ) → ℕ → Answer ℕ
+runsOn z T constraint v w q =
     askNone (firstFrom (satisfiedBy (z .p) constraint v) 1 (z .m)) 22 0
     (askNone (firstFrom (satisfiedBy (z .p) constraint w) 1 (z .m)) 22 (z .m)
     (askNone (firstFrom (agree v w) 1 (z .i)) 23 0
+    (askNone (firstFrom (kept T v) 1 (z .i)) 28 0
     (ask (not (agree v w q)) 24 q
-    (given q))))
+    (given q)))))
 
--- the pair of a circuit that isn't refused
-unfoldable pub pairOn : Circuit → List ℕ → Answer ℕ
-pairOn C t =
+-- the pair of a circuit and a sheet that aren't refused
+unfoldable pub pairOn : Circuit → Sheet → List ℕ → Answer ℕ
+pairOn C T t =
     andThen (fileOn (sizesOf C) t)
-    (runsOn (sizesOf C) (constraintAt C) (valueOf (firstRun (C .n) t)) (valueOf (secondRun (C .n) t)))
+    (runsOn (sizesOf C) T (constraintAt C) (valueOf (firstRun (C .n) t)) (valueOf (secondRun (C .n) t)))
 
--- the call, on all bytes of a circuit and of a pair
-unfoldable pub pairCall : List ℕ → List ℕ → Answer ℕ
-pairCall s t = onCircuit (readCircuit s) (λ C. pairOn C t)
+-- the call, on all bytes of a circuit, of a sheet and of a pair
+unfoldable pub pairCall : List ℕ → List ℕ → List ℕ → Answer ℕ
+pairCall s h t = onCircuit (readCircuit s) (λ C. andThen (sheetOn (sizesOf C) h) (λ T. pairOn C T t))

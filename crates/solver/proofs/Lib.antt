@@ -14,3 +14,4 @@ pub mod MarkChoice
 pub mod MarksTurn
 pub mod Demand
 pub mod SolveLaws
+pub mod Empty

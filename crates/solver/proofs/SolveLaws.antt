@@ -8,23 +8,27 @@ use lib.Dec.{leb}
 use lib.ListN.{length, drop, replicate, length-append, length-replicate}
 use borrow.Author.Tests.{le-leb, lt-leb}
 use Rattle.circuit.specs.Circuit.{Circuit, WellFormed}
-use Rattle.circuit.specs.Reading.{Reading, whole, fault}
-use Rattle.circuit.specs.Reader.{readCircuit}
-use Rattle.circuit.specs.Answer.{Answer, refused, given, ask}
-use Rattle.circuit.specs.Call.{circuitOf, circuitCall, onCircuit, sizesOf, Sized}
+use Rattle.circuit.specs.Answer.{Answer, refused, given, ask, andThen}
+use Rattle.circuit.specs.Call.{circuitOf, circuitCall, sizesOf, Sized}
 use Rattle.circuit.specs.declared.reader.Sizes.{Sizes}
-use Rattle.laws.specs.Problem.{Problem, problem, largest}
-use Rattle.laws.specs.Sum.{all}
-use Rattle.laws.specs.Standing.{Standing, isInput, start, marks}
+use Rattle.circuit.proofs.Sized.{on-sized, on-refused, sizes-are}
+use Rattle.laws.specs.Problem.{Problem, largest}
+use Rattle.laws.specs.Standing.{Standing, start, marks}
 use Rattle.laws.specs.Solver.{bestBound, firstAdding, turns, boundSteps, bounded, markSteps, solution}
 use Rattle.laws.proofs.Order.{replay-append}
 use Rattle.laws.proofs.Solution.{solution-length}
+use Rattle.tags.specs.Tag.{Sheet, tagged}
+use Rattle.tags.specs.Sheet.{sheetOf, sheetOn, Fitting, Unrefused}
+use Rattle.tags.proofs.SheetLaws.{sheet-fitting, sized-unrefused}
+use Rattle.tags.proofs.Tagged.{first-most}
 use Rattle.derivation.specs.Encoded.{headerBytes, stepsBytes, encoded, stored}
-use Rattle.derivation.specs.Call.{Verdict, bit, marksFrom, marksOf, total, outputMarked, verdictBy, verdictOf, judged}
+use Rattle.derivation.specs.Inner.{taggedIn, judgedBy, firstView}
+use Rattle.derivation.specs.Call.{bit, marksFrom, total}
+use Rattle.derivation.proofs.CallLaws.{start-is, judged-is}
 use Rattle.derivation.proofs.Encoding.{encoded-lists}
 use Rattle.derivation.proofs.MarkLaws.{marks-counted}
 use Rattle.derivation.proofs.Written.{written-append, header-written}
-use Rattle.solver.specs.Call.{Solved, own, reached, solved, roomFor, solverOn, solverCall, leftBy, leftOn, solverOutput}
+use Rattle.solver.specs.Call.{Solved, own, reached, solved, roomFor, solverOn, solverCall, leftBy, solverOutput}
 use Rattle.circuit.specs.Offsets.{Offsets}
 use Rattle.circuit.proofs.OffsetLaws.{sized-offsets}
 use Rattle.laws.specs.Problem as laws
@@ -36,6 +40,7 @@ use Rattle.solver.specs.Links.{AllRows, Prepared, Blank, Unlinked, Entri
 use Rattle.solver.specs.Bounds.{Lowered}
 use Rattle.solver.specs.Choice.{Marked, Taken}
 use Rattle.solver.specs.Demand.{Demand}
+use Rattle.solver.specs.Inner.{Taking, Solves}
 use Rattle.solver.proofs.Demand.{call-on, output-on, demand}
 
 -- The count of marks
@@ -48,72 +53,84 @@ unmarked-counted m s count e h =
     let same : count ≡ count + 0 = omega arith in
     same ∙ marks-counted m s count 0 e (sym (ap bit h))
 
--- A circuit that is refused
+-- A circuit or a sheet that is refused
 
-module _ (c output : List ℕ) where
-  pub circuit-refused : {number place : ℕ} → refused number place ≡ circuitCall c
-      → (refused number place ≡ solverCall c (length output)) × (output ≡ solverOutput c output)
-  unfolding circuitCall solverCall solverOutput
-  circuit-refused e = go (readCircuit c) e
-    where
-      go : (R : Reading Circuit) {number place : ℕ} → refused number place ≡ onCircuit R (λ C. given (sizesOf C))
-          → (refused number place ≡ onCircuit R (λ C. solverOn (problem C) (length output))) × (output ≡ leftOn R output)
-      go (whole C size) e = (cc, cc)
-      go (fault number place) e = (cc, refl)
+-- what is answered for a circuit that isn't refused
+abbrev answerOn : List ℕ → List ℕ → Circuit → Answer Solved
+answerOn h output C = andThen (sheetOn (sizesOf C) h) (λ (T : Sheet). solverOn (tagged C T) T (length output))
 
--- A circuit that isn't refused
+module _ (c h output : List ℕ) {number place : ℕ} where
+  solves-refused : refused number place ≡ solverCall c h (length output) → Solves c h output (refused number place) output
+  unfolding solverOutput
+  solves-refused e = record { answer = e; written = rw (← e) }
 
-module _ (c : List ℕ) (z : Sizes) (Z : Sized c z) where
+  pub circuit-refused : refused number place ≡ circuitCall c → Solves c h output (refused number place) output
+  unfolding solverCall
+  circuit-refused e = solves-refused (on-refused c (answerOn h output) e)
+
+  pub sheet-refused : {z : Sizes} → Sized c z → refused number place ≡ sheetOn z h → Solves c h output (refused number place) output
+  unfolding solverCall
+  sheet-refused Z e = solves-refused (sym (on-sized (answerOn h output) Z ∙ rw (← (sizes-are Z), ← e)))
+
+-- A circuit and a sheet that aren't refused
+
+module _ (c h : List ℕ) (z : Sizes) (K : Taking c h z) where
   abbrev C : Circuit
   C = circuitOf c
 
+  abbrev T : Sheet
+  T = sheetOf h
+
   abbrev P : Problem
-  P = problem C
+  P = taggedIn c h
+
+  abbrev Z : Sized c z
+  Z = K .sized
+
+  abbrev U : Unrefused c h C T
+  U = sized-unrefused (K .sized) (K .sheeted)
 
   abbrev W : WellFormed C
   W = Z .formed
 
   -- refusal 25
   pub room-short : (output : List ℕ) → length output < 7 + 14 * z .n
-      → (refused 25 0 ≡ solverCall c (length output)) × (output ≡ solverOutput c output)
-  room-short output h =
-      let few : leb (roomFor (C .n)) (length output) ≡ false = lt-leb (roomFor (C .n)) (length output) (omega (arith, Z .is-n)) in (
-        sym (call-on c output C (length c) (Z .read) ∙ ap (λ (b : Bool). ask b 25 0 (given (solved P))) few),
-        sym (output-on c output C (length c) (Z .read) ∙ ap (λ (b : Bool). leftBy b P output) few),
-      )
+      → Solves c h output (refused 25 0) output
+  room-short output short =
+      let few : leb (roomFor (C .n)) (length output) ≡ false = lt-leb (roomFor (C .n)) (length output) (omega (arith, Z .is-n)) in
+      solves-refused c h output (sym (call-on output U ∙ ap (λ (b : Bool). ask b 25 0 (given (solved P T))) few))
+
+  pub fits-sheet : Fitting (z .n) (z .p) T
+  fits-sheet = sheet-fitting z h T (K .sheeted)
 
   -- the start
-  pub start-view : (S : Standing) → S ≡ record { bound = largest (z .p); marked = isInput (min (z .i) 256) } → S ≡ start P
-  unfolding start
-  start-view S e =
-      let inputs : min (z .i) 256 ≡ C .i = omega (arith, Z .is-i, W .fits, W .n-most) in
-      e ∙ rw (inputs, Z .is-p) refl
+  pub start-view : (S : Standing) → S ≡ firstView (z .p) (z .i) h → S ≡ start P
+  start-view S e = start-is c z Z h e
 
-  pub start-low : {S : Standing} → S ≡ record { bound = largest (z .p); marked = isInput (min (z .i) 256) } → (s : ℕ) → S .bound s < z .p
-  unfolding largest
-  start-low e s = rw e (omega (arith, Z .is-p, W .p-least))
+  pub start-low : {S : Standing} → S ≡ firstView (z .p) (z .i) h → (s : ℕ) → S .bound s < z .p
+  start-low e s = rw e (omega (arith, first-most (z .p) (min (z .i) 256) T s, Z .is-p, W .p-least))
 
   -- after both phases
-  module _ (output output₂ : List ℕ) (S S₂ : Standing) (steps : ℕ) (begin : S ≡ start P) (T : Taken P S S₂ output output₂ steps)
+  module _ (output output₂ : List ℕ) (S S₂ : Standing) (steps : ℕ) (begin : S ≡ start P) (L : Taken P S S₂ output output₂ steps)
       (roomy : 7 + 14 * z .n ≤ length output) where
     bounds-are : turns (bestBound P) P (P .n) S ≡ boundSteps P
     unfolding boundSteps
     bounds-are = rw begin refl
 
-    bounded-at : T .middle ≡ bounded P
-    bounded-at = T .lowered .reached ∙ rw (bounds-are, begin) refl
+    bounded-at : L .middle ≡ bounded P
+    bounded-at = L .lowered .reached ∙ rw (bounds-are, begin) refl
 
-    marks-are : turns (firstAdding marks P) P (P .n) (T .middle) ≡ markSteps P
+    marks-are : turns (firstAdding marks P) P (P .n) (L .middle) ≡ markSteps P
     unfolding markSteps
     marks-are = rw bounded-at refl
 
-    base-counted : T .base ≡ length (boundSteps P)
-    base-counted = T .lowered .counted ∙ rw bounds-are refl
+    base-counted : L .base ≡ length (boundSteps P)
+    base-counted = L .lowered .counted ∙ rw bounds-are refl
 
     steps-counted : steps ≡ length (solution P)
     unfolding solution
     steps-counted =
-        omega (arith, T .marked .counted, ap length marks-are, base-counted, length-append (boundSteps P) (markSteps P))
+        omega (arith, L .marked .counted, ap length marks-are, base-counted, length-append (boundSteps P) (markSteps P))
 
     pub steps-small : steps ≤ 512
     steps-small = omega (arith, steps-counted, solution-length P, W .n-most)
@@ -121,14 +138,14 @@ module _ (c : List ℕ) (z : Sizes) (Z : Sized c z) where
     reached-view : S₂ ≡ reached P
     unfolding reached solution
     reached-view =
-        T .marked .reached ∙ rw (marks-are, bounded-at) (sym (replay-append P (start P) (boundSteps P) (markSteps P)))
+        L .marked .reached ∙ rw (marks-are, bounded-at) (sym (replay-append P (start P) (boundSteps P) (markSteps P)))
 
     both-written : output₂ ≡ stored output 7 (stepsBytes (solution P))
     unfolding solution
     both-written =
-        T .marked .written
+        L .marked .written
         ∙ rw (marks-are, base-counted) refl
-        ∙ written-append output (T .half) 7 (boundSteps P) (markSteps P) (T .lowered .written ∙ rw bounds-are refl)
+        ∙ written-append output (L .half) 7 (boundSteps P) (markSteps P) (L .lowered .written ∙ rw bounds-are refl)
 
     own-length : length (own P) ≡ 7 + 7 * length (solution P)
     unfolding own
@@ -137,7 +154,7 @@ module _ (c : List ℕ) (z : Sizes) (Z : Sized c z) where
     fits : leb (roomFor (C .n)) (length output) ≡ true
     fits = le-leb (roomFor (C .n)) (length output) (omega (arith, Z .is-n))
 
-    pub solved-output : (output₃ : List ℕ) → output₃ ≡ stored output₂ 0 (headerBytes steps) → output₃ ≡ solverOutput c output
+    pub solved-output : (output₃ : List ℕ) → output₃ ≡ stored output₂ 0 (headerBytes steps) → output₃ ≡ solverOutput c h output
     unfolding own
     solved-output output₃ e =
         let room : 7 + 7 * length (solution P) ≤ length output = omega (arith, solution-length P, Z .is-n) in
@@ -145,20 +162,20 @@ module _ (c : List ℕ) (z : Sizes) (Z : Sized c z) where
         ∙ ap (λ (k : ℕ). stored output₂ 0 (headerBytes k)) steps-counted
         ∙ header-written output output₂ (solution P) both-written room
         ∙ ap (λ (k : ℕ). encoded (solution P) ++ drop k output) (sym own-length)
-        ∙ sym (output-on c output C (length c) (Z .read) ∙ ap (λ (b : Bool). leftBy b P output) fits)
+        ∙ sym (output-on output U ∙ ap (λ (b : Bool). leftBy (ask b 25 0 (given (solved P T))) P output) fits)
 
-    pub solved-answer : (count : ℕ) (verdict : Verdict) (bytes : ℕ) → count ≡ total (marksFrom (S₂ .marked) 0 (z .n))
-        → verdict ≡ verdictBy (all (z .o) (outputMarked (S₂ .marked) (z .i))) → bytes ≡ 7 + 7 * steps
-        → given (record { judgement = record { count = count; verdict = verdict }; bytes = bytes }) ≡ solverCall c (length output)
-    unfolding solved judged marksOf verdictOf
-    solved-answer count verdict bytes ec ev eb =
-        rw (ec, ev, eb, reached-view, Z .is-n, Z .is-i, Z .is-o, steps-counted, sym own-length)
-        (sym (call-on c output C (length c) (Z .read) ∙ ap (λ (b : Bool). ask b 25 0 (given (solved P))) fits))
+    pub solved-answer : (r : Answer Solved) → r ≡ given (record { judgement = judgedBy z h S₂; bytes = 7 + 7 * steps })
+        → r ≡ solverCall c h (length output)
+    unfolding solved
+    solved-answer r e =
+        e
+        ∙ rw (judged-is c z Z h S₂, reached-view, steps-counted, sym own-length)
+        (sym (call-on output U ∙ ap (λ (b : Bool). ask b 25 0 (given (solved P T))) fits))
 
 -- DEMAND 3 of an answer that is the call's and of what it leaves
-pub demanded : (c output : List ℕ) (r : Answer Solved) (left : List ℕ) → (r ≡ solverCall c (length output)) × (left ≡ solverOutput c output)
-    → (r ≡ solverCall c (length output)) × ((left ≡ solverOutput c output) × Demand c output r left)
-demanded c output r left e = (e .0, (e .1, rw (e .0, e .1) (demand c output)))
+pub demanded : (c h output : List ℕ) (r : Answer Solved) (left : List ℕ) → Solves c h output r left
+    → (r ≡ solverCall c h (length output)) × ((left ≡ solverOutput c h output) × Demand c h output r left)
+demanded c h output r left A = (A .answer, (A .written, rw (A .answer, A .written) (demand c h output)))
 
 -- Between the parts
 

@@ -6,3 +6,4 @@ pub mod Choice
 pub mod Call
 pub mod Answer
 pub mod Demand
+pub mod Inner

@@ -10,22 +10,31 @@ use circuit::reader::CircuitAnswer;
 use circuit::reader::Sizes;
 use circuit::reader::check_circuit;
 use derivation::marks::verdict_of;
+use derivation::sheets::shown_of;
+use derivation::sheets::start_with;
 use derivation::writer::put_header;
 use rules::standing::Standing;
 use rules::view::mark_at;
+use tags::sheet::SheetAnswer;
+use tags::sheet::check_sheet;
 ghost use mathlib.Core.Path.{_≡_};
 ghost use Prim.Native.Nat.{ℕ, _+_, _*_, _≤_, _<_};
 ghost use lib.ListN.{length};
+ghost use Rattle.circuit.specs.Reader.{signalsMost};
+ghost use Rattle.circuit.specs.Answer as answer;
 ghost use Rattle.circuit.specs.Call.{circuitOf, Sized};
 ghost use Rattle.laws.specs.Problem.{given};
+ghost use Rattle.tags.specs.Sheet.{sheetOf, Fitting};
 ghost use Rattle.rules.specs.View.{markIn};
 ghost use Rattle.rules.specs.Promise.{view};
 ghost use Rattle.derivation.specs.Call.{marksFrom, total};
+ghost use Rattle.derivation.specs.Inner.{judgedBy};
 ghost use Rattle.solver.specs.Answer.{paperOf};
 ghost use Rattle.solver.specs.Call.{solverCall, solverOutput};
 ghost use Rattle.solver.specs.Demand.{Demand};
 ghost use Rattle.solver.specs.Links.{Prepared, Links, Entries};
 ghost use Rattle.solver.specs.Choice.{Taken};
+ghost use Rattle.solver.specs.Inner.{Taking, Solves};
 
 // Entries that the rows of the largest file may have: one for each constraint and each term, which takes six bytes; and those of a small one.
 const MOST_ENTRIES: usize = 10513;
@@ -49,6 +58,22 @@ fn count_marks(marks: &[bool], n: u32) -> u32
         }
     }
     count
+}
+
+// What is answered of the standing after the last of so many steps.
+fn told(last: Standing, sheet: &[u8], sizes: Sizes, steps: u32) -> SolverAnswer
+    requires { ⌜ (sizes .n ≤ signalsMost) × Fitting (sizes .n) (sizes .p) (sheetOf (now sheet)) ⌝ }
+    ensures { λ r. ⌜ paperOf r
+        ≡ answer.given (record { judgement = judgedBy sizes (now (sheet .entry)) (view (sizes .p) last); bytes = 7 + 7 * steps }) ⌝ }
+{
+    let marks = last.marks;
+    let bounds = last.bounds;
+    SolverAnswer::Solved {
+        count: count_marks(&marks, sizes.n),
+        verdict: verdict_of(&marks, sizes.i, sizes.o),
+        shown: shown_of(sheet, &bounds, sizes),
+        bytes: 7 + 7 * (steps as usize),
+    }
 }
 
 // The bounds phase, then the marks phase. Steps are written as they are found.
@@ -99,20 +124,20 @@ fn take_phases(
     )
 }
 
-// The call on a circuit that isn't refused and a buffer that is long enough, with room for the rows and their links. After 25 the answer is
-// certain, so steps are written as they are found, the header last.
+// The call on a circuit and a sheet that aren't refused and a buffer that is long enough, with room for the rows and their links. After 25 the
+// answer is certain, so steps are written as they are found, the header last.
 fn solve_with(
     circuit: &[u8],
+    sheet: &[u8],
     rows: &mut [u32],
     befores: &mut [u16],
     owners: &mut [u16],
     output: &mut [u8],
     sizes: Sizes,
 ) -> SolverAnswer
-    requires { ⌜ Sized (now circuit) sizes × Entries (length (now circuit)) (sizes .m) (now rows) (now befores) (now owners)
+    requires { ⌜ Taking (now circuit) (now sheet) sizes × Entries (length (now circuit)) (sizes .m) (now rows) (now befores) (now owners)
         × (7 + 14 * sizes .n ≤ length (now output)) ⌝ }
-    ensures { λ r. ⌜ paperOf r ≡ solverCall (now (circuit .entry)) (length (now (output .entry))) ⌝ }
-    ensures { λ r. ⌜ now (output .exit) ≡ solverOutput (now (circuit .entry)) (now (output .entry)) ⌝ }
+    ensures { λ r. ⌜ Solves (now (circuit .entry)) (now (sheet .entry)) (now (output .entry)) (paperOf r) (now (output .exit)) ⌝ }
 {
     let table = offsets(circuit, sizes.m);
     let mut ends = [0u32; 513];
@@ -127,7 +152,7 @@ fn solve_with(
         owners,
         sizes,
     );
-    let first = Standing::start(sizes.p, sizes.i);
+    let first = start_with(sheet, sizes.p, sizes.i);
     let phase = take_phases(
         circuit,
         &table,
@@ -141,21 +166,15 @@ fn solve_with(
         sizes,
     );
     let last = phase.standing;
-    let marks = last.marks;
     let steps = phase.count;
     put_header(output, steps as u16);
-    SolverAnswer::Solved {
-        count: count_marks(&marks, sizes.n),
-        verdict: verdict_of(&marks, sizes.i, sizes.o),
-        bytes: 7 + 7 * (steps as usize),
-    }
+    told(last, sheet, sizes, steps)
 }
 
-// The call on a circuit that isn't refused. A small file gets small arrays, since clearing large ones takes longer than solving it.
-fn solve_on(circuit: &[u8], output: &mut [u8], sizes: Sizes) -> SolverAnswer
-    requires { ⌜ Sized (now circuit) sizes ⌝ }
-    ensures { λ r. ⌜ paperOf r ≡ solverCall (now (circuit .entry)) (length (now (output .entry))) ⌝ }
-    ensures { λ r. ⌜ now (output .exit) ≡ solverOutput (now (circuit .entry)) (now (output .entry)) ⌝ }
+// The call on a circuit and a sheet that aren't refused. A small file gets small arrays, since clearing large ones takes longer than solving it.
+fn solve_tagged(circuit: &[u8], sheet: &[u8], output: &mut [u8], sizes: Sizes) -> SolverAnswer
+    requires { ⌜ Taking (now circuit) (now sheet) sizes ⌝ }
+    ensures { λ r. ⌜ Solves (now (circuit .entry)) (now (sheet .entry)) (now (output .entry)) (paperOf r) (now (output .exit)) ⌝ }
 {
     if output.len() < 7 + 14 * (sizes.n as usize) {
         return SolverAnswer::Refused {
@@ -167,25 +186,54 @@ fn solve_on(circuit: &[u8], output: &mut [u8], sizes: Sizes) -> SolverAnswer
         let mut rows = [0u32; FEW_NUMBERS];
         let mut befores = [0u16; FEW_ENTRIES];
         let mut owners = [0u16; FEW_ENTRIES];
-        return solve_with(circuit, &mut rows, &mut befores, &mut owners, output, sizes);
+        return solve_with(
+            circuit,
+            sheet,
+            &mut rows,
+            &mut befores,
+            &mut owners,
+            output,
+            sizes,
+        );
     }
     let mut rows = [0u32; MOST_NUMBERS];
     let mut befores = [0u16; MOST_ENTRIES];
     let mut owners = [0u16; MOST_ENTRIES];
-    solve_with(circuit, &mut rows, &mut befores, &mut owners, output, sizes)
+    solve_with(
+        circuit,
+        sheet,
+        &mut rows,
+        &mut befores,
+        &mut owners,
+        output,
+        sizes,
+    )
 }
 
-// The solver call: refusals 1 to 10 and 25, or the best derivation written and what it marks.
-pub fn solve(circuit: &[u8], output: &mut [u8]) -> SolverAnswer
-    ensures answer { λ r. ⌜ paperOf r ≡ solverCall (now (circuit .entry)) (length (now (output .entry))) ⌝ }
-    ensures written { λ r. ⌜ now (output .exit) ≡ solverOutput (now (circuit .entry)) (now (output .entry)) ⌝ }
-    ensures demand { λ r. ⌜ Demand (now (circuit .entry)) (now (output .entry)) (paperOf r) (now (output .exit)) ⌝ }
+// The call on a circuit that isn't refused: the sheet, then the rest.
+fn solve_on(circuit: &[u8], sheet: &[u8], output: &mut [u8], sizes: Sizes) -> SolverAnswer
+    requires { ⌜ Sized (now circuit) sizes ⌝ }
+    ensures { λ r. ⌜ Solves (now (circuit .entry)) (now (sheet .entry)) (now (output .entry)) (paperOf r) (now (output .exit)) ⌝ }
+{
+    let tagged = check_sheet(sheet, sizes);
+    match tagged {
+        SheetAnswer::Refused { number, place } => SolverAnswer::Refused { number, place },
+        SheetAnswer::Whole => solve_tagged(circuit, sheet, output, sizes),
+    }
+}
+
+// The solver call: refusals 1 to 10, 26, 27 and 25, or the best derivation written and what it marks and shows.
+pub fn solve(circuit: &[u8], sheet: &[u8], output: &mut [u8]) -> SolverAnswer
+    ensures answer { λ r. ⌜ paperOf r ≡ solverCall (now (circuit .entry)) (now (sheet .entry)) (length (now (output .entry))) ⌝ }
+    ensures written { λ r. ⌜ now (output .exit) ≡ solverOutput (now (circuit .entry)) (now (sheet .entry)) (now (output .entry)) ⌝ }
+    ensures demand { λ r. ⌜ Demand (now (circuit .entry)) (now (sheet .entry)) (now (output .entry)) (paperOf r) (now (output .exit)) ⌝ }
 {
     let answer = check_circuit(circuit);
     match answer {
         CircuitAnswer::Refused { number, place } => SolverAnswer::Refused { number, place },
         CircuitAnswer::Sizes { p, n, i, o, m } => solve_on(
             circuit,
+            sheet,
             output,
             Sizes { p, n, i, o, m },
         ),

@@ -20,6 +20,8 @@ pub(crate) fn agrees(file: &[u8], record: Record) -> bool {
 fn agrees_on(file: &[u8], record: Record, buffer: &mut [u8]) -> bool {
     let circuit_at = record.circuit_at;
     let circuit_size = record.circuit_size;
+    let sheet_at = record.sheet_at;
+    let sheet_size = record.sheet_size;
     let hand_in_at = record.hand_in_at;
     let hand_in_size = record.hand_in_size;
     let lent = record.lent;
@@ -34,9 +36,10 @@ fn agrees_on(file: &[u8], record: Record, buffer: &mut [u8]) -> bool {
         return false;
     }
     let circuit = part(file, circuit_at, circuit_size);
+    let sheet = part(file, sheet_at, sheet_size);
     let hand_in = part(file, hand_in_at, hand_in_size);
     let kind = record.kind;
-    let told = call(kind, circuit, hand_in, &mut buffer[..lent]);
+    let told = call(kind, circuit, sheet, hand_in, &mut buffer[..lent]);
     if told.returned != returned(file, at, kind) {
         return false;
     }
@@ -53,15 +56,15 @@ pub struct Told {
     pub numbers: [u64; 5],
 }
 
-fn call(kind: u32, circuit: &[u8], hand_in: &[u8], buffer: &mut [u8]) -> Told {
+fn call(kind: u32, circuit: &[u8], sheet: &[u8], hand_in: &[u8], buffer: &mut [u8]) -> Told {
     match kind {
         1 => read(circuit),
-        2 => mark(circuit, hand_in, buffer),
+        2 => mark(circuit, sheet, hand_in, buffer),
         3 => Told {
-            returned: exports::yolqushek_pair(circuit, hand_in),
+            returned: exports::yolqushek_pair(circuit, sheet, hand_in),
             numbers: [UNTOUCHED; 5],
         },
-        _ => solve(circuit, buffer),
+        _ => solve(circuit, sheet, buffer),
     }
 }
 
@@ -71,22 +74,19 @@ fn read(circuit: &[u8]) -> Told {
     Told { returned, numbers }
 }
 
-fn mark(circuit: &[u8], hand_in: &[u8], buffer: &mut [u8]) -> Told {
-    let mut two = [UNTOUCHED; 2];
-    let returned = exports::yolqushek_mark(circuit, hand_in, buffer, &mut two);
+fn mark(circuit: &[u8], sheet: &[u8], hand_in: &[u8], buffer: &mut [u8]) -> Told {
+    let mut four = [UNTOUCHED; 4];
+    let returned = exports::yolqushek_mark(circuit, sheet, hand_in, buffer, &mut four);
     Told {
         returned,
-        numbers: [two[0], two[1], UNTOUCHED, UNTOUCHED, UNTOUCHED],
+        numbers: [four[0], four[1], four[2], four[3], UNTOUCHED],
     }
 }
 
-fn solve(circuit: &[u8], buffer: &mut [u8]) -> Told {
-    let mut three = [UNTOUCHED; 3];
-    let returned = exports::yolqushek_solve(circuit, buffer, &mut three);
-    Told {
-        returned,
-        numbers: [three[0], three[1], three[2], UNTOUCHED, UNTOUCHED],
-    }
+fn solve(circuit: &[u8], sheet: &[u8], buffer: &mut [u8]) -> Told {
+    let mut numbers = [UNTOUCHED; 5];
+    let returned = exports::yolqushek_solve(circuit, sheet, buffer, &mut numbers);
+    Told { returned, numbers }
 }
 
 // The value that the call must return: the record's number and place, or 0 and an accepted pair's signal.
@@ -107,10 +107,9 @@ fn returned(file: &[u8], at: usize, kind: u32) -> u64
 // How many numbers a call hands over on a result.
 fn handed_over(kind: u32) -> usize {
     match kind {
-        1 => 5,
-        2 => 2,
+        2 => 4,
         3 => 0,
-        _ => 3,
+        _ => 5,
     }
 }
 

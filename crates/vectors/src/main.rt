@@ -8,6 +8,7 @@ mod tally;
 fn main() {
     report(b"vectors-1.bin");
     report(b"vectors-2.bin");
+    report(b"vectors-3.bin");
 }
 
 // Makes the calls of a file and prints what was found.

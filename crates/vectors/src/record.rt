@@ -9,6 +9,8 @@ pub struct Record {
     pub kind: u32,
     pub circuit_at: usize,
     pub circuit_size: usize,
+    pub sheet_at: usize,
+    pub sheet_size: usize,
     pub hand_in_at: usize,
     pub hand_in_size: usize,
     pub lent: usize,
@@ -29,7 +31,7 @@ pub(crate) fn read_record(file: &[u8], at: usize, circuit_at: usize, circuit_siz
     after_circuit(file, kind, at + 5, size, at + 5 + size)
 }
 
-// The rest of a record whose hand-in's length stands at an offset.
+// The rest of a record whose sheet's length stands at an offset.
 fn after_circuit(
     file: &[u8],
     kind: u32,
@@ -39,15 +41,19 @@ fn after_circuit(
 ) -> Record
     requires { ⌜ at ≤ length (now file) + 4294967300 ⌝ }
 {
-    let hand_in_size = u32_at(file, at) as usize;
-    let lent_at = at + 4 + hand_in_size;
+    let sheet_size = u32_at(file, at) as usize;
+    let hand_in_at = at + 8 + sheet_size;
+    let hand_in_size = u32_at(file, at + 4 + sheet_size) as usize;
+    let lent_at = hand_in_at + hand_in_size;
     let lent = u32_at(file, lent_at) as usize;
     let written = u32_at(file, lent_at + 30) as usize;
     Record {
         kind,
         circuit_at,
         circuit_size,
-        hand_in_at: at + 4,
+        sheet_at: at + 4,
+        sheet_size,
+        hand_in_at,
         hand_in_size,
         lent,
         answer_at: lent_at + 4,

@@ -1,25 +1,52 @@
-// The program's commands: each reads its operands, makes one call of the libraries and prints the answer.
+// The program's commands: each reads its operands and what its options name, makes one call of the libraries and prints the answer.
 
 use crate::arguments::Request;
 use crate::files;
+use crate::files::Got;
 use crate::listing;
+use crate::text::put;
 use circuit::reader::has_mark;
 use derivation::answer::DerivationAnswer;
 use libc::STDERR_FILENO;
 use libc::STDIN_FILENO;
 use pair::PairAnswer;
 use solver::answer::SolverAnswer;
+ghost use Rattle.io.specs.Counts.{Counts};
 
-// One byte more than the longest circuit and the longest derivation: a longer file fills the buffer and is refused.
+// One byte more than the longest circuit, the longest derivation and the longest sheet: a longer file fills the buffer and is refused.
 const CIRCUIT: usize = 60001;
 
 const HAND_IN: usize = 28680;
+
+const SHEET: usize = 1800;
+
+// The length of a sheet that says nothing.
+const NO_TAGS: usize = 7;
 
 // Room for the solver's derivation of 256 signals, 7 + 14 · 256.
 const OUTPUT: usize = 3591;
 
 // The first byte of a pair file.
 const PAIR_MARK: u32 = 80;
+
+// A sheet that says nothing: the letters `TQT`, the version 1 and the count 0.
+fn no_tags() -> [u8; NO_TAGS] {
+    [84, 81, 84, 1, 0, 0, 0]
+}
+
+// The sheet that argument k names, which must not be the file that argument `out` names; where k is 0, one that says nothing.
+fn read_sheet(k: usize, out: usize, buffer: &mut [u8]) -> Got
+    ensures { λ r. ⌜ Counts (r .count) (now (buffer .exit)) ⌝ }
+{
+    if k != 0 {
+        return files::read_argument(k, out, buffer);
+    }
+    let sheet = no_tags();
+    Got {
+        whole: true,
+        count: put(buffer, 0, &sheet),
+    }
+}
 
 // The listing of the circuit on standard input.
 pub(crate) fn solve_input() {
@@ -35,16 +62,17 @@ pub(crate) fn solve_input() {
         return;
     }
     let n = got.count;
+    let sheet = no_tags();
     let mut output = [0u8; OUTPUT];
-    let answer = solver::call::solve(&file[..n], &mut output);
+    let answer = solver::call::solve(&file[..n], &sheet, &mut output);
     let SolverAnswer::Refused { number, place } = answer else {
-        listing::print_listing(&file[..n], &output, answer);
+        listing::print_listing(&file[..n], &output, answer, false);
         return;
     };
     listing::print_refusal(number, place);
 }
 
-// solve CIRCUIT OUT: the same for a file, and the derivation into another, which is not touched where the circuit is refused.
+// solve CIRCUIT OUT: the same for a file, and the derivation into another, which is not touched where the circuit or the sheet is refused.
 pub(crate) fn solve_file(request: Request) {
     let out = request.operands[1];
     let mut file = [0u8; CIRCUIT];
@@ -53,11 +81,18 @@ pub(crate) fn solve_file(request: Request) {
         return;
     }
     let n = got.count;
+    let mut sheet = [0u8; SHEET];
+    let tags = read_sheet(request.tags, out, &mut sheet);
+    if !tags.whole {
+        return;
+    }
+    let t = tags.count;
     let mut output = [0u8; OUTPUT];
-    let answer = solver::call::solve(&file[..n], &mut output);
+    let answer = solver::call::solve(&file[..n], &sheet[..t], &mut output);
     let SolverAnswer::Solved {
         count: _,
         verdict: _,
+        shown: _,
         bytes,
     } = answer
     else {
@@ -68,7 +103,7 @@ pub(crate) fn solve_file(request: Request) {
         return;
     }
     if files::write_argument(out, &output[..bytes]) {
-        listing::print_listing(&file[..n], &output, answer);
+        listing::print_listing(&file[..n], &output, answer, request.tags != 0);
     }
 }
 
@@ -87,6 +122,12 @@ pub(crate) fn mark_file(request: Request) {
         return;
     }
     let n = got.count;
+    let mut sheet = [0u8; SHEET];
+    let tags = read_sheet(request.tags, 0, &mut sheet);
+    if !tags.whole {
+        return;
+    }
+    let t = tags.count;
     let mut hand_in = [0u8; HAND_IN];
     let hand = files::read_argument(request.operands[1], 0, &mut hand_in);
     if !hand.whole {
@@ -94,29 +135,30 @@ pub(crate) fn mark_file(request: Request) {
     }
     let k = hand.count;
     if has_mark(&hand_in[..k], PAIR_MARK) {
-        judge_pair(&file[..n], &hand_in[..k]);
+        judge_pair(&file[..n], &sheet[..t], &hand_in[..k]);
     } else {
-        judge_derivation(&file[..n], &hand_in[..k]);
+        judge_derivation(&file[..n], &sheet[..t], &hand_in[..k], request.tags != 0);
     }
 }
 
-fn judge_pair(circuit: &[u8], hand_in: &[u8]) {
-    let answer = pair::check_pair(circuit, hand_in);
+fn judge_pair(circuit: &[u8], sheet: &[u8], hand_in: &[u8]) {
+    let answer = pair::check_pair(circuit, sheet, hand_in);
     match answer {
         PairAnswer::Refused { number, place } => listing::print_refusal(number, place),
         PairAnswer::Accepted { q } => listing::print_pair(q),
     }
 }
 
-fn judge_derivation(circuit: &[u8], hand_in: &[u8]) {
+// `tagged` says whether a sheet was given, so that what is shown of it is told.
+fn judge_derivation(circuit: &[u8], sheet: &[u8], hand_in: &[u8], tagged: bool) {
     let mut marks = [0u8; 256];
-    let answer = derivation::call::check_derivation(circuit, hand_in, &mut marks);
+    let answer = derivation::call::check_derivation(circuit, sheet, hand_in, &mut marks);
     match answer {
         DerivationAnswer::Refused { number, place } => listing::print_refusal(number, place),
-        DerivationAnswer::Accepted { count, verdict } => listing::print_judged(
-            verdict,
+        DerivationAnswer::Accepted {
             count,
-            &marks,
-        ),
+            verdict,
+            shown,
+        } => listing::print_judged(verdict, count, &marks, shown, tagged),
     }
 }

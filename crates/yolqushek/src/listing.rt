@@ -7,6 +7,7 @@ use circuit::reader::CircuitAnswer;
 use circuit::reader::check_circuit;
 use derivation::answer::Verdict;
 use solver::answer::SolverAnswer;
+use tags::shown::Shown;
 ghost use Prim.Native.Nat.{_<_};
 
 pub(crate) fn print_refusal(refusal: u32, place: usize) {
@@ -27,11 +28,12 @@ pub(crate) fn print_pair(q: u32) {
         .write(&mut text);
 }
 
-// A derivation's verdict and count, and the signals whose byte is 1.
-pub(crate) fn print_judged(verdict: Verdict, count: u32, marks: &[u8]) {
+// A derivation's verdict and count, the signals whose byte is 1, and what is shown where a sheet was given.
+pub(crate) fn print_judged(verdict: Verdict, count: u32, marks: &[u8], shown: Shown, tagged: bool) {
     let mut text = io::buffer();
     let page = verdict_line(Page::empty(), &mut text, verdict, count);
-    marks_line(page, &mut text, marks).write(&mut text);
+    let page = marks_line(page, &mut text, marks);
+    shown_line(page, &mut text, shown, tagged).write(&mut text);
 }
 
 fn verdict_line(page: Page, text: &mut [u8], verdict: Verdict, count: u32) -> Page {
@@ -57,6 +59,17 @@ fn marks_line(page: Page, text: &mut [u8], marks: &[u8]) -> Page {
     page.line(text)
 }
 
+// How many tags are shown and which is the first that isn't; nothing where no sheet was given.
+fn shown_line(page: Page, text: &mut [u8], shown: Shown, tagged: bool) -> Page {
+    if !tagged {
+        return page;
+    }
+    page.word(text, b"shown")
+        .number(text, shown.count as u64)
+        .number(text, shown.missed as u64)
+        .line(text)
+}
+
 fn mark_number(page: Page, text: &mut [u8], mark: u8, signal: u64) -> Page {
     if mark == 1 {
         page.number(text, signal)
@@ -65,11 +78,12 @@ fn mark_number(page: Page, text: &mut [u8], mark: u8, signal: u64) -> Page {
     }
 }
 
-// The circuit's numbers, the derivation's steps, verdict and count.
-pub(crate) fn print_listing(circuit: &[u8], derivation: &[u8], answer: SolverAnswer) {
+// The circuit's numbers, the derivation's steps, verdict and count, and what is shown where a sheet was given.
+pub(crate) fn print_listing(circuit: &[u8], derivation: &[u8], answer: SolverAnswer, tagged: bool) {
     let SolverAnswer::Solved {
         count,
         verdict,
+        shown,
         bytes: _,
     } = answer
     else {
@@ -78,7 +92,8 @@ pub(crate) fn print_listing(circuit: &[u8], derivation: &[u8], answer: SolverAns
     let mut text = io::buffer();
     let page = circuit_line(Page::empty(), &mut text, circuit);
     let page = step_lines(page, &mut text, derivation);
-    verdict_line(page, &mut text, verdict, count).write(&mut text);
+    let page = verdict_line(page, &mut text, verdict, count);
+    shown_line(page, &mut text, shown, tagged).write(&mut text);
 }
 
 fn circuit_line(page: Page, text: &mut [u8], circuit: &[u8]) -> Page {

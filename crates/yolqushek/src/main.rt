@@ -33,6 +33,7 @@ fn usage(fd: i32) {
        yolqushek solve CIRCUIT OUT         the same, and write the derivation to OUT
        yolqushek mark CIRCUIT HANDIN       judge a derivation or a pair of runs
        yolqushek --help
+solve and mark also take --tags SHEET      with the tags of a sheet; tells how many are shown, and the first that isn't
 ",
     );
     if !written {

@@ -23,8 +23,8 @@ fn check(file: &[u8]) -> Result<Vec<Record>, String> {
     match all.iter().position(|record| !record.agrees()) {
         None => Ok(all),
         Some(index) => {
-            let Record { kind, circuit, hand_in, lent, answer: expected } = &all[index];
-            let found = answer(*kind, circuit, hand_in, *lent as usize);
+            let Record { kind, circuit, sheet, hand_in, lent, answer: expected } = &all[index];
+            let found = answer(*kind, circuit, sheet, hand_in, *lent as usize);
             Err(format!("record {} (kind {kind}): the file says {expected:?}, this crate {found:?}", index + 1))
         }
     }

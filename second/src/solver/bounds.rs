@@ -1,5 +1,5 @@
 //! The solver's first phase. A sum is never below a bound that it adds up, for weights are at least 1; so the smallest new bound on offer is
-//! final, as in Dijkstra's shortest paths, and each bound is lowered at most once.
+//! final, as in Dijkstra's shortest paths, and each bound is lowered at most once. That holds from any first bounds, those of tagged inputs too.
 
 use std::cmp::Reverse;
 use std::collections::BinaryHeap;

@@ -3,25 +3,27 @@
 mod bounds;
 mod marks;
 
-use crate::marker::write_steps;
+use crate::marker::{write_steps, Judgement};
 use crate::reader::{read_circuit, refuse, Circuit, Refusal};
 use crate::rules::{Reduced, Standing, Step};
+use crate::sheet::{read_sheet, Tag};
 
-/// Writes the derivation that document 01 prescribes; answers the marked count, whether every output is marked, and the length.
-pub fn solve(circuit: &[u8], out: &mut [u8]) -> Result<(usize, bool, usize), Refusal> {
+/// Writes the derivation that document 01 prescribes; answers what it comes to, and its length.
+pub fn solve(circuit: &[u8], sheet: &[u8], out: &mut [u8]) -> Result<(Judgement, usize), Refusal> {
     let circuit = read_circuit(circuit)?;
+    let tags = read_sheet(&circuit, sheet)?;
     if out.len() < 7 + 14 * usize::from(circuit.signals) {
         return refuse(25, 0);
     }
-    let (steps, standing) = derive(&circuit);
+    let (steps, standing) = derive(&circuit, &tags);
     let bytes = write_steps(&steps);
     out[..bytes.len()].copy_from_slice(&bytes);
-    Ok((standing.count(), standing.is_fixed(&circuit), bytes.len()))
+    Ok((Judgement::of(&circuit, &tags, &standing), bytes.len()))
 }
 
 /// The solver's steps and the standing that they reach.
-pub fn derive(circuit: &Circuit) -> (Vec<Step>, Standing) {
-    let mut standing = Standing::start(circuit);
+pub fn derive(circuit: &Circuit, tags: &[Tag]) -> (Vec<Step>, Standing) {
+    let mut standing = Standing::start(circuit, tags);
     let linear: Vec<Linear> = (1..).zip(&circuit.constraints).filter_map(|(number, c)| Linear::of(number, c, circuit)).collect();
     let mut steps = bounds::lower_all(circuit, &linear, &mut standing);
     steps.extend(marks::mark_all(circuit, &linear, &mut standing));

@@ -1,12 +1,13 @@
-//! The refusals of each call in the words of document 01: all faults that a call has, whatever comes before them, and the order that picks one.
+//! The refusals of each call in the words of documents 01 and 02: all faults that a call has, whatever comes before them, and the order that picks one.
 
 use second::marker::MOST_STEPS;
 use second::reader::{number16, number32, Circuit};
 use second::rules::Step;
+use second::sheet::{Tag, MOST_TAGS};
 use second::vectors::{Record, DERIVATION, PAIR, READ};
 use second::{field, read_circuit};
 
-use crate::literal::Literal;
+use crate::literal::{Literal, Tagging};
 
 /// A refusal's number and place.
 pub type Found = (u16, u32);
@@ -14,14 +15,21 @@ pub type Found = (u16, u32);
 /// The least is met first.
 pub type Order = (u32, u32, u32);
 
-/// The right order: by number, but 6 to 9 by place in the file and 15 to 17 by step.
+/// The right order: by number, but 6 to 9 by place in the file and 15 to 17 by step; 26 and 27 after 10, 28 after 23.
 pub fn right((number, place): Found) -> Order {
-    let stage = match number {
-        6..=9 => 6,
-        15..=17 => 15,
-        _ => number,
-    };
-    (2 * u32::from(stage), place, u32::from(number))
+    (stage(number), place, u32::from(number))
+}
+
+/// Where a number stands in the right order, with room before each.
+pub fn stage(number: u16) -> u32 {
+    match number {
+        6..=9 => stage(5) + 6,
+        15..=17 => stage(14) + 6,
+        26 => stage(10) + 2,
+        27 => stage(10) + 4,
+        28 => stage(23) + 3,
+        _ => 6 * u32::from(number),
+    }
 }
 
 /// The right order, but that all faults of one number come right before those of another.
@@ -41,18 +49,24 @@ pub fn refusal(record: &Record, order: impl Fn(Found) -> Order) -> Found {
 
 /// Every fault of a call. Fields that aren't there have none; without a circuit no rule and no constraint is looked at.
 fn faults(record: &Record) -> Vec<Found> {
-    let Record { kind, circuit, hand_in, lent, .. } = record;
+    let Record { kind, circuit, sheet, hand_in, lent, .. } = record;
     let read = read_circuit(circuit).ok();
     let mut found = in_circuit(circuit);
     let [n, i, o, m] = header(circuit);
+    if *kind != READ {
+        found.extend(in_sheet(circuit, sheet));
+    }
     match *kind {
         READ => (),
         DERIVATION => {
             found.extend(in_derivation(hand_in));
             found.extend((circuit.len() >= 17 && *lent < u32::from(n)).then_some((14, 0)));
-            found.extend(in_steps(read.as_ref(), [n, m], hand_in));
+            found.extend(in_steps(read.as_ref(), &good_tags(circuit, sheet), [n, m], hand_in));
         }
-        PAIR => found.extend(in_pair(read.as_ref(), circuit, [n, i, o], hand_in)),
+        PAIR => {
+            found.extend(in_pair(read.as_ref(), circuit, [n, i, o], hand_in));
+            found.extend(broken_tags([n, i], &good_tags(circuit, sheet), hand_in).into_iter().map(|input| (28, u32::from(input))));
+        }
         _ => found.extend((circuit.len() >= 17 && *lent < 7 + 14 * u32::from(n)).then_some((25, 0))),
     }
     found
@@ -111,6 +125,53 @@ fn in_constraints(circuit: &[u8], found: &mut Vec<Found>) {
     found.extend((at < circuit.len()).then_some((10, at as u32)));
 }
 
+/// The entries that a sheet has in full, whatever its count says.
+pub fn entries(sheet: &[u8]) -> Vec<Tag> {
+    let whole = sheet.get(7..).unwrap_or_default().chunks_exact(7);
+    whole.map(|entry| Tag::new(number16(entry, 0), entry[2], number32(entry, 3))).collect()
+}
+
+/// 26, and 27 of all entries that the file has.
+fn in_sheet(circuit: &[u8], sheet: &[u8]) -> Vec<Found> {
+    let mut found = Vec::new();
+    let count = if sheet.len() < 7 { 0 } else { usize::from(number16(sheet, 5)) };
+    let mark = sheet.len() < 7 || &sheet[..3] != b"TQT" || number16(sheet, 3) != 1;
+    found.extend((mark || count > MOST_TAGS || sheet.len() != 7 + 7 * count).then_some((26, 0)));
+    if circuit.len() >= 17 {
+        found.extend((1..).zip(entries(sheet)).filter(|(_, tag)| !is_good(circuit, tag)).map(|(number, _)| (27, number)));
+    }
+    found
+}
+
+fn is_good(circuit: &[u8], tag: &Tag) -> bool {
+    let ([n, ..], p) = (header(circuit), number32(circuit, 5));
+    let number = match tag.kind {
+        1 => tag.number == 0,
+        2 => tag.number <= 30,
+        3 => tag.number < p,
+        _ => false,
+    };
+    number && 1 <= tag.signal && tag.signal <= n
+}
+
+/// The entries without a fault.
+fn good_tags(circuit: &[u8], sheet: &[u8]) -> Vec<Tag> {
+    if circuit.len() < 17 {
+        return Vec::new();
+    }
+    entries(sheet).into_iter().filter(|tag| is_good(circuit, tag)).collect()
+}
+
+/// The inputs whose values in the first run break a tag on them, in the order of the tags.
+fn broken_tags([n, i]: [u16; 2], tags: &[Tag], pair: &[u8]) -> Vec<u16> {
+    let values: Vec<u32> = pair.get(7..).unwrap_or_default().chunks_exact(4).map(|value| number32(value, 0)).collect();
+    if values.len() < 2 * usize::from(n) {
+        return Vec::new();
+    }
+    let breaks = |tag: &&Tag| tag.signal <= i && i128::from(values[usize::from(tag.signal) - 1]) > (Tagging::RIGHT.limit)(tag.kind, tag.number);
+    tags.iter().filter(breaks).map(|tag| tag.signal).collect()
+}
+
 fn in_derivation(derivation: &[u8]) -> Vec<Found> {
     let length = derivation.len();
     let mut found = Vec::new();
@@ -122,8 +183,8 @@ fn in_derivation(derivation: &[u8]) -> Vec<Found> {
 }
 
 /// 15 to 17 of all steps that the file has; a step with a fault changes nothing.
-fn in_steps(read: Option<&Circuit>, [n, m]: [u16; 2], derivation: &[u8]) -> Vec<Found> {
-    let literal = read.map(Literal::new);
+fn in_steps(read: Option<&Circuit>, tags: &[Tag], [n, m]: [u16; 2], derivation: &[u8]) -> Vec<Found> {
+    let literal = read.map(|read| Literal::new(read, tags));
     let mut standing = literal.as_ref().map(Literal::start);
     let mut found = Vec::new();
     for (number, step) in (1..).zip(derivation.get(7..).unwrap_or_default().chunks_exact(7)) {

@@ -9,6 +9,7 @@ use std::collections::{BTreeMap, BTreeSet};
 
 use second::reader::{Circuit, Form};
 use second::rules::Step;
+use second::sheet::Tag;
 
 /// Coefficients by signal number, the constant at 0; those that are 0 aren't listed.
 type Coefficients = BTreeMap<u16, i128>;
@@ -17,6 +18,8 @@ pub struct Literal<'a> {
     circuit: &'a Circuit,
     p: i128,
     reduced: Vec<Option<Coefficients>>,
+    tags: &'a [Tag],
+    tagging: Tagging,
 }
 
 #[derive(Clone, Debug, PartialEq, Eq)]
@@ -38,6 +41,48 @@ impl Orders {
     pub const RIGHT: Orders = Orders { bounds: |key| key, marks: |key| key };
 }
 
+/// An entry of a sheet at a standing.
+pub struct Entry {
+    pub number: u32,
+    pub signal: u16,
+    pub is_input: bool,
+    pub bound: i128,
+    pub limit: i128,
+}
+
+/// The limit that a kind and a number give.
+pub type Limit = fn(u8, u32) -> i128;
+
+/// The first bound of a signal: from p - 1 and the limits of the tags on it, in the sheet's order, and whether it is an input.
+pub type First = fn(i128, &[i128], bool) -> i128;
+
+/// What is answered of the entries: how many are shown, and the first that isn't.
+pub type Shown = fn(&[Entry]) -> (u32, u32);
+
+/// How tags are read, rightly or not.
+#[derive(Clone, Copy)]
+pub struct Tagging {
+    pub limit: Limit,
+    pub first: First,
+    pub shown: Shown,
+}
+
+impl Tagging {
+    pub const RIGHT: Tagging = Tagging {
+        limit: |kind, number| match kind {
+            1 => 1,
+            2 => 2i128.pow(number) - 1,
+            _ => i128::from(number),
+        },
+        first: |most, limits, is_input| if is_input { limits.iter().copied().fold(most, i128::min) } else { most },
+        shown: |entries| {
+            let told: Vec<&Entry> = entries.iter().filter(|entry| !entry.is_input).collect();
+            let open = told.iter().find(|entry| entry.bound > entry.limit);
+            (told.iter().filter(|entry| entry.bound <= entry.limit).count() as u32, open.map_or(0, |entry| entry.number))
+        },
+    };
+}
+
 fn coefficients(form: &Form) -> Coefficients {
     form.terms.iter().map(|&(signal, c)| (signal, i128::from(c))).collect()
 }
@@ -56,8 +101,12 @@ fn inverse(a: i128, p: i128) -> i128 {
     t0.rem_euclid(p)
 }
 
-impl Literal<'_> {
-    pub fn new(circuit: &Circuit) -> Literal<'_> {
+impl<'a> Literal<'a> {
+    pub fn new(circuit: &'a Circuit, tags: &'a [Tag]) -> Literal<'a> {
+        Literal::with(circuit, tags, Tagging::RIGHT)
+    }
+
+    pub fn with(circuit: &'a Circuit, tags: &'a [Tag], tagging: Tagging) -> Literal<'a> {
         let p = i128::from(circuit.field.prime());
         let reduced = circuit.constraints.iter().map(|constraint| {
             if !names_no_signal(&constraint.a) && !names_no_signal(&constraint.b) {
@@ -72,11 +121,31 @@ impl Literal<'_> {
             });
             Some(all.filter(|&(_, c)| c != 0).collect())
         });
-        Literal { circuit, p, reduced: reduced.collect() }
+        Literal { circuit, p, reduced: reduced.collect(), tags, tagging }
     }
 
     pub fn start(&self) -> Standing {
-        Standing { bounds: self.circuit.all_signals().map(|s| (s, self.p - 1)).collect(), marked: (1..=self.circuit.inputs).collect() }
+        let bound = |signal: u16| {
+            let on_signal = self.tags.iter().filter(|tag| tag.signal == signal);
+            let limits: Vec<i128> = on_signal.map(|tag| (self.tagging.limit)(tag.kind, tag.number)).collect();
+            (self.tagging.first)(self.p - 1, &limits, signal <= self.circuit.inputs)
+        };
+        Standing { bounds: self.circuit.all_signals().map(|s| (s, bound(s))).collect(), marked: (1..=self.circuit.inputs).collect() }
+    }
+
+    /// What is answered of a standing: marked count, 1 if every output is marked, shown count, first not shown.
+    pub fn judge(&self, standing: &Standing) -> [u32; 4] {
+        let Circuit { inputs, outputs, .. } = *self.circuit;
+        let fixed = (inputs + 1..=inputs + outputs).all(|output| standing.marked.contains(&output));
+        let entries = (1..).zip(self.tags).map(|(number, &Tag { signal, kind, number: v })| Entry {
+            number,
+            signal,
+            is_input: signal <= inputs,
+            bound: standing.bounds[&signal],
+            limit: (self.tagging.limit)(kind, v),
+        });
+        let (shown, unshown) = (self.tagging.shown)(&entries.collect::<Vec<Entry>>());
+        [standing.marked.len() as u32, u32::from(fixed), shown, unshown]
     }
 
     /// The standing after a step, none if its rule isn't met.

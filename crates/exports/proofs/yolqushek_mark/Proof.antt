@@ -19,11 +19,16 @@ returns c =
 
 returns-2 : tie.Need-returns-2
 returns-2 c =
-    let h = c .before .before .before .before in
+    let n = c .before .before .before .before in
+    let h = n .before .before in
     let call = h .before .before .before .before .check-derivation in
     let is = sym (ap paperOf (h .result2 .given .1)) ∙ call .ensures .0 in (
       c .returned2 .ensures ∙ ap markReturned is,
-      (ap (λ (v : ℕ). h .result2 .given .0 .0 ∷ v ∷ []) (c .before .before .number-of .ensures) ∙ rw (← is), call .ensures .1 .0),
+      (
+        ap (λ (v : ℕ). h .result2 .given .0 .0 ∷ v ∷ h .result2 .given .0 .1 .1 .0 .count ∷ h .result2 .given .0 .1 .1 .0 .missed ∷ []) (n .number-of .ensures)
+            ∙ rw (← is),
+        call .ensures .1 .0,
+      ),
     )
 
 pub yolqushek-mark-spec : {M : Type 1} → statement M
@@ -31,7 +36,7 @@ yolqushek-mark-spec =
     tie.close
     (tie.spec
     (λ c κs. search needs) (λ c. search needs) (λ c κs. search needs) (λ c. search needs) (λ c. search needs) (λ c κs. search needs)
-    (λ c κs. search needs) (λ c. search needs)
+    (λ c. search needs) (λ c. search needs) (λ c κs. search needs) (λ c. search needs)
     returns
     (λ c. search needs)
     returns-2)

@@ -2,6 +2,7 @@
 use mathlib.Core.Path.{sym, ap, _∙_}
 use borrow.Author.Needs.{needs}
 use borrow.Author.Tests.{lt-ltb, le-ltb, le-leb, lt-leb, eq-eqb, ne-eqb, not-true, not-false}
+use Rattle.circuit.proofs.AnswerLaws.{ask-here}
 use Rattle.pair.specs.Call.{fileOn}
 use Rattle.pair.specs.Answer.{paperOf}
 use Rattle.pair.proofs.CallLaws as laws
@@ -62,12 +63,14 @@ returns-6 c =
 
 returns-7 : tie.Need-returns-7
 returns-7 c =
-    let high = c .before .before .before .before in
+    let large = c .before .before in
+    let high = large .before .before .before in
     let low = high .before .before .before in
     let q = low .before .before in
-    sym
-    (laws.file-values (framed (q .before)) (q .u16-at2 .ensures .0) (low .if5 .left) (high .if6 .left) (c .before .first-large .ensures)
-    ∙ laws.ask-here _ _ _ (c .if7 .taken))
+    ap paperOf (c .refusal7 .ensures)
+    ∙ sym
+    (laws.file-values (framed (q .before)) (q .u16-at2 .ensures .0) (low .if5 .left) (high .if6 .left) (large .first-large .ensures)
+    ∙ ask-here _ _ _ (c .before .if7 .taken))
 
 returns-8 : tie.Need-returns-8
 returns-8 c =
@@ -95,6 +98,6 @@ check-file-spec =
     returns-5
     (λ c. search needs) (λ c. search needs) (λ c. search needs) (λ c. search needs) (λ c κs. search needs)
     returns-6
-    (λ c. search needs) (λ c. search needs) (λ c. search needs) (λ c. search needs) (λ c κs. search needs) (λ c. search needs)
+    (λ c. search needs) (λ c. search needs) (λ c. search needs) (λ c. search needs) (λ c κs. search needs) (λ c. search needs) (λ c κs. search needs)
     returns-7
     returns-8)

@@ -8,8 +8,8 @@ use Rattle.pair.proofs.check_pair.Tie as tie
 
 returns : tie.Need-returns
 returns c =
-    exactly _ _ _
-    (circuit-refused _ _ (sym (ap paperOf (c .before .answer .given .1)) ∙ c .before .before .before .check-circuit .ensures .0))
+    exactly _ _ _ _
+    (circuit-refused _ _ _ (sym (ap paperOf (c .before .answer .given .1)) ∙ c .before .before .before .check-circuit .ensures .0))
 
 pub check-pair-spec : {M : Type 1} → statement M
 check-pair-spec =
@@ -18,4 +18,4 @@ check-pair-spec =
     (λ c κs. search needs) (λ c. search needs) (λ c. search needs)
     (λ c κs. c .before .before .before .check-circuit .ensures .1 _ (ap paperOf (c .before .answer2 .given .1)))
     returns
-    (λ c. exactly _ _ _ (c .check-on .ensures)))
+    (λ c. exactly _ _ _ _ (c .check-on .ensures)))

@@ -1,45 +1,22 @@
--- `derivation::call::check_on`: the header, the steps, then the marks; each way out is one law.
+-- `derivation::call::check_on`: the sheet first, then the steps.
+use mathlib.Core.Path.{sym, ap, _∙_}
 use borrow.Author.Needs.{needs}
-use Rattle.rules.specs.View.{viewOf}
-use Rattle.rules.specs.Promise.{view}
+use Rattle.tags.specs.Answer.{paperOf}
 use Rattle.derivation.proofs.CallLaws as laws
 use Rattle.derivation.proofs.call.check_on.Statement.{statement}
 use Rattle.derivation.proofs.call.check_on.Tie as tie
-
-checked :
-    (c : tie.After-check-header)
-    → let a = c .before .before .before .before .args in
-    laws.Checked (a .circuit .now) (a .derivation .now) (a .marks .now) (a .sizes) (c .check-header .result)
-checked c = record { sized = c .before .before .before .before .pre; head = c .check-header .ensures }
-
-abbrev header : tie.After-walk-all → tie.After-check-header
-header c = c .before .before .before
-
-walked :
-    (c : tie.After-walk-all)
-    → let a = header c .before .before .before .before .args in
-    let o = c .walk-all .result in
-    laws.Walked (a .circuit .now) (a .derivation .now) (a .marks .now) (a .sizes) (header c .check-header .result) (o .way) (view (a .sizes .p) (o .next))
-walked c = record { checked = checked (header c); fine = c .before .enum-told .given .1; walk = c .walk-all .ensures }
-
-returns-3 : tie.Need-returns-3
-unfolding viewOf
-returns-3 c =
-    let h = c .before .before in
-    let on = h .before .before .before in
-    laws.walk-accepts (walked (on .before .before)) (on .enum-told2 .given .1) _ _ (h .hand-over .ensures .0) (h .hand-over .ensures .1)
 
 pub check-on-spec : {M : Type 1} → statement M
 check-on-spec =
     tie.close
     (tie.spec
-    (λ c κs. search needs) (λ c. search needs)
-    (λ c. laws.head-refused (checked (c .before .before .before)) _ _ (c .before .header .given .1))
-    (λ c. search needs) (λ c κs. search needs) (λ c. search needs)
-    (λ c. laws.walk-refused (walked (c .before .before .before)) _ _ (c .before .way .given .1))
-    (λ c. search needs)
+    (λ c κs. search needs) (λ c. search needs) (λ c. search needs)
     (λ c κs.
-    let w = walked (c .before .before .before .before) in
-    (laws.few-signals _ _ (w .checked .sized), laws.head-roomy (w .checked) (w .fine)))
+    let sheet = c .before .before .before in
+    (sheet .before .before .before .before .before .pre, sym (sheet .check-sheet .ensures .0) ∙ ap (paperOf _) (c .before .enum-told .given .1)))
+    (λ c.
+    let sheet = c .before .before .before in
+    laws.sheet-refused _ _ _ _ (sheet .before .before .before .before .before .pre)
+    (sym (ap (paperOf _) (c .before .tagged .given .1)) ∙ sheet .check-sheet .ensures .0))
     (λ c. search needs)
-    returns-3)
+    (λ c. c .before .before .check-steps .ensures))

@@ -15,11 +15,11 @@ walk-all-spec =
     (λ c κs. search needs)
     (λ c.
     let s = c .before .before .before .before .before in
-    laws.walk-start _ _ (s .before .before .before .pre) _ _ _ (s .start .ensures) (c .before .walk .ensures))
+    laws.walk-start _ _ (s .before .before .before .before .pre) _ _ _ _ (s .start-with .ensures) (c .before .walk .ensures))
     (λ c. search needs)
     (λ c κs.
-    let Z = c .before .before .before .before .before .before .pre in
+    let Z = c .before .before .before .before .before .before .before .pre in
     (Z, omega (arith, Z .most, Z .formed .m-most, Z .is-m, length-replicate {A = ℕ} 21026 0)))
     (λ c.
     let s = c .before .before .before .before .before in
-    laws.walk-start _ _ (s .before .before .before .pre) _ _ _ (s .start .ensures) (c .before .walk2 .ensures)))
+    laws.walk-start _ _ (s .before .before .before .before .pre) _ _ _ _ (s .start-with .ensures) (c .before .walk2 .ensures)))

@@ -13,6 +13,6 @@ solve-spec =
     (λ c κs. search needs) (λ c. search needs) (λ c. search needs)
     (λ c κs. c .before .before .before .before .check-circuit .ensures .1 _ (ap paperOf (c .before .before .answer2 .given .1)))
     (λ c.
-    laws.demanded _ _ _ _ (laws.circuit-refused _ _ (sym (ap paperOf (c .before .answer .given .1)) ∙ c .before .before .before .check-circuit .ensures .0)))
+    laws.demanded _ _ _ _ _ (laws.circuit-refused _ _ _ (sym (ap paperOf (c .before .answer .given .1)) ∙ c .before .before .before .check-circuit .ensures .0)))
     (λ c. search needs)
-    (λ c. laws.demanded _ _ _ _ (c .before .before .solve-on .ensures)))
+    (λ c. laws.demanded _ _ _ _ _ (c .before .before .solve-on .ensures)))

@@ -1,5 +1,6 @@
--- `solver::call::solve_on`: arrays that are large enough.
-use native.Mathlib.Omega.{arith}
+-- `solver::call::solve_on`: the sheet first, then the rest.
+use mathlib.Core.Path.{sym, ap, _∙_}
+use Rattle.tags.specs.Answer.{paperOf}
 use Rattle.solver.proofs.SolveLaws as laws
 use borrow.Author.Needs.{needs}
 use Rattle.solver.proofs.call.solve_on.Statement.{statement}
@@ -9,15 +10,13 @@ pub solve-on-spec : {M : Type 1} → statement M
 solve-on-spec =
     tie.close
     (tie.spec
-    (λ c. search needs) (λ c. search needs) (λ c. search needs)
-    (λ c. laws.room-short _ _ (c .before .before .before .before .pre) _ (c .if1 .taken))
-    (λ c. search needs) (λ c. search needs) (λ c. search needs) (λ c. search needs) (λ c. search needs) (λ c. search needs)
+    (λ c κs. search needs) (λ c. search needs) (λ c. search needs)
     (λ c κs.
-    let roomy = c .before .before .before .before .before .before in
-    (roomy .before .before .before .before .pre, laws.entries-for 512 (c .before .before .before .before .if2 .taken), roomy .if1 .left))
-    (λ c. search needs) (λ c. search needs) (λ c. search needs) (λ c. search needs) (λ c. search needs)
-    (λ c κs.
-    let roomy = c .before .before .before .before .before .before in
-    let Z = roomy .before .before .before .before .pre in
-    (Z, laws.entries-for 10513 (omega (arith, Z .most, Z .is-m, Z .formed .m-most)), roomy .if1 .left))
-    (λ c. search needs) (λ c. search needs))
+    let sheet = c .before .before .before in
+    record { sized = sheet .before .before .before .before .pre; sheeted = sym (sheet .check-sheet .ensures .0) ∙ ap (paperOf _) (c .before .enum-told .given .1) })
+    (λ c.
+    let sheet = c .before .before .before in
+    laws.sheet-refused _ _ _ (sheet .before .before .before .before .pre)
+    (sym (ap (paperOf _) (c .before .tagged .given .1)) ∙ sheet .check-sheet .ensures .0))
+    (λ c. search needs)
+    (λ c. c .before .before .solve-tagged .ensures))

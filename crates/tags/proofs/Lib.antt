@@ -1,0 +1,5 @@
+pub mod TagLaws
+pub mod SheetLaws
+pub mod ShownLaws
+pub mod Tagged
+pub mod Empty
