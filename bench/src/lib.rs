@@ -15,6 +15,7 @@ pub fn proved(record: &Record) -> Answer {
             (judged(marked, 0), signals as usize)
         }),
         vectors::PAIR => yolqushek::check_pair(circuit, sheet, &record.hand_in).map(|q| ([q, 0, 0, 0, 0], 0)),
+        vectors::RENEW => yolqushek::renew(circuit, sheet, &record.hand_in, &mut buffer).map(|length| ([length as u32, 0, 0, 0, 0], length)),
         _ => yolqushek::solve(circuit, sheet, &mut buffer).map(|(marked, length)| (judged(marked, length), length)),
     };
     let written = result.map_or(0, |(_, written)| written);

@@ -1,10 +1,11 @@
-//! Times the proved library and the second implementation on the same inputs in one run and prints a table of ratios, then how the proved library's cost
-//! grows. Release builds; each buffer is filled once, before the timing; each figure is the shortest of several rounds, a round being as many calls as take
+//! Times the proved library and the second implementation on the same inputs in one run and prints a table of ratios, then renewing against marking the same
+//! derivations, then how the proved library's cost grows. Release builds; each buffer is filled once, before the timing; each figure is the shortest of several rounds, a round being as many calls as take
 //! some milliseconds.
 
 use std::hint::black_box;
 use std::time::Instant;
 
+use second::falling::{self, Falling};
 use second::planted::Planted;
 use second::sheet::{write_sheet, Tag, BINARY, MAXBIT, NO_TAGS};
 use second::{wide_digits, worst};
@@ -48,6 +49,14 @@ fn solved(name: &str, circuit: &[u8], sheet: &[u8]) -> (Row, Vec<u8>) {
     (row(format!("solve {name}"), || yolqushek::solve(circuit, sheet, &mut one), || second::solve(circuit, sheet, &mut two)), derivation)
 }
 
+/// The solver's derivation.
+fn solution(circuit: &[u8], sheet: &[u8]) -> Vec<u8> {
+    let mut output = vec![0; longest(circuit)];
+    let (_, length) = yolqushek::solve(circuit, sheet, &mut output).expect("the buffer is long enough");
+    output.truncate(length);
+    output
+}
+
 fn signals(circuit: &[u8]) -> usize {
     second::read_circuit(circuit).expect("a valid circuit").signals.into()
 }
@@ -57,14 +66,28 @@ fn longest(circuit: &[u8]) -> usize {
     7 + 14 * signals(circuit)
 }
 
-/// Solving, and marking the derivation, also padded to 4,096 steps by repeating it.
+/// Solving, marking the derivation, and renewing 4,096 steps, the derivation again and again.
 fn solving(name: &str, circuit: &[u8], sheet: &[u8], rows: &mut Vec<Row>) {
     let (row, derivation) = solved(name, circuit, sheet);
     rows.push(row);
     rows.push(marking(&format!("mark {name}"), circuit, sheet, &derivation));
     if derivation.len() > 7 {
-        rows.push(marking(&format!("mark {name}, 4,096 steps"), circuit, sheet, &repeated(&derivation[7..])));
+        rows.push(renewing(&format!("renew {name}, 4,096 steps"), circuit, sheet, &repeated(&derivation[7..])));
     }
+}
+
+/// Renewing 4,096 steps, all idle but the first, which is the solver's: a product, a root and a sum over 63 signals. And a padded derivation to be marked, which
+/// is refused at its first idle step.
+fn idle(rows: &mut Vec<Row>) {
+    let decoys = worst::bits_behind_decoys();
+    let wide = worst::tagged().into_iter().find(|tagged| tagged.name == "sums_over_tagged_inputs").expect("a circuit of that name");
+    let circuits = [("case a", second::cases::case_a(), NO_TAGS.to_vec()), ("bits behind decoys", decoys.clone(), NO_TAGS.to_vec())];
+    for (name, circuit, sheet) in circuits.into_iter().chain([("sums over tagged inputs, 256 tags", wide.circuit, wide.sheet)]) {
+        let first = &solution(&circuit, &sheet)[7..14];
+        rows.push(renewing(&format!("renew {name}, 4,096 steps, all idle but the first"), &circuit, &sheet, &repeated(first)));
+    }
+    let padded = repeated(&solution(&decoys, NO_TAGS)[7..]);
+    rows.push(refused("mark bits behind decoys, 4,096 steps, refused at the first idle one", &decoys, &padded));
 }
 
 /// Sheets of 256 tags: solving and marking, where bounds fall only because of them too, and a pair whose inputs have them all.
@@ -80,14 +103,19 @@ fn tagged(largest: &Planted, rows: &mut Vec<Row>) {
     solving("case c, 4 tags", &small, &write_sheet(&tags), rows);
 }
 
-/// The widest digits tests: marking 4,096 steps, and solving circuits with more and more sums that nothing settles.
+/// The widest digits tests: renewing 4,096 steps of which most are idle, and solving circuits with more and more sums that nothing settles.
 fn wide_digits(rows: &mut Vec<Row>) {
-    for marked in wide_digits::all_marked() {
-        rows.push(marking(&format!("mark digits on {}, 4,096 steps", marked.name), &marked.circuit, NO_TAGS, &marked.derivation));
+    for padded in wide_digits::all_padded() {
+        rows.push(renewing(&format!("renew digits on {}, 4,096 steps", padded.name), &padded.circuit, NO_TAGS, &padded.derivation));
     }
     for sums in [35, 71, wide_digits::MOST_SUMS] {
         rows.push(solved(&format!("{sums} broken sums"), &wide_digits::broken_sums(sums), NO_TAGS).0);
     }
+}
+
+/// Derivations of 4,096 steps of which none is idle.
+fn falling() -> impl Iterator<Item = (&'static str, Falling)> {
+    [("a chain", falling::chain()), ("a chain of wide sums", falling::wide_chain())].into_iter()
 }
 
 /// 4,096 steps: those given, again and again.
@@ -103,6 +131,43 @@ fn marking(name: &str, circuit: &[u8], sheet: &[u8], derivation: &[u8]) -> Row {
     assert!(second::check_derivation(circuit, sheet, derivation, &mut two).is_ok());
     assert_eq!(one, two);
     row(name, || yolqushek::check_derivation(circuit, sheet, derivation, &mut one), || second::check_derivation(circuit, sheet, derivation, &mut two))
+}
+
+/// Marking a derivation that is refused with 29 by both.
+fn refused(name: &str, circuit: &[u8], derivation: &[u8]) -> Row {
+    let (mut one, mut two) = (vec![9; signals(circuit)], vec![9; signals(circuit)]);
+    assert_eq!(yolqushek::check_derivation(circuit, NO_TAGS, derivation, &mut one).map_err(|refusal| refusal.number).err(), Some(29));
+    assert_eq!(second::check_derivation(circuit, NO_TAGS, derivation, &mut two).map_err(|refusal| refusal.number).err(), Some(29));
+    row(
+        name,
+        || yolqushek::check_derivation(circuit, NO_TAGS, derivation, &mut one),
+        || second::check_derivation(circuit, NO_TAGS, derivation, &mut two),
+    )
+}
+
+fn renewing(name: &str, circuit: &[u8], sheet: &[u8], derivation: &[u8]) -> Row {
+    let (mut one, mut two) = (vec![9; derivation.len()], vec![9; derivation.len()]);
+    let length = second::renew(circuit, sheet, derivation, &mut two).expect("every step is met");
+    assert_eq!(yolqushek::renew(circuit, sheet, derivation, &mut one), Ok(length));
+    assert_eq!(one, two);
+    row(name, || yolqushek::renew(circuit, sheet, derivation, &mut one), || second::renew(circuit, sheet, derivation, &mut two))
+}
+
+/// Renewing against marking in the proved library, on derivations that both accept: none of their steps is idle.
+fn renewing_against_marking() {
+    println!("\n| derivation | steps | mark µs | renew µs | renew / mark |\n|---|---:|---:|---:|---:|");
+    let falling = falling().map(|(name, Falling { circuit, derivation })| (name.to_string(), circuit, derivation));
+    let solved = worst::all().into_iter().map(|(name, circuit)| {
+        let derivation = solution(&circuit, NO_TAGS);
+        (format!("the solver's of {}", name.replace('_', " ")), circuit, derivation)
+    });
+    for (name, circuit, derivation) in falling.chain(solved) {
+        let (mut marks, mut output) = (vec![9; signals(&circuit)], vec![9; derivation.len()]);
+        let mark = shortest(|| yolqushek::check_derivation(&circuit, NO_TAGS, &derivation, &mut marks));
+        let renew = shortest(|| yolqushek::renew(&circuit, NO_TAGS, &derivation, &mut output));
+        assert_eq!(output, derivation);
+        println!("| {name} | {} | {mark:.2} | {renew:.2} | {:.2} |", derivation.len() / 7 - 1, renew / mark);
+    }
 }
 
 /// The planted runs as a pair file.
@@ -128,7 +193,7 @@ fn growth(name: &str, timed: &[(usize, f64)]) {
     }
 }
 
-/// Solving and reading circuits of growing size, and marking derivations of growing length.
+/// Solving and reading circuits of growing size, marking derivations of growing length with nothing idle, and renewing padded ones.
 fn all_growth() {
     let circuits: Vec<Vec<u8>> = [2, 4, 8].map(worst::numbers_behind_decoys).into();
     let mut output = vec![0; 7 + 14 * 256];
@@ -136,16 +201,28 @@ fn all_growth() {
     growth("solve: bytes of the circuit", &circuits.iter().map(|circuit| (circuit.len(), solve(circuit))).collect::<Vec<_>>());
     let read = |circuit: &[u8]| shortest(|| yolqushek::read_circuit(circuit));
     growth("read: bytes of the circuit", &circuits.iter().map(|circuit| (circuit.len(), read(circuit))).collect::<Vec<_>>());
-    let (circuit, mut marks) = (&circuits[2], vec![0; 256]);
-    let (_, length) = yolqushek::solve(circuit, NO_TAGS, &mut output).expect("the buffer is long enough");
-    let whole = repeated(&output[7..length]);
-    let mut mark = |steps: usize| {
-        let mut derivation = whole[..7 + 7 * steps].to_vec();
-        derivation[5..7].copy_from_slice(&(steps as u16).to_le_bytes());
-        assert!(yolqushek::check_derivation(circuit, NO_TAGS, &derivation, &mut marks).is_ok());
-        shortest(|| yolqushek::check_derivation(circuit, NO_TAGS, &derivation, &mut marks))
+    let Falling { circuit, derivation } = falling::wide_chain();
+    let mark = |steps: usize| {
+        let (cut, mut marks) = (first_steps(&derivation, steps), vec![0; 256]);
+        assert!(yolqushek::check_derivation(&circuit, NO_TAGS, &cut, &mut marks).is_ok());
+        shortest(|| yolqushek::check_derivation(&circuit, NO_TAGS, &cut, &mut marks))
     };
-    growth("mark: steps", &[512, 1024, 2048, 4096].map(|steps| (steps, mark(steps))));
+    growth("mark: steps, none idle", &[512, 1024, 2048, 4096].map(|steps| (steps, mark(steps))));
+    let circuit = &circuits[2];
+    let whole = repeated(&solution(circuit, NO_TAGS)[7..]);
+    let renew = |steps: usize| {
+        let (cut, mut output) = (first_steps(&whole, steps), vec![0; whole.len()]);
+        assert!(yolqushek::renew(circuit, NO_TAGS, &cut, &mut output).is_ok());
+        shortest(|| yolqushek::renew(circuit, NO_TAGS, &cut, &mut output))
+    };
+    growth("renew: steps", &[512, 1024, 2048, 4096].map(|steps| (steps, renew(steps))));
+}
+
+/// The derivation of the first steps of another.
+fn first_steps(derivation: &[u8], steps: usize) -> Vec<u8> {
+    let mut cut = derivation[..7 + 7 * steps].to_vec();
+    cut[5..7].copy_from_slice(&(steps as u16).to_le_bytes());
+    cut
 }
 
 /// Keeps the processor busy for a second, so that the first rows find it as fast as the later ones.
@@ -174,10 +251,16 @@ fn main() {
         solving(&name.replace('_', " "), &circuit, NO_TAGS, &mut rows);
     }
     wide_digits(&mut rows);
+    for (name, Falling { circuit, derivation }) in falling() {
+        rows.push(marking(&format!("mark {name}, 4,096 steps, none idle"), &circuit, NO_TAGS, &derivation));
+        rows.push(renewing(&format!("renew {name}, 4,096 steps, none idle"), &circuit, NO_TAGS, &derivation));
+    }
+    idle(&mut rows);
     tagged(&largest, &mut rows);
     println!("| call | proved µs | second µs | ratio |\n|---|---:|---:|---:|");
     for row in rows {
         println!("| {} | {:.2} | {:.2} | {:.2} |", row.name, row.proved, row.second, row.proved / row.second);
     }
+    renewing_against_marking();
     all_growth();
 }

@@ -1,4 +1,4 @@
-/* Cases a and f of document 01 through the C header, with tags and without: reads, solves and judges, and says what differs. */
+/* Cases a and f of document 01 through the C header, with tags and without: reads, solves, judges and renews, and says what differs. */
 #include "../yolqushek.h"
 #include <stdio.h>
 #include <string.h>
@@ -6,6 +6,12 @@
 /* p = 7, input 1, output 2, A = B = signal 1, C = signal 2 */
 static const uint8_t a[] = {67, 81, 84, 1, 0, 7, 0, 0, 0, 2, 0, 1, 0, 1, 0, 1, 0, 1, 1, 0, 1, 0, 0, 0, 1, 1, 0, 1, 0, 0, 0, 1, 2, 0, 1, 0, 0, 0};
 static const uint8_t derivation[] = {68, 81, 84, 1, 0, 1, 0, 4, 2, 0, 1, 0, 0, 0};
+/* the same with its step given twice, and with a root step, whose rule isn't met, as its second */
+static const uint8_t padded[] = {68, 81, 84, 1, 0, 2, 0, 4, 2, 0, 1, 0, 0, 0, 4, 2, 0, 1, 0, 0, 0};
+static const uint8_t unmet[] = {68, 81, 84, 1, 0, 2, 0, 4, 2, 0, 1, 0, 0, 0, 1, 2, 0, 1, 0, 0, 0};
+/* input 1 is at most 0, and a zero step on it before the product */
+static const uint8_t tag0[] = {84, 81, 84, 1, 0, 1, 0, 1, 0, 3, 0, 0, 0, 0};
+static const uint8_t zero[] = {68, 81, 84, 1, 0, 2, 0, 3, 1, 0, 0, 0, 0, 0, 4, 2, 0, 1, 0, 0, 0};
 /* p = 5, one output, s * s = s: 0 against 1 is an accepted pair */
 static const uint8_t f[] = {67, 81, 84, 1, 0, 5, 0, 0, 0, 1, 0, 0, 0, 1, 0, 1, 0, 1, 1, 0, 1, 0, 0, 0, 1, 1, 0, 1, 0, 0, 0, 1, 1, 0, 1, 0, 0, 0};
 /* tags for the first: input 1 is a bit, output 2 below 7 and below 6 */
@@ -64,6 +70,31 @@ static void with_tags(void)
     refused("broken tag", yolqushek_pair(free3, sizeof free3, tags, sizeof tags, twos, sizeof twos), 28, 1);
 }
 
+static void renewals(void)
+{
+    uint64_t marked[4] = {9, 9, 9, 9}, returned;
+    uint8_t output[30], again[14], marks[2] = {9, 9};
+    memset(output, 9, sizeof output);
+    refused("padded", yolqushek_mark(a, sizeof a, none, 7, padded, sizeof padded, marks, 2, marked), 29, 2);
+    refused("zero", yolqushek_mark(a, sizeof a, tag0, sizeof tag0, zero, sizeof zero, marks, 2, marked), 29, 1);
+    same("marks of a padded one", marks[0] * 10 + marks[1], 99);
+    refused("short for the given", yolqushek_renew(a, sizeof a, none, 7, padded, sizeof padded, output, sizeof padded - 1), 25, 0);
+    refused("unmet before short", yolqushek_renew(a, sizeof a, none, 7, unmet, sizeof unmet, output, 0), 17, 2);
+    same("output on a refusal", output[0], 9);
+    returned = yolqushek_renew(a, sizeof a, none, 7, padded, sizeof padded, output, sizeof output);
+    same("renew", yolqushek_number(returned), 0);
+    same("renewed length", yolqushek_length(returned), sizeof derivation);
+    same("renewed", memcmp(output, derivation, sizeof derivation), 0);
+    for (size_t k = sizeof derivation; k < sizeof output; k++)
+        same("beyond the renewed", output[k], 9);
+    same("mark the renewed", yolqushek_mark(a, sizeof a, none, 7, output, sizeof derivation, marks, 2, marked), 0);
+    same("renew again", yolqushek_renew(a, sizeof a, none, 7, output, sizeof derivation, again, sizeof again), sizeof derivation);
+    same("renewed again", memcmp(again, derivation, sizeof derivation), 0);
+    memset(output, 9, sizeof output);
+    same("renew with a tag", yolqushek_renew(a, sizeof a, tag0, sizeof tag0, zero, sizeof zero, output, sizeof zero), sizeof derivation);
+    same("renewed with a tag", memcmp(output, derivation, sizeof derivation), 0);
+}
+
 static void refusals(void)
 {
     uint64_t answer[5] = {9, 9, 9, 9, 9};
@@ -85,6 +116,7 @@ int main(void)
 {
     results();
     with_tags();
+    renewals();
     refusals();
     puts(bad ? "C calls differ" : "C calls agree");
     return bad;

@@ -5,7 +5,7 @@ use crate::edge::{any_edge, listed_edges, tied, Edge};
 use crate::generate::{any, small, tiny, PRIMES};
 use crate::grow::grown;
 use crate::hand_in::{damaged_derivation, damaged_pair, damaged_sheet, faulty_derivation, faulty_pair};
-use crate::hand_in::{padded, random_derivation, random_step, random_tags, small_pairs, tags_about, with_changed_fields};
+use crate::hand_in::{padded, random_derivation, random_step, random_tags, small_pairs, tags_about, with_changed_fields, with_idle_steps};
 use crate::marker::write_steps;
 use crate::pair::{values, write_pair};
 use crate::planted::{planted, Planted};
@@ -14,18 +14,23 @@ use crate::reader::{read_circuit, Circuit};
 use crate::rules::Rules;
 use crate::sheet::{read_sheet, write_sheet, Tag, NO_TAGS};
 use crate::solver::derive;
-use crate::two_faults::KINDS;
-use crate::vectors::{Record, DERIVATION, PAIR, READ, SOLVE};
-use crate::{brute, worst};
+use crate::vectors::{Record, DERIVATION, PAIR, READ, RENEW, SOLVE};
+use crate::{brute, renew, worst};
 
-/// The usual length of all files together.
-pub const USUAL_SIZE: usize = 1_215_000;
+/// The usual length of all files together, but for the last random calls.
+pub const USUAL_SIZE: usize = 1_420_000;
 
 /// How many random circuits at the edge of a rule there always are.
 const EDGES: usize = 60;
 
 /// How many circuits with ties.
 const TIES: usize = 40;
+
+/// How many circuits with derivations into which idle steps are strewn.
+const IDLE: usize = 120;
+
+/// How many small circuits that are solved and nothing else.
+const SOLVED: usize = 400;
 
 /// The records of files of about this length together, with all fixed calls. From 1,500,000 bytes on all worst circuits are among them.
 pub fn compose(seed: u64, size: usize) -> Vec<Record> {
@@ -56,13 +61,15 @@ impl Maker {
         Maker { rng: Random::new(seed), records: Vec::new(), size: 9 }
     }
 
-    /// The records so far, and random ones until all take so many bytes.
+    /// The records so far, and random ones until all take so many bytes; then some more.
     fn random_calls(mut self, size: usize) -> Vec<Record> {
         (0..EDGES).for_each(|_| self.random_edge());
         (0..TIES).for_each(|_| self.ties());
         while self.size < size {
             self.random_circuit();
         }
+        (0..IDLE).for_each(|_| self.idle());
+        (0..SOLVED).for_each(|_| self.solved());
         self.records
     }
 
@@ -74,8 +81,43 @@ impl Maker {
     /// Adds a call with a sheet, with its answer.
     pub fn call_with(&mut self, kind: u8, circuit: &[u8], sheet: &[u8], hand_in: &[u8], lent: usize) {
         let record = Record::answered(kind, circuit, sheet, hand_in, lent);
-        self.size += record.size(self.records.last().is_some_and(|last| last.circuit == circuit));
+        self.size += record.size(self.records.last());
         self.records.push(record);
+    }
+
+    /// A derivation, marked with a buffer of this length and renewed, by turns only where the marker's refusal is the renewal's too; and marked without its idle
+    /// steps, where it has such and no other fault.
+    pub fn mark_and_renew(&mut self, circuit: &[u8], sheet: &[u8], derivation: &[u8], marks: usize) {
+        self.call_with(DERIVATION, circuit, sheet, derivation, marks);
+        let refusal = self.records.last().map_or(0, |record| record.answer.number);
+        if ![0, 14, 29].contains(&refusal) && !self.records.len().is_multiple_of(3) {
+            return;
+        }
+        let output = self.output(derivation.len());
+        self.call_with(RENEW, circuit, sheet, derivation, output);
+        let mut renewed = vec![0; derivation.len()];
+        if let (29, Ok(length)) = (refusal, renew(circuit, sheet, derivation, &mut renewed)) {
+            self.call_with(DERIVATION, circuit, sheet, &renewed[..length], marks);
+        }
+    }
+
+    /// Adds a call; a derivation is renewed too.
+    fn call_and_renew(&mut self, kind: u8, circuit: &[u8], sheet: &[u8], hand_in: &[u8], lent: usize) {
+        match kind {
+            DERIVATION => self.mark_and_renew(circuit, sheet, hand_in, lent),
+            _ => self.call_with(kind, circuit, sheet, hand_in, lent),
+        }
+    }
+
+    /// The length of a renewal's buffer: that of the derivation mostly, and by turns one byte more, many more, one fewer, and none.
+    fn output(&self, needed: usize) -> usize {
+        match self.records.len() % 13 {
+            0 | 1 => needed + 1,
+            2 => needed + 30,
+            3 => needed.saturating_sub(1),
+            4 => 0,
+            _ => needed,
+        }
     }
 
     /// The call of any kind with hand-ins that are good if the circuit is, or bad too.
@@ -90,7 +132,7 @@ impl Maker {
         };
         let lent = if kind.is_multiple_of(2) { self.rng.below(60) } else { 0 };
         let sheet = if good { NO_TAGS } else { &b"no sheet"[..self.rng.below(8)] };
-        self.call_with(kind, circuit, if kind == READ { &[] } else { sheet }, &hand_in, lent);
+        self.call_and_renew(kind, circuit, if kind == READ { &[] } else { sheet }, &hand_in, lent);
     }
 
     /// The solver and its own derivation, followed by the marker.
@@ -99,7 +141,7 @@ impl Maker {
         let n = usize::from(read.signals);
         self.call(READ, circuit, &[], 0);
         self.call(SOLVE, circuit, &[], 7 + 14 * n);
-        self.call(DERIVATION, circuit, &write_steps(&derive(&read, &[]).0), n);
+        self.mark_and_renew(circuit, NO_TAGS, &write_steps(&derive(&read, &[]).0), n);
     }
 
     /// The solver and its own derivation with these tags.
@@ -164,7 +206,7 @@ impl Maker {
     fn faulty_call(&mut self, good: &[u8], read: &Circuit, tags: &[Tag]) {
         let rng = &mut self.rng;
         let circuit = if rng.once_in(4) { good.to_vec() } else { damaged(rng, good) };
-        let kind = rng.pick(&KINDS);
+        let kind = rng.pick(&[READ, DERIVATION, PAIR, SOLVE]);
         let n = usize::from(read.signals);
         let hand_in = match kind {
             DERIVATION => faulty_derivation(rng, read, tags),
@@ -181,13 +223,39 @@ impl Maker {
             SOLVE => self.lent(7 + 14 * n),
             _ => 0,
         };
-        self.call_with(kind, &circuit, &sheet, &hand_in, lent);
+        self.call_and_renew(kind, &circuit, &sheet, &hand_in, lent);
+    }
+
+    /// Idle steps among the solver's, some of them with a fault or two in the steps too, or in the first bytes, the sheet or a buffer.
+    fn idle(&mut self) {
+        let circuit = self.any_circuit();
+        let read = read_circuit(&circuit).expect("generated circuits are valid");
+        let (rules, tags) = (Rules::new(&read), self.tags(&read));
+        let rng = &mut self.rng;
+        let mut steps = with_idle_steps(rng, &rules, &tags, &derive(&read, &tags).0);
+        if rng.once_in(4) {
+            steps = with_changed_fields(rng, &read, &steps);
+        }
+        let mut derivation = write_steps(&steps);
+        if rng.once_in(12) {
+            derivation = damaged_derivation(rng, &derivation);
+        }
+        let (lent, sheet) = (self.lent(usize::from(read.signals)), self.sheet(&read, &tags));
+        self.mark_and_renew(&circuit, &sheet, &derivation, lent);
     }
 
     /// The solver alone.
     pub fn solve(&mut self, circuit: &[u8]) {
         let n = usize::from(read_circuit(circuit).expect("a valid circuit").signals);
         self.call(SOLVE, circuit, &[], 7 + 14 * n);
+    }
+
+    /// The solver on a small circuit, perhaps from tags.
+    fn solved(&mut self) {
+        let circuit = if self.rng.once_in(3) { small(&mut self.rng) } else { tiny(&mut self.rng) };
+        let read = read_circuit(&circuit).expect("generated circuits are valid");
+        let tags = self.tags(&read);
+        self.call_with(SOLVE, &circuit, &write_sheet(&tags), &[], 7 + 14 * usize::from(read.signals));
     }
 
     /// The solver where many steps are on offer, perhaps from tags.
@@ -208,7 +276,7 @@ impl Maker {
     fn edge(&mut self, edge: &Edge, solve: bool) {
         let (n, sheet) = (usize::from(read_circuit(&edge.circuit).expect("edge circuits are valid").signals), write_sheet(&edge.tags));
         for steps in &edge.derivations {
-            self.call_with(DERIVATION, &edge.circuit, &sheet, &write_steps(steps), n);
+            self.mark_and_renew(&edge.circuit, &sheet, &write_steps(steps), n);
         }
         if solve {
             self.call_with(SOLVE, &edge.circuit, &sheet, &[], 7 + 14 * n);
@@ -268,7 +336,7 @@ impl Maker {
                 derivation = damaged_derivation(rng, &derivation);
             }
             let (lent, sheet) = (self.lent(usize::from(read.signals)), self.sheet(read, tags));
-            self.call_with(DERIVATION, circuit, &sheet, &derivation, lent);
+            self.mark_and_renew(circuit, &sheet, &derivation, lent);
         }
     }
 

@@ -8,7 +8,7 @@ use crate::rules::{Step, DIGITS, PRODUCT, ROOT, SUM, ZERO};
 use crate::sheet::{Tag, MAXVALUE};
 use crate::writer::{Draft, Terms};
 
-/// A circuit, tags and derivations for it, of which the last step may not be met.
+/// A circuit, tags and derivations for it, of which the last step may not be met or may be idle.
 pub struct Edge {
     pub circuit: Vec<u8>,
     pub tags: Vec<Tag>,

@@ -51,6 +51,24 @@ pub fn padded(rng: &mut Random, steps: &[Step], length: usize) -> Vec<Step> {
     padded
 }
 
+/// The steps with idle ones strewn among them: earlier ones again, and any that are met where they stand and change nothing.
+pub fn with_idle_steps(rng: &mut Random, rules: &Rules, tags: &[Tag], steps: &[Step]) -> Vec<Step> {
+    let mut standing = Standing::start(rules.circuit, tags);
+    let mut result: Vec<Step> = Vec::new();
+    for number in 0..=steps.len() {
+        for _ in 0..rng.pick(&[0, 1, 4, 8]) {
+            let step = if !result.is_empty() && rng.once_in(3) { Some(rng.pick(&result)) } else { random_step(rng, rules.circuit) };
+            let is_idle = |step: &Step| rules.progress(&mut standing.clone(), *step) == Some(false);
+            result.extend(step.filter(is_idle));
+        }
+        if let Some(&step) = steps.get(number) {
+            rules.take(&mut standing, step);
+            result.push(step);
+        }
+    }
+    result
+}
+
 /// The steps with one field of one of them changed, or with two of any of them.
 pub fn with_changed_fields(rng: &mut Random, circuit: &Circuit, steps: &[Step]) -> Vec<Step> {
     let mut changed = steps.to_vec();

@@ -3,6 +3,7 @@
 use crate::cases::{case_a, case_b, case_c, case_e, case_f, case_g};
 use crate::compose::Maker;
 use crate::damage::{Layout, NOT_PRIMES};
+use crate::falling::Falling;
 use crate::generate::PRIMES;
 use crate::hand_in::padded;
 use crate::marker::{write_steps, MOST_STEPS};
@@ -10,11 +11,12 @@ use crate::pair::write_pair;
 use crate::planted::Planted;
 use crate::reader::read_circuit;
 use crate::rules::Step;
+use crate::sheet::NO_TAGS;
 use crate::solver::derive;
 use crate::two_faults::{self, Pair};
-use crate::vectors::{DERIVATION, PAIR, READ, SOLVE};
+use crate::vectors::{DERIVATION, PAIR, READ, RENEW, SOLVE};
 use crate::writer::Draft;
-use crate::{ties, worst};
+use crate::{falling, ties, worst};
 
 /// Numbers n, i, o, m at and beyond their limits.
 #[rustfmt::skip]
@@ -42,6 +44,7 @@ impl Maker {
         self.every_two_faults();
         ties::circuits().iter().for_each(|circuit| self.solve(circuit));
         self.tagged_calls();
+        self.idle_calls();
     }
 
     /// Every kind of call, with a derivation without steps, a pair of runs of zeros, and buffers that are long enough for n signals.
@@ -51,6 +54,7 @@ impl Maker {
         self.call(DERIVATION, circuit, &write_steps(&[]), n);
         self.call(PAIR, circuit, &write_pair(1, &zeros, &zeros), 0);
         self.call(SOLVE, circuit, &[], 7 + 14 * n);
+        self.call(RENEW, circuit, &write_steps(&[]), 7);
     }
 
     /// Cases a to j of document 01.
@@ -65,9 +69,9 @@ impl Maker {
         self.call(SOLVE, &c[..112], &[], 63);
         self.call(SOLVE, &[&c[..], &[0]].concat(), &[], 63);
         for step in [Step::new(4, 2, 1, 0), Step::new(6, 2, 1, 0), Step::new(4, 0, 1, 0)] {
-            self.call(DERIVATION, &a, &write_steps(&[step]), 2);
+            self.mark_and_renew(&a, NO_TAGS, &write_steps(&[step]), 2);
         }
-        self.call(DERIVATION, &c, &write_steps(&[Step::new(4, 2, 4, 0)]), 4);
+        self.mark_and_renew(&c, NO_TAGS, &write_steps(&[Step::new(4, 2, 4, 0)]), 4);
     }
 
     /// Numbers of the header at and beyond their limits.
@@ -169,9 +173,9 @@ impl Maker {
             };
             let kind = self.rng.pick(&[0, 6, 255]);
             let number = self.rng.pick(&[0, 8, 65_535]);
-            self.call(DERIVATION, &circuit, &fault(&|step| step.kind = kind), 7);
-            self.call(DERIVATION, &circuit, &fault(&|step| step.target = number), 7);
-            self.call(DERIVATION, &circuit, &fault(&|step| *step = Step::new(4, 2, 7, 0)), 7);
+            self.mark_and_renew(&circuit, NO_TAGS, &fault(&|step| step.kind = kind), 7);
+            self.mark_and_renew(&circuit, NO_TAGS, &fault(&|step| step.target = number), 7);
+            self.mark_and_renew(&circuit, NO_TAGS, &fault(&|step| *step = Step::new(4, 2, 7, 0)), 7);
         }
     }
 
@@ -183,7 +187,7 @@ impl Maker {
             let mut steps: Vec<Step> = [0, 1, 3, 4, 258].map(|target| Step::new(kind, target, constraint, reference)).to_vec();
             steps.extend([0, 1, 2, 3, 257].map(|number| Step::new(kind, 2, number, reference)));
             steps.extend([0, 1, 3, 4, 257].map(|number| Step::new(kind, 2, constraint, number)));
-            steps.iter().for_each(|&step| self.call(DERIVATION, &circuit, &write_steps(&[step]), 3));
+            steps.iter().for_each(|&step| self.mark_and_renew(&circuit, NO_TAGS, &write_steps(&[step]), 3));
         }
     }
 
@@ -199,7 +203,7 @@ impl Maker {
             let digits = [(4, 3, 4), (4, 3, 0), (4, 3, 2), (4, 3, 3), (4, 3, 5), (3, 3, 4), (5, 3, 4), (3, 3, 3), (1, 3, 0), (5, 3, 5)];
             let of_kind = |kind: u8, fields: &[(u16, u16, u16)]| -> Vec<Step> { fields.iter().map(|&(t, c, r)| Step::new(kind, t, c, r)).collect() };
             for step in [of_kind(3, &zeros), of_kind(5, &digits)].concat() {
-                self.call(DERIVATION, &circuit, &write_steps(&[&roots[..], &[step]].concat()), 5);
+                self.mark_and_renew(&circuit, NO_TAGS, &write_steps(&[&roots[..], &[step]].concat()), 5);
             }
         }
     }
@@ -228,17 +232,32 @@ impl Maker {
         }
     }
 
-    /// Derivations with 4,095 and 4,096 steps and with one more, some with a fault in a step.
+    /// Derivations with 4,095 and 4,096 steps and with one more, some with a fault in a step: c's own steps again and again, and steps of which none is idle.
     fn many_steps(&mut self) {
         let c = case_c(13);
         let steps = derive(&read_circuit(&c).expect("a valid circuit"), &[]).0;
         let longest = padded(&mut self.rng, &steps, MOST_STEPS);
         let unmet = [Step::new(4, 2, 4, 0)];
-        self.call(DERIVATION, &c, &write_steps(&longest[..MOST_STEPS - 1]), 4);
-        self.call(DERIVATION, &c, &write_steps(&longest), 4);
-        self.call(DERIVATION, &c, &write_steps(&[&longest[..MOST_STEPS - 1], &unmet].concat()), 4);
-        self.call(DERIVATION, &c, &write_steps(&[&longest[..], &steps[..1]].concat()), 4);
-        self.call(DERIVATION, &c, &write_steps(&[&unmet, &longest[..]].concat()), 3);
+        let lists = [
+            longest[..MOST_STEPS - 1].to_vec(),
+            longest.clone(),
+            [&longest[..MOST_STEPS - 1], &unmet].concat(),
+            [&longest[..], &steps[..1]].concat(),
+            [&unmet, &longest[..]].concat(),
+        ];
+        for (steps, marks) in lists.iter().zip([4, 4, 4, 4, 3]) {
+            self.call(DERIVATION, &c, &write_steps(steps), marks);
+            self.call(RENEW, &c, &write_steps(steps), 7 + 7 * steps.len());
+        }
+        let Falling { circuit, derivation } = falling::chain();
+        self.call(DERIVATION, &circuit, &derivation, 64);
+        self.call(RENEW, &circuit, &derivation, derivation.len() + 1);
+        // All idle but the first, renewed into every sort of buffer.
+        let square = write_steps(&[Step::new(4, 2, 1, 0); MOST_STEPS]);
+        self.call(DERIVATION, &case_a(), &square, 2);
+        for lent in [0, 14, square.len() - 1, square.len(), square.len() + 1] {
+            self.call(RENEW, &case_a(), &square, lent);
+        }
     }
 
     /// A circuit of 59,999 bytes, which is the most; and files of 60,000 and 60,001 bytes.

@@ -1,4 +1,4 @@
-//! The derivation file and the derivation call: refusals 11 to 17.
+//! The derivation file and the derivation call: refusals 11 to 17 and 29.
 
 use crate::reader::{number16, read_circuit, refuse, Circuit, Refusal};
 use crate::rules::{Rules, Standing, Step};
@@ -38,7 +38,9 @@ pub fn check_derivation(circuit: &[u8], sheet: &[u8], derivation: &[u8], marks: 
     let rules = Rules::new(&circuit);
     let mut standing = Standing::start(&circuit, &tags);
     for (number, step) in (1..).zip(steps) {
-        take_step(&rules, &mut standing, step, number)?;
+        if !take_step(&rules, &mut standing, step, number)? {
+            return refuse(29, number);
+        }
     }
     for (signal, mark) in circuit.all_signals().zip(marks) {
         *mark = u8::from(standing.is_marked(signal));
@@ -46,18 +48,15 @@ pub fn check_derivation(circuit: &[u8], sheet: &[u8], derivation: &[u8], marks: 
     Ok(Judgement::of(&circuit, &tags, &standing))
 }
 
-/// Checks one step in full and takes it.
-fn take_step(rules: &Rules, standing: &mut Standing, step: Step, number: usize) -> Result<(), Refusal> {
+/// Checks kind, fields and rule of one step and takes it. False if it is idle.
+pub(crate) fn take_step(rules: &Rules, standing: &mut Standing, step: Step, number: usize) -> Result<bool, Refusal> {
     if !(1..=5).contains(&step.kind) {
         return refuse(15, number);
     }
     if !rules.in_range(step) {
         return refuse(16, number);
     }
-    if !rules.take(standing, step) {
-        return refuse(17, number);
-    }
-    Ok(())
+    rules.progress(standing, step).map_or_else(|| refuse(17, number), Ok)
 }
 
 /// The steps of a derivation file, their fields not yet looked at.

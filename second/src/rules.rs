@@ -39,7 +39,9 @@ impl Standing {
     pub fn start(circuit: &Circuit, tags: &[Tag]) -> Standing {
         let bounds = vec![circuit.field.prime() - 1; usize::from(circuit.signals)];
         let mut start = Standing { bounds, marked: (1..=circuit.inputs).collect() };
-        tags.iter().filter(|tag| tag.signal <= circuit.inputs).for_each(|tag| start.lower(tag.signal, tag.limit()));
+        for tag in tags.iter().filter(|tag| tag.signal <= circuit.inputs) {
+            start.lower(tag.signal, tag.limit());
+        }
         start
     }
 
@@ -61,13 +63,17 @@ impl Standing {
         (circuit.inputs + 1..=circuit.inputs + circuit.outputs).all(|output| self.is_marked(output))
     }
 
-    pub(crate) fn lower(&mut self, signal: u16, bound: u64) {
+    /// Lowers the signal's bound to this one. False if it is as low already.
+    pub(crate) fn lower(&mut self, signal: u16, bound: u64) -> bool {
         let old = &mut self.bounds[usize::from(signal) - 1];
+        let lowers = bound < *old;
         *old = bound.min(*old);
+        lowers
     }
 
-    pub(crate) fn mark(&mut self, signal: u16) {
-        self.marked.insert(signal);
+    /// Marks the signal. False if it is marked already.
+    pub(crate) fn mark(&mut self, signal: u16) -> bool {
+        self.marked.insert(signal)
     }
 }
 
@@ -150,25 +156,21 @@ impl Rules<'_> {
 
     /// Takes a step whose fields are in range. False, and the standing as it was, if its rule isn't met.
     pub fn take(&self, standing: &mut Standing, step: Step) -> bool {
+        self.progress(standing, step).is_some()
+    }
+
+    /// Takes a step whose fields are in range: whether it lowers a bound or marks a signal, and none if its rule isn't met. One that is met and does neither
+    /// is idle.
+    pub fn progress(&self, standing: &mut Standing, step: Step) -> Option<bool> {
         let Step { kind, target, constraint, reference } = step;
-        let new_bound = match kind {
-            ROOT => larger_root(self.constraint(constraint), target, self.circuit.field),
-            SUM => self.sum(standing, target, constraint),
-            _ => None,
-        };
         let marks = match kind {
+            ROOT => return larger_root(self.constraint(constraint), target, self.circuit.field).map(|bound| standing.lower(target, bound)),
+            SUM => return self.sum(standing, target, constraint).map(|bound| standing.lower(target, bound)),
             ZERO => standing.bound(target) == 0,
             PRODUCT => self.product(standing, target, constraint),
-            DIGITS => self.digits(standing, target, constraint, reference),
-            _ => false,
+            _ => self.digits(standing, target, constraint, reference),
         };
-        if let Some(bound) = new_bound {
-            standing.lower(target, bound);
-        }
-        if marks {
-            standing.mark(target);
-        }
-        marks || new_bound.is_some()
+        marks.then(|| standing.mark(target))
     }
 
     fn constraint(&self, number: u16) -> &Constraint {

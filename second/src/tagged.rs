@@ -5,7 +5,7 @@ use crate::marker::write_steps;
 use crate::pair::write_pair;
 use crate::rules::{Step, DIGITS, ROOT, SUM, ZERO};
 use crate::sheet::{write_sheet, Tag, BINARY, MAXBIT, MAXVALUE, MOST_TAGS, NO_TAGS};
-use crate::vectors::{DERIVATION, PAIR, SOLVE};
+use crate::vectors::{DERIVATION, PAIR, RENEW, SOLVE};
 use crate::writer::{Draft, Terms};
 
 /// A signal with a limit, as a tag of the third kind.
@@ -182,7 +182,7 @@ impl Maker {
             self.solve_and_mark_with(&circuit, &tags);
         }
         for (circuit, tags, steps) in derivations() {
-            self.call_with(DERIVATION, &circuit, &write_sheet(&tags), &write_steps(&steps), 3);
+            self.mark_and_renew(&circuit, &write_sheet(&tags), &write_steps(&steps), 3);
         }
         for (circuit, tags) in [shown(), duplicates()].concat() {
             self.call_with(DERIVATION, &circuit, &write_sheet(&tags), &write_steps(&[]), 5);
@@ -232,12 +232,13 @@ impl Maker {
         self.call_with(PAIR, &Draft::new(5, 1, 0, 1).bytes(), &write_sheet(&[most(1, 0)]), &write_pair(1, &[3], &[4]), 0);
     }
 
-    /// The three calls that take a sheet, on a circuit of 4 signals without constraints.
+    /// The four calls that take a sheet, on a circuit of 4 signals without constraints.
     fn with_sheet(&mut self, p: u32, sheet: &[u8]) {
         let circuit = Draft::new(p, 4, 2, 1).bytes();
         self.call_with(DERIVATION, &circuit, sheet, &write_steps(&[]), 4);
         self.call_with(PAIR, &circuit, sheet, &write_pair(3, &[0; 4], &[0, 0, 1, 0]), 0);
         self.call_with(SOLVE, &circuit, sheet, &[], 63);
+        self.call_with(RENEW, &circuit, sheet, &write_steps(&[]), 7);
     }
 
     /// Sheets that are cut, extended, have another mark, version or count; 255, 256 and 257 entries.

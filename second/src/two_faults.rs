@@ -7,7 +7,7 @@ use crate::marker::write_steps;
 use crate::pair::write_pair;
 use crate::rules::{Step, DIGITS, PRODUCT, ROOT, SUM, ZERO};
 use crate::sheet::{write_sheet, Tag, BINARY, MAXBIT, MAXVALUE};
-use crate::vectors::{DERIVATION, PAIR, READ, SOLVE};
+use crate::vectors::{DERIVATION, PAIR, READ, RENEW, SOLVE};
 use crate::writer::Draft;
 
 /// A call: its kind, its circuit, the sheet, what is handed in, and the length of the buffer.
@@ -28,11 +28,11 @@ pub struct Fault {
 }
 
 impl Fault {
-    /// Least first is the checking order: 6 to 9 by place in the file, 15 to 17 by step; the sheet's 26 and 27 after 10, 28 after 23.
+    /// Least first is the checking order: 6 to 9 by place in the file, 15 to 17 and 29 by step; the sheet's 26 and 27 after 10, 28 after 23.
     pub fn order(&self) -> (u16, u32, u16) {
         match self.number {
             6..=9 => (60, self.place, self.number),
-            15..=17 => (150, self.place, self.number),
+            15..=17 | 29 => (150, self.place, self.number),
             26 | 27 => (75 + self.number, self.place, 0),
             28 => (235, self.place, 0),
             number => (10 * number, self.place, 0),
@@ -58,7 +58,7 @@ fn good_sheet() -> Vec<u8> {
     write_sheet(&[Tag::new(3, MAXBIT, 2), Tag::new(4, MAXVALUE, 3), Tag::new(6, BINARY, 0)])
 }
 
-/// One step of each kind, all met.
+/// One step of each kind, all met and none idle.
 fn good_steps() -> Vec<u8> {
     let bounds = [Step::new(ROOT, 7, 1, 0), Step::new(SUM, 8, 3, 0)];
     let marks = [Step::new(ZERO, 7, 0, 0), Step::new(PRODUCT, 5, 2, 0), Step::new(DIGITS, 8, 3, 8)];
@@ -74,6 +74,7 @@ fn good_pair() -> Vec<u8> {
 pub fn good(kind: u8) -> Call {
     let (hand_in, lent) = match kind {
         DERIVATION => (good_steps(), SIGNALS),
+        RENEW => (good_steps(), good_steps().len()),
         PAIR => (good_pair(), 0),
         SOLVE => (Vec::new(), 7 + 14 * SIGNALS),
         _ => (Vec::new(), 0),
@@ -102,6 +103,11 @@ fn entry(call: &mut Call, entry: usize, at: usize, new: &[u8]) {
 /// A byte of a step of the derivation: 0 its kind, 1 and 2 its target, 3 its constraint, 5 its reference.
 fn step(call: &mut Call, step: usize, at: usize, byte: u8) {
     put(&mut call.hand_in, 7 * step + at, &[byte]);
+}
+
+/// Another step in place of this one, but for its reference.
+fn other_step(call: &mut Call, number: usize, kind: u8, target: u8, constraint: u8) {
+    [(0, kind), (1, target), (3, constraint)].iter().for_each(|&(at, byte)| step(call, number, at, byte));
 }
 
 /// The value of a signal in run 0 or 1 of the pair.
@@ -166,15 +172,14 @@ pub const SHEET: [Fault; 21] = [
     fault(27, 2, |call| entry(call, 2, 3, &[13])),
 ];
 
-/// Faults of the derivation call beyond those of circuit and sheet.
-pub const DERIVATIONS: [Fault; 16] = [
+/// Faults of a derivation that is to be marked or renewed.
+pub const DERIVATIONS: [Fault; 15] = [
     fault(11, 0, |call| call.hand_in.truncate(6)),
     fault(11, 0, |call| put(&mut call.hand_in, 0, b"P")),
     fault(12, 0, |call| put(&mut call.hand_in, 3, &[2])),
     fault(13, 0, |call| put(&mut call.hand_in, 5, &4097u16.to_le_bytes())),
     fault(13, 0, |call| put(&mut call.hand_in, 5, &[4])),
     fault(13, 0, |call| call.hand_in.push(0)),
-    fault(14, 0, |call| call.lent = SIGNALS - 1),
     fault(15, 1, |call| step(call, 1, 0, 6)),
     fault(15, 4, |call| step(call, 4, 0, 0)),
     // A target above n, target 0, a reference where none may be, and none where one must be.
@@ -186,6 +191,26 @@ pub const DERIVATIONS: [Fault; 16] = [
     fault(17, 2, |call| step(call, 2, 3, 2)),
     fault(17, 4, |call| step(call, 4, 3, 1)),
 ];
+
+/// Faults of the derivation call beyond those of circuit, sheet and derivation: the buffer for marks, and idle steps.
+pub const MARKS: [Fault; 6] = [
+    fault(14, 0, |call| call.lent = SIGNALS - 1),
+    // Zero on input 4, which is tagged 0; the root again, at once and after another step; the zero again; digits that stand in step 4 already.
+    fault(29, 1, |call| {
+        entry(call, 2, 3, &[0]);
+        other_step(call, 1, ZERO, 4, 0);
+    }),
+    fault(29, 2, |call| other_step(call, 2, ROOT, 7, 1)),
+    fault(29, 3, |call| other_step(call, 3, ROOT, 7, 1)),
+    fault(29, 4, |call| other_step(call, 4, ZERO, 7, 0)),
+    fault(29, 5, |call| {
+        other_step(call, 4, DIGITS, 8, 3);
+        step(call, 4, 5, 8);
+    }),
+];
+
+/// Faults of the renewal call beyond those of circuit, sheet and derivation: the buffer.
+pub const RENEWALS: [Fault; 2] = [fault(25, 0, |call| call.lent = 41), fault(25, 0, |call| call.lent = 0)];
 
 /// Faults of the pair call beyond those of circuit and sheet.
 pub const PAIRS: [Fault; 25] = [
@@ -234,17 +259,19 @@ pub fn beyond_circuit(kind: u8) -> impl Iterator<Item = &'static Fault> {
 }
 
 /// The faults of this kind of call beyond those of circuit and sheet.
-pub fn own(kind: u8) -> &'static [Fault] {
-    match kind {
-        DERIVATION => &DERIVATIONS,
-        PAIR => &PAIRS,
-        SOLVE => &SOLVER,
-        _ => &[],
-    }
+pub fn own(kind: u8) -> Vec<&'static Fault> {
+    let (handed_in, rest): (&[Fault], &[Fault]) = match kind {
+        DERIVATION => (&DERIVATIONS, &MARKS),
+        RENEW => (&DERIVATIONS, &RENEWALS),
+        PAIR => (&PAIRS, &[]),
+        SOLVE => (&[], &SOLVER),
+        _ => (&[], &[]),
+    };
+    handed_in.iter().chain(rest).collect()
 }
 
 /// All kinds of calls.
-pub const KINDS: [u8; 4] = [READ, DERIVATION, PAIR, SOLVE];
+pub const KINDS: [u8; 5] = [READ, DERIVATION, PAIR, SOLVE, RENEW];
 
 /// A call with two faults.
 pub struct Pair {
@@ -276,10 +303,10 @@ pub fn pairs() -> Vec<Pair> {
     for kind in KINDS {
         for (at, x) in of_sheet(kind).iter().enumerate() {
             of_sheet(kind)[at + 1..].iter().for_each(|y| add(kind == SOLVE, 0, kind, x, y));
-            own(kind).iter().for_each(|y| add(false, at % 3, kind, x, y));
+            own(kind).into_iter().for_each(|y| add(false, at % 3, kind, x, y));
         }
-        for (at, x) in own(kind).iter().enumerate() {
-            own(kind)[at + 1..].iter().for_each(|y| add(true, 0, kind, x, y));
+        for (at, &x) in own(kind).iter().enumerate() {
+            own(kind)[at + 1..].iter().for_each(|&y| add(true, 0, kind, x, y));
         }
     }
     pairs

@@ -1,18 +1,21 @@
-//! The file of test vectors: calls with the answers that they must get. Little-endian; `VQT`, 16-bit version 2, 32-bit count, then the records.
+//! The file of test vectors: calls with the answers that they must get. Little-endian; `VQT`, 16-bit version 3, 32-bit count, then the records.
+//! A record: kind, circuit, sheet, hand-in, length of the lent buffer, then 16-bit number, place, five values and what is written. The kind is a byte, all else
+//! 32-bit numbers and runs of bytes that begin with their length.
 
 use crate::reader::{number16, number32, Refusal};
-use crate::{check_derivation, check_pair, read_circuit, solve, Judgement};
+use crate::{check_derivation, check_pair, read_circuit, renew, solve, Judgement};
 
 pub const READ: u8 = 1;
 pub const DERIVATION: u8 = 2;
 pub const PAIR: u8 = 3;
 pub const SOLVE: u8 = 4;
+pub const RENEW: u8 = 5;
 
 /// The version of the file.
-const VERSION: u16 = 2;
+const VERSION: u16 = 3;
 
-/// Stands for the length of a circuit that is the one of the record before.
-const SAME_CIRCUIT: u32 = u32::MAX;
+/// Stands for the length of a circuit or a hand-in that is the one of the record before.
+const SAME: u32 = u32::MAX;
 
 /// What a call must answer: a refusal (number and place) or values, and what it must have written.
 #[derive(Clone, Debug, Default, PartialEq, Eq)]
@@ -46,9 +49,11 @@ impl Record {
         self.answer == answer(self.kind, &self.circuit, &self.sheet, &self.hand_in, self.lent as usize)
     }
 
-    /// How many bytes the record takes in the file.
-    pub fn size(&self, same_circuit: bool) -> usize {
-        47 + if same_circuit { 0 } else { self.circuit.len() } + self.sheet.len() + self.hand_in.len() + self.answer.written.len()
+    /// How many bytes the record takes in the file after another, or as the first.
+    pub fn size(&self, last: Option<&Record>) -> usize {
+        let circuit = if last.is_some_and(|last| last.circuit == self.circuit) { 0 } else { self.circuit.len() };
+        let hand_in = if last.is_some_and(|last| last.hand_in == self.hand_in) { 0 } else { self.hand_in.len() };
+        47 + circuit + self.sheet.len() + hand_in + self.answer.written.len()
     }
 }
 
@@ -74,6 +79,10 @@ fn call(kind: u8, circuit: &[u8], sheet: &[u8], hand_in: &[u8], buffer: &mut [u8
         READ => ([read.field.prime() as u32, n, i, o, read.constraints.len() as u32], 0),
         DERIVATION => (judged(check_derivation(circuit, sheet, hand_in, buffer)?, 0), n as usize),
         PAIR => ([u32::from(check_pair(circuit, sheet, hand_in)?), 0, 0, 0, 0], 0),
+        RENEW => {
+            let length = renew(circuit, sheet, hand_in, buffer)?;
+            ([length as u32, 0, 0, 0, 0], length)
+        }
         _ => {
             let (judgement, length) = solve(circuit, sheet, buffer)?;
             (judged(judgement, length), length)
@@ -95,10 +104,10 @@ pub fn volumes(records: &[Record]) -> Vec<&[Record]> {
     let mut volumes = Vec::new();
     let (mut start, mut size) = (0, 9);
     for (index, record) in records.iter().enumerate() {
-        size += record.size(index > start && records[index - 1].circuit == record.circuit);
+        size += record.size(records[start..index].last());
         if size > MOST_BYTES {
             volumes.push(&records[start..index]);
-            (start, size) = (index, 9 + record.size(false));
+            (start, size) = (index, 9 + record.size(None));
         }
     }
     volumes.push(&records[start..]);
@@ -110,17 +119,13 @@ pub fn write(records: &[Record]) -> Vec<u8> {
     let mut file = b"VQT".to_vec();
     file.extend(VERSION.to_le_bytes());
     file.extend((records.len() as u32).to_le_bytes());
-    let mut last: Option<&[u8]> = None;
+    let mut last: Option<&Record> = None;
     for record in records {
         file.push(record.kind);
-        if last == Some(&record.circuit) {
-            file.extend(SAME_CIRCUIT.to_le_bytes());
-        } else {
-            put_bytes(&mut file, &record.circuit);
-        }
-        last = Some(&record.circuit);
+        put_or_same(&mut file, &record.circuit, last.map(|last| &last.circuit));
         put_bytes(&mut file, &record.sheet);
-        put_bytes(&mut file, &record.hand_in);
+        put_or_same(&mut file, &record.hand_in, last.map(|last| &last.hand_in));
+        last = Some(record);
         file.extend(record.lent.to_le_bytes());
         file.extend(record.answer.number.to_le_bytes());
         file.extend(record.answer.place.to_le_bytes());
@@ -135,12 +140,21 @@ fn put_bytes(file: &mut Vec<u8>, bytes: &[u8]) {
     file.extend(bytes);
 }
 
+/// The bytes, or that they are the record's before.
+fn put_or_same(file: &mut Vec<u8>, bytes: &[u8], last: Option<&Vec<u8>>) {
+    match last.is_some_and(|last| last == bytes) {
+        true => file.extend(SAME.to_le_bytes()),
+        false => put_bytes(file, bytes),
+    }
+}
+
 /// The records of a file, one after the other.
 pub struct Records<'a> {
     file: &'a [u8],
     at: usize,
     left: u32,
     circuit: Option<&'a [u8]>,
+    hand_in: Option<&'a [u8]>,
 }
 
 /// Starts reading a file of vectors.
@@ -148,7 +162,7 @@ pub fn records(file: &[u8]) -> Result<Records<'_>, String> {
     if file.len() < 9 || &file[..3] != b"VQT" || number16(file, 3) != VERSION {
         return Err(format!("not a version {VERSION} file of vectors"));
     }
-    Ok(Records { file, at: 9, left: number32(file, 5), circuit: None })
+    Ok(Records { file, at: 9, left: number32(file, 5), circuit: None, hand_in: None })
 }
 
 impl<'a> Records<'a> {
@@ -167,18 +181,20 @@ impl<'a> Records<'a> {
         self.take(length)
     }
 
-    fn circuit(&mut self) -> Result<&'a [u8], String> {
-        let circuit = match self.number()? {
-            SAME_CIRCUIT => self.circuit.ok_or("the first record has no circuit")?,
-            length => self.take(length as usize)?,
-        };
-        self.circuit = Some(circuit);
-        Ok(circuit)
+    /// Bytes, or those that the record before has there.
+    fn bytes_or(&mut self, last: Option<&'a [u8]>) -> Result<&'a [u8], String> {
+        match self.number()? {
+            SAME => last.ok_or("there is no record before the first".to_string()),
+            length => self.take(length as usize),
+        }
     }
 
     fn record(&mut self) -> Result<Record, String> {
         let kind = self.take(1)?[0];
-        let (circuit, sheet, hand_in) = (self.circuit()?.to_vec(), self.bytes()?.to_vec(), self.bytes()?.to_vec());
+        let circuit = self.bytes_or(self.circuit)?;
+        let sheet = self.bytes()?.to_vec();
+        let hand_in = self.bytes_or(self.hand_in)?;
+        (self.circuit, self.hand_in) = (Some(circuit), Some(hand_in));
         let lent = self.number()?;
         let number = number16(self.take(2)?, 0);
         let place = self.number()?;
@@ -187,7 +203,7 @@ impl<'a> Records<'a> {
             *value = self.number()?;
         }
         let written = self.bytes()?.to_vec();
-        Ok(Record { kind, circuit, sheet, hand_in, lent, answer: Answer { number, place, values, written } })
+        Ok(Record { kind, circuit: circuit.to_vec(), sheet, hand_in: hand_in.to_vec(), lent, answer: Answer { number, place, values, written } })
     }
 }
 
@@ -208,12 +224,12 @@ impl Iterator for Records<'_> {
 /// How many records of each kind there are, and how often each refusal occurs, at how many places.
 pub fn summary(records: &[Record]) -> String {
     let mut text = format!("{} records\n", records.len());
-    for (kind, name) in [(READ, "read circuit"), (DERIVATION, "derivation"), (PAIR, "pair"), (SOLVE, "solve")] {
+    for (kind, name) in [(READ, "read circuit"), (DERIVATION, "derivation"), (PAIR, "pair"), (SOLVE, "solve"), (RENEW, "renew")] {
         let all = records.iter().filter(|record| record.kind == kind);
         let accepted = all.clone().filter(|record| record.answer.number == 0).count();
         text += &format!("kind {kind} ({name}): {} records, {accepted} not refused\n", all.count());
     }
-    for number in 1..=28 {
+    for number in 1..=29 {
         let places: Vec<u32> = records.iter().filter(|record| record.answer.number == number).map(|record| record.answer.place).collect();
         let different: std::collections::BTreeSet<&u32> = places.iter().collect();
         text += &format!("refusal {number}: {} records, {} places\n", places.len(), different.len());

@@ -1,5 +1,5 @@
 //! Circuits whose sums name as many signals as a form can, most of them with bound 0, so that a digits test has the most to look at; and derivations of
-//! 4,096 steps that make the test again and again.
+//! 4,096 steps that make the test again and again, most of them idle.
 
 use std::collections::BTreeSet;
 
@@ -17,52 +17,52 @@ const P: u32 = 2_147_483_647;
 /// As many sums of 64 signals as fit into a circuit with 256 signals whose bounds they don't give.
 pub const MOST_SUMS: u16 = 142;
 
-/// A circuit and a derivation of 4,096 steps that it accepts.
-pub struct Marked {
+/// A circuit and a derivation of 4,096 steps that are all met, most of them idle.
+pub struct Padded {
     pub name: &'static str,
     pub circuit: Vec<u8>,
     pub derivation: Vec<u8>,
 }
 
-impl Marked {
+impl Padded {
     /// The first steps, and then the digits steps in turn.
-    fn new(name: &'static str, circuit: Vec<u8>, mut steps: Vec<Step>, digits: &[Step]) -> Marked {
+    fn new(name: &'static str, circuit: Vec<u8>, mut steps: Vec<Step>, digits: &[Step]) -> Padded {
         steps.extend(digits.iter().cycle().take(MOST_STEPS - steps.len()));
-        Marked { name, circuit, derivation: write_steps(&steps) }
+        Padded { name, circuit, derivation: write_steps(&steps) }
     }
 }
 
 /// The derivations of this module with their circuits.
-pub fn all_marked() -> [Marked; 3] {
+pub fn all_padded() -> [Padded; 3] {
     [zeros_alone(), bits_and_zeros(), sums_in_turn()]
 }
 
 /// The root of this constraint is 0.
-fn zero(draft: &mut Draft, signal: u16) {
+pub(crate) fn zero(draft: &mut Draft, signal: u16) {
     draft.add(&[(signal, 1)], &[(signal, 1)], &[]);
 }
 
 /// The sum of the terms is 0. Half of them stand in B and half in C, so there can be 64.
-fn wide_sum(draft: &mut Draft, terms: &[(u16, i64)]) {
+pub(crate) fn wide_sum(draft: &mut Draft, terms: &[(u16, i64)]) {
     let (b, c) = terms.split_at(terms.len() / 2);
     let c: Terms = c.iter().map(|&(signal, coefficient)| (signal, -coefficient)).collect();
     draft.add(&[(0, 1)], b, &c);
 }
 
 /// One sum of 64 signals with bound 0, each of them the reference in turn. The first digits step marks the target of all.
-fn zeros_alone() -> Marked {
+fn zeros_alone() -> Padded {
     let mut draft = Draft::new(P, 64, 0, 64);
     let terms: Terms = (1..=64).map(|signal| (signal, 3 * i64::from(signal) + 5)).collect();
     wide_sum(&mut draft, &terms);
     (1..=64).for_each(|signal| zero(&mut draft, signal));
     let roots = (1..=64).map(|signal| Step::new(ROOT, signal, signal + 1, 0)).collect();
     let digits: Vec<Step> = (1..=64).map(|reference| Step::new(DIGITS, 1, 1, reference)).collect();
-    Marked::new("64 zeros", draft.bytes(), roots, &digits)
+    Padded::new("64 zeros", draft.bytes(), roots, &digits)
 }
 
 /// Input 1 as the sum of 30 bits (signals 2 to 31) and 32 zeros (32 to 63). The input is the target of all, so that the others stay unmarked. In base 2 a
 /// zero's weight has ones at places 0 to 23 and at 30; a bit as the reference turns the 31 places, and by each of the first 25 bits the rule is met.
-fn bits_and_zeros() -> Marked {
+fn bits_and_zeros() -> Padded {
     let mut draft = Draft::new(P, 63, 1, 62);
     let mut terms: Terms = vec![(1, -1)];
     terms.extend((0..30).map(|index| (2 + index, 1 << index)));
@@ -72,7 +72,7 @@ fn bits_and_zeros() -> Marked {
     (32..=63).for_each(|signal| zero(&mut draft, signal));
     let roots = (2..=63).map(|signal| Step::new(ROOT, signal, signal, 0)).collect();
     let digits: Vec<Step> = (2..=26).map(|reference| Step::new(DIGITS, 1, 1, reference)).collect();
-    Marked::new("30 bits and 32 zeros", draft.bytes(), roots, &digits)
+    Padded::new("30 bits and 32 zeros", draft.bytes(), roots, &digits)
 }
 
 /// So many sums of 64 signals, at most 142: bits 1 and 2, signal 256 and 61 of those between; all but the bits have bound 0. The coefficient of 256 is the
@@ -103,7 +103,7 @@ fn broken_terms(sum: u16, rng: &mut Random) -> Terms {
 }
 
 /// The same 142 sums once 256 is marked: each of them in turn, with another reference each time round, those by which the rule is met.
-fn sums_in_turn() -> Marked {
+fn sums_in_turn() -> Padded {
     let circuit = broken_sums(MOST_SUMS);
     let read = read_circuit(&circuit).expect("a valid circuit");
     let (rules, mut standing) = (Rules::new(&read), Standing::start(&read, &[]));
@@ -114,5 +114,5 @@ fn sums_in_turn() -> Marked {
     let mut met = |constraint: u16| -> Vec<Step> { (1..256).map(|r| step(constraint, r)).filter(|&step| rules.take(&mut standing, step)).collect() };
     let by_sum: Vec<Vec<Step>> = (1..=MOST_SUMS).map(&mut met).collect();
     let digits: Vec<Step> = (0..64).flat_map(|turn| by_sum.iter().map(move |steps| steps[turn % steps.len()])).collect();
-    Marked::new("142 sums in turn", circuit, first, &digits)
+    Padded::new("142 sums in turn", circuit, first, &digits)
 }

@@ -9,7 +9,7 @@ use second::compose::{compose, USUAL_SIZE};
 use second::edge::{any_edge, tagged_digits, tied, Edge};
 use second::generate::{any, small, tiny, PRIMES};
 use second::grow::grown;
-use second::hand_in::{padded, random_derivation, random_step, random_tags};
+use second::hand_in::{random_step, random_tags};
 use second::marker::write_steps;
 use second::pair::write_pair;
 use second::planted::{planted, Planted};
@@ -302,25 +302,6 @@ fn larger_circuits_against_the_literal_solver() {
         let circuit = read_circuit(&bytes).unwrap();
         let tags = if round % 3 == 0 { Vec::new() } else { random_tags(&mut rng, &circuit) };
         assert_solved(&mut rng, &bytes, &circuit, &tags);
-    }
-}
-
-#[test]
-fn random_derivations_are_accepted_padded_and_repeated() {
-    let mut rng = Random::new(9);
-    for _ in 0..1000 {
-        let bytes = small(&mut rng);
-        let circuit = read_circuit(&bytes).unwrap();
-        let tags = random_tags(&mut rng, &circuit);
-        let (steps, sheet) = (random_derivation(&mut rng, &Rules::new(&circuit), &tags, 40), write_sheet(&tags));
-        let n = usize::from(circuit.signals);
-        let (mut once, mut twice) = (vec![7; n], vec![7; n + 1]);
-        let answer = check_derivation(&bytes, &sheet, &write_steps(&steps), &mut once).unwrap();
-        let length = steps.len() + rng.below(20);
-        let padded = check_derivation(&bytes, &sheet, &write_steps(&padded(&mut rng, &steps, length)), &mut twice).unwrap();
-        // A repeated sum may lower a bound once more, so that marks can only grow.
-        assert!(answer.count <= padded.count && answer.shown <= padded.shown && once.iter().zip(&twice).all(|(one, two)| one <= two));
-        assert_eq!(twice[n], 7);
     }
 }
 

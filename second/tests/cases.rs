@@ -1,4 +1,4 @@
-//! Cases a to j of document 01, with every number there.
+//! Cases a to j of document 01, with every number there; c with idle steps.
 
 use second::cases::{case_a, case_b, case_c, case_e, case_f, case_g};
 use second::marker::write_steps;
@@ -6,7 +6,7 @@ use second::pair::write_pair;
 use second::rules::Step;
 use second::sheet::{write_sheet, Tag, BINARY, MAXBIT, MAXVALUE, NO_TAGS};
 use second::writer::Draft;
-use second::{check_derivation, check_pair, read_circuit, solve, Refusal};
+use second::{check_derivation, check_pair, read_circuit, renew, solve, Refusal};
 
 /// Kind, target, constraint, reference.
 type Fields = (u8, u16, u16, u16);
@@ -126,6 +126,38 @@ fn i_bad_steps() {
     for target in 1..=4 {
         assert_eq!(marked(&case_c(13), &[Step::new(4, target, 4, 0)]), refusal(17, 1));
     }
+}
+
+/// Rule 7.9: idle steps in c's derivation, and c's own derivation from each of them.
+#[test]
+fn c_padded() {
+    let c = case_c(13);
+    let steps: Vec<Step> =
+        solved(&c).0.into_iter().map(|(kind, target, constraint, reference)| Step::new(kind, target, constraint, reference)).collect();
+    let with = |at: usize, step: Step| [&steps[..at], &[step], &steps[at..]].concat();
+    let renewed = |sheet: &[u8], steps: &[Step]| {
+        let mut out = write_steps(steps);
+        renew(&c, sheet, &write_steps(steps), &mut out).map(|length| out[..length].to_vec())
+    };
+    // A root again, digits again, the sum again, digits of the input.
+    for (at, step) in [(1, steps[0]), (7, steps[1]), (5, steps[4]), (7, steps[5]), (4, steps[3]), (7, Step::new(5, 1, 4, 2))] {
+        assert_eq!(marked(&c, &with(at, step)), refusal(29, at as u32 + 1));
+        assert_eq!(renewed(NO_TAGS, &with(at, step)), Ok(write_steps(&steps)));
+    }
+    // With the input tagged as a number of 3 bits its sum gives the bound that is there.
+    let tagged = write_sheet(&[Tag::new(1, MAXBIT, 3)]);
+    assert_eq!(check_derivation(&c, &tagged, &write_steps(&steps), &mut [0; 4]), refusal(29, 4));
+    assert_eq!(renewed(&tagged, &steps), Ok(write_steps(&[&steps[..3], &steps[4..]].concat())));
+    let zero = [Step::new(3, 1, 0, 0)];
+    let tagged = write_sheet(&[Tag::new(1, MAXVALUE, 0)]);
+    assert_eq!(check_derivation(&c, &tagged, &write_steps(&zero), &mut [0; 4]), refusal(29, 1));
+    assert_eq!(renewed(&tagged, &zero), Ok(write_steps(&[])));
+    // A marked target whose rule isn't met.
+    for step in [zero[0], Step::new(4, 1, 4, 0), Step::new(5, 1, 4, 2)] {
+        assert_eq!(marked(&c, &[step]), refusal(17, 1));
+        assert_eq!(renewed(NO_TAGS, &[step]), refusal(17, 1));
+    }
+    assert_eq!(renewed(NO_TAGS, &steps), Ok(write_steps(&steps)));
 }
 
 #[test]

@@ -10,7 +10,7 @@ use second::marker::write_steps;
 use second::read_circuit;
 use second::reader::number16;
 use second::two_faults::{self, Call, Fault, Pair, KINDS};
-use second::vectors::{answer, Record, DERIVATION, PAIR, SOLVE};
+use second::vectors::{answer, Record, DERIVATION, PAIR, RENEW, SOLVE};
 
 /// The vectors as they are stored.
 fn stored() -> Vec<Record> {
@@ -20,9 +20,10 @@ fn stored() -> Vec<Record> {
 /// The numbers of the refusals that a call can meet, in the order in which they are asked.
 fn numbers(kind: u8) -> Vec<u16> {
     let own: &[u16] = match kind {
-        DERIVATION => &[26, 27, 11, 12, 13, 14, 15, 16, 17],
+        DERIVATION => &[26, 27, 11, 12, 13, 14, 15, 16, 17, 29],
         PAIR => &[26, 27, 18, 19, 20, 21, 22, 23, 28, 24],
         SOLVE => &[26, 27, 25],
+        RENEW => &[26, 27, 11, 12, 13, 15, 16, 17, 25],
         _ => &[],
     };
     (1..=10).chain(own.iter().copied()).collect()
@@ -68,7 +69,7 @@ fn cannot_stand_together(x: u16, y: u16) -> bool {
 }
 
 /// Numbers with a place of which a call can have several.
-const SEVERAL: [u16; 11] = [7, 8, 9, 15, 16, 17, 21, 22, 23, 27, 28];
+const SEVERAL: [u16; 12] = [7, 8, 9, 15, 16, 17, 21, 22, 23, 27, 28, 29];
 
 #[test]
 fn every_two_refusals_are_there() {
@@ -90,11 +91,21 @@ fn every_two_refusals_are_there() {
         assert!(there(kind, &|a, b| (a.number, b.number) == (6, 8) && a.place == b.place));
         assert!(there(kind, &|a, b| (a.number, b.number) == (8, 9) && a.place == b.place));
     }
-    // Within one step, and in two steps either way.
-    for (x, y) in [(15, 16), (15, 17), (16, 17)] {
-        assert!(there(DERIVATION, &|a, b| (a.number, b.number) == (x, y) && a.place == b.place), "{x} and {y} in one step");
-        assert!(there(DERIVATION, &|a, b| (a.number, b.number) == (x, y) && a.place < b.place), "{x} before {y}");
-        assert!(there(DERIVATION, &|a, b| (a.number, b.number) == (x, y) && a.place > b.place), "{y} before {x}");
+    // Within one step, and in two steps either way. A kind that there isn't has no rule, and a rule that isn't met no idle step.
+    let (both, marked) = ([DERIVATION, RENEW], [DERIVATION]);
+    for (x, y, kinds, in_one) in [
+        (15, 16, &both[..], true),
+        (15, 17, &both, true),
+        (16, 17, &both, true),
+        (15, 29, &marked, false),
+        (16, 29, &marked, true),
+        (17, 29, &marked, false),
+    ] {
+        for &kind in kinds {
+            assert!(!in_one || there(kind, &|a, b| (a.number, b.number) == (x, y) && a.place == b.place), "{x} and {y} in one step");
+            assert!(there(kind, &|a, b| (a.number, b.number) == (x, y) && a.place < b.place), "{x} before {y}");
+            assert!(there(kind, &|a, b| (a.number, b.number) == (x, y) && a.place > b.place), "{y} before {x}");
+        }
     }
     // Inputs that differ before one that breaks its tag, and after it.
     assert!(there(PAIR, &|a, b| (a.number, b.number) == (23, 28) && a.place < b.place));
@@ -112,8 +123,11 @@ fn a_circuit_that_is_too_long_has_every_other_fault() {
         assert!(told(kind, &[2, 3, 4, 5, 6, 7, 8, 9]));
         assert!(told(kind, &[10]));
     }
-    for (kind, numbers) in [(DERIVATION, 11..=16), (PAIR, 18..=21), (SOLVE, 25..=25), (DERIVATION, 26..=27), (PAIR, 26..=27), (SOLVE, 26..=27)] {
+    for (kind, numbers) in [(DERIVATION, 11..=16), (PAIR, 18..=21), (SOLVE, 25..=25), (RENEW, 11..=13), (RENEW, 15..=16), (RENEW, 25..=25)] {
         numbers.for_each(|number| assert!(told(kind, &[number]), "{number}"));
+    }
+    for kind in [DERIVATION, PAIR, SOLVE, RENEW] {
+        (26..=27).for_each(|number| assert!(told(kind, &[number]), "{number}"));
     }
 }
 
@@ -171,10 +185,26 @@ fn wrong_orders_of_refusals_are_told() {
         ("28 before 22", of(&|_, found| before(found, 28, 22))),
         ("28 with the sheet", of(&|_, found| before(found, 28, 18))),
         ("the highest input of 28", of(&|_, found| if found.0 == 28 { (stage(28), u32::MAX - found.1, 28) } else { right(found) })),
+        ("29 before 16 in a step", of(&|_, found| if found.0 == 29 { (stage(15), found.1, 15) } else { right(found) })),
+        ("29 before 14", of(&|_, found| before(found, 29, 14))),
+        ("29 before any 15", of(&|_, found| before(found, 29, 15))),
+        ("29 after all steps", of(&|_, found| if found.0 == 29 { (stage(15) + 1, found.1, 29) } else { right(found) })),
+        ("the last step of 29", of(&|_, found| if found.0 == 29 { (stage(15) + 1, u32::MAX - found.1, 29) } else { right(found) })),
+        ("25 before 11", of(&|record, found| if record.kind == RENEW { before(found, 25, 11) } else { right(found) })),
+        ("25 before 15", of(&|record, found| if record.kind == RENEW { before(found, 25, 15) } else { right(found) })),
+        ("25 before 17 at the last step", of(&|record, found| if record.kind == RENEW { before_last(record, found) } else { right(found) })),
         ("8 before 6 at a term", of(&|_, found| if found.0 == 8 { (stage(6), found.1, 5) } else { right(found) })),
     ];
     for (name, count) in wrong {
         assert!(count >= 3, "{name}: {count}");
+    }
+}
+
+/// 25 right before the rule of the last step.
+fn before_last(record: &Record, found: Found) -> Order {
+    match found.0 {
+        25 => (stage(15), (record.hand_in.len() as u32 / 7).saturating_sub(1), 16),
+        _ => right(found),
     }
 }
 
@@ -187,7 +217,7 @@ fn by_constraint(record: &Record, (_, place): Found) -> Order {
 /// Numbers of which one is moved before another without a vector that could tell: the file's end comes last in it; a rule or a run is judged only on a
 /// circuit.
 fn cannot_be_told(x: u16, y: u16) -> bool {
-    [(6, 7), (6, 9), (6, 10)].contains(&(x, y)) || (x <= 10 && [17, 22].contains(&y)) || (y == 17 && [15, 16].contains(&x))
+    [(6, 7), (6, 9), (6, 10)].contains(&(x, y)) || (x <= 10 && [17, 22, 29].contains(&y))
 }
 
 #[test]

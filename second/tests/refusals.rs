@@ -1,12 +1,13 @@
-//! Every refusal from 1 to 28: its number, its place, what comes before what; and that a refusal writes nothing.
+//! Every refusal from 1 to 29: its number, its place, what comes before what; and that a refusal writes nothing.
 
 use second::cases::{case_a, case_c};
 use second::damage::Layout;
+use second::falling::{self, Falling};
 use second::marker::write_steps;
 use second::pair::write_pair;
 use second::rules::Step;
 use second::sheet::{write_sheet, Tag, BINARY, MAXBIT, MAXVALUE, NO_TAGS};
-use second::vectors::{answer, DERIVATION, PAIR, READ, SOLVE};
+use second::vectors::{answer, DERIVATION, PAIR, READ, RENEW, SOLVE};
 use second::writer::Draft;
 
 /// Number and place of the answer with a sheet; `answer` checks that a refusal leaves the buffer as it was.
@@ -23,7 +24,7 @@ fn refused(kind: u8, circuit: &[u8], hand_in: &[u8], lent: usize) -> (u16, u32) 
 /// The refusal of a circuit, which must be the same in all calls, whatever is handed in.
 fn refused_circuit(circuit: &[u8]) -> (u16, u32) {
     let refusal = refused(READ, circuit, &[], 0);
-    for (kind, lent) in [(DERIVATION, 0), (PAIR, 0), (SOLVE, 0), (SOLVE, 4000)] {
+    for (kind, lent) in [(DERIVATION, 0), (PAIR, 0), (SOLVE, 0), (SOLVE, 4000), (RENEW, 0), (RENEW, 40)] {
         assert_eq!(refused(kind, circuit, b"bad", lent), refusal);
         assert_eq!(refused_with(kind, circuit, b"bad", b"bad", lent), refusal);
         assert_eq!(refused_with(kind, circuit, &write_sheet(&[Tag::new(0, 0, 0)]), b"bad", lent), refusal);
@@ -154,8 +155,10 @@ fn derivation_files() {
     assert_eq!(refused(&good[..13], 2), (13, 0));
     assert_eq!(refused(&[&good[..], &[0]].concat(), 2), (13, 0));
     let many = |count: usize| write_steps(&vec![Step::new(4, 2, 1, 0); count]);
-    assert_eq!(refused(&many(4096), 2), (0, 0));
+    assert_eq!(refused(&many(4096), 2), (29, 2));
     assert_eq!(refused(&many(4097), 2), (13, 0));
+    let Falling { circuit, derivation } = falling::chain();
+    assert_eq!(refused_with(DERIVATION, &circuit, NO_TAGS, &derivation, 64), (0, 0), "4,096 steps, none idle");
     let wrong = write_steps(&[Step::new(9, 2, 1, 0)]);
     for lent in 0..2 {
         assert_eq!(refused(&wrong, lent), (14, 0));
@@ -189,7 +192,9 @@ fn step_fields() {
     for (kind, target, constraint, reference) in [(1, 1, 1, 0), (1, 2, 2, 0), (2, 2, 1, 0), (3, 1, 0, 0), (4, 2, 1, 0), (5, 2, 2, 1), (5, 1, 1, 1)] {
         assert_eq!(refused(kind, target, constraint, reference), (17, 4));
     }
-    assert_eq!(refused(1, 2, 1, 0), (15, 5), "a step that changes nothing is accepted");
+    for (kind, target, constraint, reference) in [(1, 2, 1, 0), (3, 2, 0, 0), (5, 3, 2, 3), (5, 3, 2, 1), (5, 1, 2, 1), (2, 3, 2, 0)] {
+        assert_eq!(refused(kind, target, constraint, reference), (29, 4), "a step that changes nothing, before a wrong kind");
+    }
 }
 
 #[test]
@@ -272,22 +277,47 @@ fn solver_buffers() {
 }
 
 #[test]
+fn renewal_buffers() {
+    let product = Step::new(4, 2, 1, 0);
+    let refused = |steps: &[Step], lent: usize| refused(RENEW, &case_a(), &write_steps(steps), lent);
+    for steps in [&[][..], &[product], &[product; 2], &[product; 40]] {
+        let length = 7 + 7 * steps.len();
+        for lent in [0, 6, length - 1] {
+            assert_eq!(refused(steps, lent), (25, 0), "{} steps", steps.len());
+        }
+        for lent in [length, length + 1, 5000] {
+            assert_eq!(refused(steps, lent), (0, 0), "{} steps", steps.len());
+        }
+    }
+    // After the derivation's first bytes and every step.
+    assert_eq!(refused_with(RENEW, &case_a(), NO_TAGS, b"bad", 0), (11, 0));
+    assert_eq!(refused_with(RENEW, &case_a(), NO_TAGS, &put(&write_steps(&[product]), 3, &[2]), 0), (12, 0));
+    assert_eq!(refused_with(RENEW, &case_a(), NO_TAGS, &write_steps(&[product; 2])[..20], 0), (13, 0));
+    for (number, step) in [(15, Step::new(6, 2, 1, 0)), (16, Step::new(4, 2, 2, 0)), (17, Step::new(2, 2, 1, 0))] {
+        assert_eq!(refused(&[product, product, step, product], 0), (number, 3));
+        assert_eq!(refused(&[product, product, step, product], 35), (number, 3));
+    }
+}
+
+#[test]
 fn marks_are_written_and_nothing_beyond() {
     let answer = answer(DERIVATION, &case_a(), NO_TAGS, &write_steps(&[]), 9);
     assert_eq!((answer.values, answer.written), ([1, 0, 0, 0, 0], vec![1, 0]));
 }
 
-/// The answer for a sheet with a good derivation, a good pair or a buffer that is long enough, which must be the same in all three calls; and, where it is a
+/// The answer for a sheet with a good derivation, a good pair or a buffer that is long enough, which must be the same in all four calls; and, where it is a
 /// refusal, whatever else is handed in.
 fn refused_sheet(p: u32, sheet: &[u8]) -> (u16, u32) {
     let circuit = Draft::new(p, 4, 2, 1).bytes();
     let refusal = refused_with(SOLVE, &circuit, sheet, &[], 63);
     assert_eq!(refused_with(DERIVATION, &circuit, sheet, &write_steps(&[]), 4), refusal);
     assert_eq!(refused_with(PAIR, &circuit, sheet, &write_pair(3, &[0; 4], &[0, 0, 1, 0]), 0), refusal);
+    assert_eq!(refused_with(RENEW, &circuit, sheet, &write_steps(&[]), 7), refusal);
     if refusal.0 > 0 {
         assert_eq!(refused_with(SOLVE, &circuit, sheet, &[], 0), refusal, "before 25");
         for bad in [&b"bad"[..], b"no hand-in", &write_steps(&[Step::new(0, 0, 0, 0)])] {
             assert_eq!(refused_with(DERIVATION, &circuit, sheet, bad, 0), refusal, "before 11 to 17");
+            assert_eq!(refused_with(RENEW, &circuit, sheet, bad, 0), refusal, "before 11 to 17 and 25");
         }
         for bad in [&b"bad"[..], b"PQT\x01\0\0\0", &write_pair(3, &[p; 4], &[0; 4]), &write_pair(3, &[0; 4], &[1; 4])] {
             assert_eq!(refused_with(PAIR, &circuit, sheet, bad, 0), refusal, "before 18 to 24");

@@ -34,6 +34,16 @@ fn after_with(circuit: &Circuit, tags: &[Tag], steps: &[(u8, u16, u16, u16)]) ->
     met.then_some(standing)
 }
 
+/// Whether the last of these steps is idle, all being met; none if one isn't.
+fn idle(circuit: &Circuit, tags: &[Tag], steps: &[(u8, u16, u16, u16)]) -> Option<bool> {
+    let (last, before) = steps.split_last()?;
+    let mut standing = after_with(circuit, tags, before)?;
+    let old = standing.clone();
+    let progress = Rules::new(circuit).progress(&mut standing, Step::new(last.0, last.1, last.2, last.3))?;
+    assert_eq!(progress, standing != old);
+    Some(!progress)
+}
+
 /// The bound that one step gives its target.
 fn bound(circuit: &Circuit, step: (u8, u16, u16, u16)) -> Option<u64> {
     Some(after(circuit, &[step])?.bound(step.1))
@@ -214,6 +224,37 @@ fn digits_need_target_and_reference_in_the_reduced_form() {
     assert!(after(&linear, &[(DIGITS, 3, 1, 4)]).is_none(), "the reference isn't there");
     assert!(after(&linear, &[(DIGITS, 4, 1, 3)]).is_none(), "the target isn't there");
     assert!(after(&linear, &[(DIGITS, 1, 1, 1)]).is_some(), "a marked target and reference");
+}
+
+#[test]
+fn a_step_is_idle_if_the_standing_stays() {
+    // 1 is an input; 2 has the roots 0 and 3, 0 and 5, and 3 and 0 again; 3 equals 2; 4 is the square of 1, and 1.
+    let forms: [(Form, Form, Form); 6] = [
+        (&[(2, 1)], &[(2, 1), (0, -3)], &[]),
+        (&[(2, 1)], &[(2, 1), (0, -5)], &[]),
+        (&[(2, 2), (0, -6)], &[(2, 1)], &[]),
+        (&[(0, 1)], &[(2, 1), (3, -1)], &[]),
+        (&[(1, 1)], &[(1, 1)], &[(4, 1)]),
+        (&[(0, 1)], &[(1, 1), (4, 1)], &[]),
+    ];
+    let circuit = circuit(13, 4, 1, &forms);
+    let idle = |steps: &[(u8, u16, u16, u16)]| idle(&circuit, &[], steps);
+    let (three, five, again, sum) = ((ROOT, 2, 1, 0), (ROOT, 2, 2, 0), (ROOT, 2, 3, 0), (SUM, 3, 4, 0));
+    assert_eq!([idle(&[three]), idle(&[five]), idle(&[five, three])], [Some(false); 3]);
+    assert_eq!([idle(&[three, three]), idle(&[three, again]), idle(&[three, five])], [Some(true); 3], "equal and higher bounds");
+    assert_eq!([idle(&[five, sum]), idle(&[five, sum, three, sum])], [Some(false); 2], "the sum again, after a lower bound");
+    assert_eq!([idle(&[sum]), idle(&[three, sum, sum]), idle(&[three, sum, (SUM, 2, 4, 0)])], [Some(true); 3], "p - 1, and twice");
+    let (square, minus) = ((PRODUCT, 4, 5, 0), (DIGITS, 4, 6, 4));
+    assert_eq!([idle(&[square]), idle(&[minus])], [Some(false); 2]);
+    assert_eq!([idle(&[square, square]), idle(&[square, minus]), idle(&[minus, square]), idle(&[minus, (DIGITS, 4, 6, 1)])], [Some(true); 4]);
+    assert_eq!([idle(&[(DIGITS, 1, 6, 1)]), idle(&[(DIGITS, 1, 6, 4)])], [Some(true); 2], "an input");
+    assert_eq!([idle(&[(ZERO, 1, 0, 0)]), idle(&[(PRODUCT, 1, 5, 0)]), idle(&[(DIGITS, 1, 4, 2)])], [None; 3], "the rule comes first");
+    assert_eq!([0, 1].map(|limit| zero_is_idle(&circuit, limit)), [Some(true), None], "zero on a tagged input");
+}
+
+/// Whether a zero step is idle on input 1 with this limit.
+fn zero_is_idle(circuit: &Circuit, limit: u32) -> Option<bool> {
+    idle(circuit, &[Tag::new(1, MAXVALUE, limit)], &[(ZERO, 1, 0, 0)])
 }
 
 #[test]

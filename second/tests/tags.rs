@@ -13,10 +13,11 @@ use second::sheet::Tag;
 use second::vectors::{Answer, Record, DERIVATION, PAIR, SOLVE};
 use second::{read_circuit, Circuit};
 
-/// The stored vectors that come to their tags, on circuits that aren't large: all that is refused is a rule, the inputs' tags or q.
+/// The stored vectors that come to their tags, on circuits that aren't large: all that is refused is a rule, an idle step, the inputs' tags or q. Renewals
+/// are tests/idle.rs's.
 fn stored() -> Vec<Record> {
     let mut stored = compose(1, USUAL_SIZE);
-    let judged = |record: &Record| [0, 17, 28, 24].contains(&record.answer.number) && record.kind != second::vectors::READ;
+    let judged = |record: &Record| [0, 17, 29, 28, 24].contains(&record.answer.number) && [DERIVATION, PAIR, SOLVE].contains(&record.kind);
     let small = |record: &Record| record.circuit.len() < 300 && number16(&record.circuit, 9) < 20 && record.hand_in.len() < 300;
     stored.retain(|record| judged(record) && small(record) && record.sheet.len() > 7);
     stored
@@ -41,8 +42,11 @@ fn answer(record: &Record, tagging: Tagging) -> Answer {
         if !(1..=5).contains(&step.kind) || !rules.in_range(step) {
             return Answer { number: 16, place: number, ..Answer::default() };
         }
-        let Some(next) = literal.take(&standing, step) else { return Answer { number: 17, place: number, ..Answer::default() } };
-        standing = next;
+        match literal.take(&standing, step) {
+            None => return Answer { number: 17, place: number, ..Answer::default() },
+            Some(next) if next == standing => return Answer { number: 29, place: number, ..Answer::default() },
+            Some(next) => standing = next,
+        }
     }
     let written = circuit.all_signals().map(|signal| u8::from(standing.marked.contains(&signal))).collect();
     Answer { values: judged(&standing, 0), written, ..Answer::default() }

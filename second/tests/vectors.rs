@@ -7,7 +7,7 @@ use second::compose::{compose, USUAL_SIZE};
 use second::marker::read_steps;
 use second::reader::{number16, number32};
 use second::rules::Step;
-use second::vectors::{records, volumes, write, Record, DERIVATION, MOST_BYTES, PAIR, READ, SOLVE};
+use second::vectors::{records, volumes, write, Record, DERIVATION, MOST_BYTES, PAIR, READ, RENEW, SOLVE};
 
 #[test]
 fn files_are_read_back_and_agree() {
@@ -27,7 +27,7 @@ fn files_are_read_back_and_agree() {
 fn there_are_some_thousands_of_circuits() {
     let made = compose(1, USUAL_SIZE);
     let circuits: BTreeSet<&[u8]> = made.iter().map(|record| &record.circuit[..]).collect();
-    assert!(circuits.len() > 2_000, "{}", circuits.len());
+    assert!(circuits.len() > 2_040, "{}", circuits.len());
     let sizes: BTreeSet<usize> = circuits.iter().map(|circuit| circuit.len()).collect();
     assert!(sizes.contains(&0) && sizes.contains(&59_999) && sizes.contains(&60_000));
 }
@@ -67,11 +67,20 @@ fn no_limit_hangs_on_one_vector() {
     for (more, number) in [(-1, 25), (0, 0), (1, 0)] {
         several("output", &|r| r.kind == SOLVE && i64::from(r.lent) == 7 + 14 * i64::from(header(r, 9)) + more && r.answer.number == number);
     }
+    for (more, number) in [(-1, 25), (0, 0), (1, 0)] {
+        several("renewed", &|r| r.kind == RENEW && i64::from(r.lent) == r.hand_in.len() as i64 + more && r.answer.number == number);
+    }
     for (steps, least) in [(4095, 1), (4096, 2), (4097, 2)] {
         let refused = |r: &Record| r.answer.number == 13;
-        let count = made.iter().filter(|r| r.kind == DERIVATION && r.hand_in.len() == 7 + 7 * steps && refused(r) == (steps > 4096)).count();
-        assert!(count >= least, "{steps} steps: {count}");
+        for kind in [DERIVATION, RENEW] {
+            let count = made.iter().filter(|r| r.kind == kind && r.hand_in.len() == 7 + 7 * steps && refused(r) == (steps > 4096)).count();
+            assert!(count >= least, "{steps} steps in call {kind}: {count}");
+        }
     }
+    let whole = |r: &&Record| r.hand_in.len() == 7 + 7 * 4096 && r.answer.number == 0;
+    assert!(made.iter().filter(whole).any(|r| r.kind == DERIVATION), "4,096 steps, none idle");
+    assert!(made.iter().filter(whole).any(|r| r.kind == RENEW && r.answer.written == r.hand_in), "4,096 steps, none idle");
+    assert!(made.iter().filter(whole).any(|r| r.kind == RENEW && r.answer.written.len() == 14), "4,096 steps, all idle but the first");
 }
 
 /// The limits of sheets and of the numbers of their entries.
@@ -131,14 +140,14 @@ fn fields_hang_on_several_vectors() {
 fn every_refusal_occurs_at_several_places() {
     for seed in [1, 2, 3] {
         let made = compose(seed, USUAL_SIZE);
-        for number in 0..=28 {
+        for number in 0..=29 {
             let places: Vec<u32> = made.iter().filter(|record| record.answer.number == number).map(|record| record.answer.place).collect();
             assert!(places.len() >= 5, "refusal {number}: {places:?}");
-            if [6, 7, 8, 9, 10, 15, 16, 17, 21, 22, 23, 24, 27, 28].contains(&number) {
+            if [6, 7, 8, 9, 10, 15, 16, 17, 21, 22, 23, 24, 27, 28, 29].contains(&number) {
                 assert!(places.iter().collect::<BTreeSet<_>>().len() >= 5, "refusal {number}: {places:?}");
             }
         }
-        for kind in [READ, DERIVATION, PAIR, SOLVE] {
+        for kind in [READ, DERIVATION, PAIR, SOLVE, RENEW] {
             assert!(made.iter().filter(|record| record.kind == kind && record.answer.number == 0).count() >= 80);
         }
     }

@@ -1,25 +1,24 @@
-//! The widest digits tests: the circuits are what they are said to be, and the derivations are accepted.
+//! The widest digits tests: the circuits are what they are said to be, and every step of the derivations is met.
 
-use second::check_derivation;
 use second::marker::{read_steps, MOST_STEPS};
-use second::read_circuit;
 use second::rules::{Rules, Standing, Step, DIGITS, ROOT, ZERO};
 use second::sheet::NO_TAGS;
 use second::solver::derive;
-use second::wide_digits::{all_marked, broken_sums, MOST_SUMS};
+use second::wide_digits::{all_padded, broken_sums, MOST_SUMS};
+use second::{check_derivation, read_circuit, renew};
 
 #[test]
-fn derivations_of_wide_digits_are_accepted() {
-    for marked in all_marked() {
-        let steps = read_steps(&marked.derivation).unwrap();
+fn derivations_of_wide_digits_are_renewed() {
+    for padded in all_padded() {
+        let steps = read_steps(&padded.derivation).unwrap();
         assert_eq!(steps.len(), MOST_STEPS);
         assert!(steps.iter().filter(|step| step.kind == DIGITS).count() >= MOST_STEPS - 257);
-        assert_eq!(
-            check_derivation(&marked.circuit, NO_TAGS, &marked.derivation, &mut [9; 256]).map(|judgement| judgement.count),
-            Ok(1),
-            "{}",
-            marked.name
-        );
+        let mut renewed = padded.derivation.clone();
+        let length = renew(&padded.circuit, NO_TAGS, &padded.derivation, &mut renewed).unwrap();
+        let kept = read_steps(&renewed[..length]).unwrap();
+        assert!(kept.iter().filter(|step| step.kind == DIGITS).count() <= 1, "{}", padded.name);
+        let judgement = check_derivation(&padded.circuit, NO_TAGS, &renewed[..length], &mut [9; 256]).unwrap();
+        assert_eq!(judgement.count, 1, "{}", padded.name);
     }
 }
 

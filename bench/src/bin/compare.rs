@@ -5,15 +5,21 @@ use std::collections::BTreeMap;
 
 use bench::proved;
 use second::compose::{compose, compose_random};
+use second::falling::{self, Falling};
 use second::sheet::NO_TAGS;
-use second::vectors::{Record, DERIVATION, SOLVE};
-use second::wide_digits::{all_marked, broken_sums, MOST_SUMS};
+use second::vectors::{Record, DERIVATION, RENEW, SOLVE};
+use second::wide_digits::{all_padded, broken_sums, MOST_SUMS};
 
-/// Solving and marking where the digits test is widest.
-fn wide_digits() -> Vec<Record> {
-    let solved = [1, 35, MOST_SUMS].map(|sums| Record::answered(SOLVE, &broken_sums(sums), NO_TAGS, &[], 7 + 14 * 256));
-    let marked = all_marked().map(|marked| Record::answered(DERIVATION, &marked.circuit, NO_TAGS, &marked.derivation, 256));
-    solved.into_iter().chain(marked).collect()
+/// Solving where the digits test is widest; marking and renewing 4,096 steps, most of them idle or none.
+fn longest() -> Vec<Record> {
+    let mut records: Vec<Record> = [1, 35, MOST_SUMS].map(|sums| Record::answered(SOLVE, &broken_sums(sums), NO_TAGS, &[], 7 + 14 * 256)).into();
+    let padded = all_padded().map(|padded| (padded.circuit, padded.derivation));
+    let falling = [falling::chain(), falling::wide_chain()].map(|Falling { circuit, derivation }| (circuit, derivation));
+    for (circuit, derivation) in padded.into_iter().chain(falling) {
+        records.push(Record::answered(DERIVATION, &circuit, NO_TAGS, &derivation, 256));
+        records.push(Record::answered(RENEW, &circuit, NO_TAGS, &derivation, derivation.len()));
+    }
+    records
 }
 
 fn main() {
@@ -23,7 +29,7 @@ fn main() {
     let (mut calls, mut tagged, mut kinds, mut numbers) = (0, 0, BTreeMap::<u8, u64>::new(), BTreeMap::<u16, u64>::new());
     // The first records are the fixed calls, with the worst circuits among them; all others are random.
     let mut records = compose(seed, 1_600_000);
-    records.extend(wide_digits());
+    records.extend(longest());
     while calls < wanted {
         for record in records {
             let answer = proved(&record);

@@ -31,9 +31,19 @@ extern "C" {
         output_length: usize,
         answer: *mut [u64; 5],
     ) -> u64;
+    fn yolqushek_renew(
+        circuit: *const u8,
+        circuit_length: usize,
+        sheet: *const u8,
+        sheet_length: usize,
+        derivation: *const u8,
+        derivation_length: usize,
+        output: *mut u8,
+        output_length: usize,
+    ) -> u64;
 }
 
-/// Why a call was refused: its number, 1 to 28, and its place.
+/// Why a call was refused: its number, 1 to 29, and its place.
 #[derive(Clone, Copy, Debug, PartialEq, Eq)]
 pub struct Refusal {
     pub number: u32,
@@ -83,7 +93,8 @@ pub fn read_circuit(circuit: &[u8]) -> Result<Sizes, Refusal> {
     Ok(Sizes { prime, signals, inputs, outputs, constraints })
 }
 
-/// Judges a derivation and writes a byte for each signal to `marks`: refusals 1 to 10, 26, 27 and 11 to 17. Needs 124 kB of stack.
+/// Judges a derivation and writes a byte for each signal to `marks`: refusals 1 to 10, 26, 27, 11 to 14, and step by step 15, 16, 17 and 29, which meets an
+/// idle step. Needs 112 kB of stack.
 pub fn check_derivation(circuit: &[u8], sheet: &[u8], derivation: &[u8], marks: &mut [u8]) -> Result<Marked, Refusal> {
     let mut answer = [0; 4];
     taken(unsafe {
@@ -115,4 +126,23 @@ pub fn solve(circuit: &[u8], sheet: &[u8], output: &mut [u8]) -> Result<(Marked,
     taken(unsafe { yolqushek_solve(circuit.as_ptr(), circuit.len(), sheet.as_ptr(), sheet.len(), output.as_mut_ptr(), output.len(), &mut answer) })?;
     let [count, fixed, shown, unshown, length] = answer;
     Ok((Marked::of(count, fixed, shown, unshown), length as usize))
+}
+
+/// Renews a derivation that may have idle steps, writes it without them to `output`, which is no shorter than the derivation given, and answers the new length:
+/// refusals 1 to 10, 26, 27, 11 to 13, step by step 15 to 17, and 25. What is written is accepted with the same sheet and reaches the same bounds and marks.
+/// Needs 116 kB of stack.
+pub fn renew(circuit: &[u8], sheet: &[u8], derivation: &[u8], output: &mut [u8]) -> Result<usize, Refusal> {
+    let length = taken(unsafe {
+        yolqushek_renew(
+            circuit.as_ptr(),
+            circuit.len(),
+            sheet.as_ptr(),
+            sheet.len(),
+            derivation.as_ptr(),
+            derivation.len(),
+            output.as_mut_ptr(),
+            output.len(),
+        )
+    })?;
+    Ok(length as usize)
 }

@@ -58,7 +58,7 @@ fn inputs() -> [Input; 7] {
 type Call = fn(&Input, &mut [u8]) -> u32;
 
 /// What is tried: nothing at all, for what a thread itself takes, and the calls. The second implementation says what each answers.
-const CALLS: [(&str, Call, Call); 5] = [
+const CALLS: [(&str, Call, Call); 6] = [
     ("nothing", |_, _| 0, |_, _| 0),
     ("read", |i, _| yolqushek::read_circuit(&i.circuit).map_or_else(|r| r.number, |_| 0), |i, _| number(second::read_circuit(&i.circuit))),
     (
@@ -75,6 +75,11 @@ const CALLS: [(&str, Call, Call); 5] = [
         "solve",
         |i, lent| yolqushek::solve(&i.circuit, &i.sheet, lent).map_or_else(|r| r.number, |_| 0),
         |i, lent| number(second::solve(&i.circuit, &i.sheet, lent)),
+    ),
+    (
+        "renew",
+        |i, lent| yolqushek::renew(&i.circuit, &i.sheet, &i.derivation, lent).map_or_else(|r| r.number, |_| 0),
+        |i, lent| number(second::renew(&i.circuit, &i.sheet, &i.derivation, lent)),
     ),
 ];
 
@@ -131,9 +136,9 @@ fn least(call: usize, input: usize) -> usize {
 #[test]
 #[ignore = "takes a minute and prints a table"]
 fn least_stack() {
-    println!("| kB of stack | {} |\n|---|---:|---:|---:|---:|---:|", CALLS.map(|(name, ..)| name).join(" | "));
+    println!("| kB of stack | {} |\n|---|{}", CALLS.map(|(name, ..)| name).join(" | "), "---:|".repeat(CALLS.len()));
     for (index, input) in inputs().iter().enumerate() {
-        let found = [0, 1, 2, 3, 4].map(|call| least(call, index).to_string());
+        let found: Vec<String> = (0..CALLS.len()).map(|call| least(call, index).to_string()).collect();
         println!("| {} | {} |", input.name, found.join(" | "));
     }
 }

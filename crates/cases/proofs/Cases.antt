@@ -3,11 +3,14 @@ use mathlib.Core.Path.{_≡_, refl}
 use mathlib.Core.List.{map}
 use Rattle.solver.specs.Call.{own, reached, solved, solverOn, solverCall, solverOutput}
 use Rattle.derivation.specs.Encoded.{stepBytes, stepsBytes, encoded}
-use Rattle.derivation.specs.Call.{marksFrom, marksOf, total, outputMarked, verdictOf, judged, headed, derivationOn, derivationCall, lastOf, derivationMarks}
+use Rattle.derivation.specs.Call as call
+use Rattle.derivation.specs.Call.{marksFrom, marksOf, total, outputMarked, verdictOf, judged, derivationOn, derivationCall, lastOf, derivationMarks}
+use Rattle.renewal.specs.Call.{renewed, renewalOn, renewalCall, renewalOutput}
 use Rattle.derivation.specs.Steps.{numbered, kindOf, stepStart, stepAt, readStep, walkFrom, stepsFrom, stepsOf}
 use Rattle.pair.specs.Call.{fileOn, runsOn, pairOn, pairCall}
 use Rattle.laws.specs.Solver.{solution, boundSteps, markSteps, turns, bestBound, bestOfConstraints, bestOfTargets, consider, addsBy, newBound}
 use Rattle.laws.specs.Solver.{precedes, firstBy, firstUp, try, tryReferences, tryKind, tryKinds, firstAdding}
+use Rattle.laws.specs.Step as step
 use Rattle.laws.specs.Step.{inRange, within, ruleOf, met, change, after, replay, fits, adds}
 use Rattle.tags.specs.Tag.{limit, leastOf, lowered, firstBound, keeps, kept, onOther, isShown, shownOf, notMissed, shownBy}
 use Rattle.tags.specs.Sheet as sheet
@@ -30,8 +33,8 @@ use Rattle.cases.specs.Encode.{u16Bytes, u32Bytes, termsBytes, formBytes
 use Rattle.cases.specs.Table.{Row, boundsFrom, table, found}
 
 pub cases : map found table ≡ map (λ (row : Row). row .said) table
-unfolding own reached solved solverOn solverCall solverOutput stepBytes stepsBytes encoded marksFrom marksOf total outputMarked verdictOf judged headed
-    derivationOn derivationCall lastOf derivationMarks numbered kindOf stepStart stepAt readStep walkFrom stepsFrom stepsOf firstFrom valueAt runIn
+unfolding own reached solved solverOn solverCall solverOutput stepBytes stepsBytes encoded marksFrom marksOf total outputMarked verdictOf judged
+    call.framed renewed renewalOn renewalCall renewalOutput step.lessIdle derivationOn derivationCall lastOf derivationMarks numbered kindOf stepStart stepAt readStep walkFrom stepsFrom stepsOf firstFrom valueAt runIn
     below fileOn satisfiedBy agree runsOn pairOn pairCall solution boundSteps markSteps turns bestBound bestOfConstraints bestOfTargets
     consider addsBy newBound precedes firstBy firstUp try tryReferences tryKind tryKinds firstAdding inRange within ruleOf met change
     after replay fits adds namesNone linear constant reduced occurs isZero namesOnly rootMet root rootBound sumWeight ceiling sumTerm sumBound sumMet

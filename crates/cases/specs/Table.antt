@@ -1,5 +1,5 @@
--- The shared table of cases a to j (Rule 7.4), of false rules that look sound (Rule 7.5) and of tags (Rule 7.6): each row names a circuit's bytes, those
--- of a sheet, the call with what is handed in, and what the rules say of it.
+-- The shared table of cases a to j (Rule 7.4), of false rules that look sound (Rule 7.5), of tags (Rule 7.6) and of idle steps (Rule 7.9): each row names
+-- a circuit's bytes, those of a sheet, the call with what is handed in, and what the rules say of it.
 use Prim.Native.Nat.{ℕ, zero, suc, _+_, _*_, _-_}
 use mathlib.Core.Bool.{true, false}
 use mathlib.Core.List.{List, [], _∷_, _++_}
@@ -16,19 +16,21 @@ use Rattle.derivation.specs.Call as derivation
 use Rattle.derivation.specs.Call.{Fixed, Open, lastOf}
 use Rattle.derivation.specs.Encoded.{encoded}
 use Rattle.pair.specs.Call as pair
+use Rattle.renewal.specs.Call as renewal
 use Rattle.solver.specs.Call as solver
 use Rattle.cases.specs.Encode.{circuitBytes, sheetBytes, pairBytes, oneStep}
 use Rattle.cases.specs.Circuits.{circuit-a, circuit-b, circuit-c, circuit-d, circuit-e, circuit-f, circuit-g, copy, bare, bits, carry, isBinary, hasBits, isMost}
 
--- a call: reading the circuit, solving it, or judging a hand-in; or the bounds that a derivation reaches
+-- a call: reading the circuit, solving it, judging a hand-in or renewing one; or the bounds that a derivation reaches
 pub data Asked : Type 0 where
   reading : Asked
   solving : Asked
   judging : List ℕ → Asked
   bounding : List ℕ → Asked
   pairing : List ℕ → Asked
+  renewing : List ℕ → Asked
 
--- what is said: a circuit's p, n, i, o and m and its file's length, or each call's answer; the solver's with the bytes that it leaves; or bounds
+-- what is said: a circuit's p, n, i, o and m and its file's length, or each call's answer, with the bytes that it leaves; or bounds
 pub data Said : Type 0 where
   numbers : ℕ → ℕ → ℕ → ℕ → ℕ → ℕ → Said
   unread : ℕ → ℕ → Said
@@ -36,6 +38,7 @@ pub data Said : Type 0 where
   judges : Answer derivation.Judgement → List ℕ → Said
   bounds : List ℕ → Said
   pairs : Answer ℕ → Said
+  renews : Answer ℕ → List ℕ → Said
 
 pub record Row : Type 0 where
   pub circuit : List ℕ
@@ -67,6 +70,7 @@ answer c h solving = solves (solver.solverCall c h (length buffer)) (solver.solv
 answer c h (judging d) = judges (derivation.derivationCall c h d (length buffer)) (derivation.derivationMarks c h d buffer)
 answer c h (bounding d) = boundsOf (readCircuit c) h d
 answer c h (pairing t) = pairs (pair.pairCall c h t)
+answer c h (renewing d) = renews (renewal.renewalCall c h d (length buffer)) (renewal.renewalOutput c h d buffer)
 
 abbrev pub found : Row → Said
 found row = answer (row .circuit) (row .sheet) (row .asked)
@@ -104,6 +108,18 @@ abbrev pub judgedRow : Circuit → List Step → List ℕ → ℕ → derivation
 judgedRow C xs marks count verdict =
     record { circuit = circuitBytes C; sheet = emptySheet; asked = judging (encoded xs); said = judgedAs marks count verdict 0 0 }
 
+-- steps of which these are left; the bytes after them stay 9
+abbrev pub renewedAs : List Step → Said
+renewedAs xs = renews (given (7 + 7 * length xs)) (encoded xs ++ take (100 - (7 + 7 * length xs)) buffer)
+
+abbrev pub renewedRow : Circuit → List Step → List Step → Row
+renewedRow C xs left = record { circuit = circuitBytes C; sheet = emptySheet; asked = renewing (encoded xs); said = renewedAs left }
+
+-- steps that aren't renewed: nothing is written
+abbrev pub unrenewedRow : Circuit → List Step → ℕ → ℕ → Row
+unrenewedRow C xs number place =
+    record { circuit = circuitBytes C; sheet = emptySheet; asked = renewing (encoded xs); said = renews (refused number place) buffer }
+
 -- the bounds that the steps reach
 abbrev pub boundedRow : Circuit → List Step → List ℕ → Row
 boundedRow C xs said = record { circuit = circuitBytes C; sheet = emptySheet; asked = bounding (encoded xs); said = bounds said }
@@ -125,6 +141,12 @@ steps-c =
 -- .. and without its sum
 abbrev pub steps-tagged : List Step
 steps-tagged = step Root 2 1 0 ∷ step Root 3 2 0 ∷ step Root 4 3 0 ∷ step Digits 2 4 2 ∷ step Digits 3 4 2 ∷ step Digits 4 4 1 ∷ []
+
+-- .. padded: a root again, a sum again, a digit again and an input marked
+abbrev pub padded-c : List Step
+padded-c =
+    step Root 2 1 0 ∷ step Root 3 2 0 ∷ step Root 4 3 0 ∷ step Root 4 3 0 ∷ step Sum 1 4 0 ∷ step Sum 1 4 0
+    ∷ step Digits 2 4 2 ∷ step Digits 2 4 2 ∷ step Digits 3 4 2 ∷ step Digits 4 4 1 ∷ step Digits 1 4 1 ∷ []
 
 -- the three bits of case d bounded by 1, then one step more
 abbrev pub after-bits : Step → List Step
@@ -215,4 +237,23 @@ table =
     ∷ taggedRow circuit-a (hasBits 1 31 ∷ []) (judging []) (judges (refused 27 1) buffer)
     ∷ taggedRow circuit-a (isMost 1 7 ∷ []) (pairing []) (pairs (refused 27 1))
     ∷ taggedRow circuit-a (isMost 3 6 ∷ []) solving (solves (refused 27 1) buffer)
+    -- idle steps of c: a root given twice, a sum that gives the bound that is there, a digit and an input marked again
+    ∷ turnedRow circuit-c (encoded padded-c) 29 4
+    ∷ turnedRow circuit-c (encoded (after-bits (step Sum 1 4 0) ++ step Sum 1 4 0 ∷ [])) 29 5
+    ∷ taggedRow circuit-c (isMost 1 7 ∷ []) (judging (encoded (after-bits (step Sum 1 4 0)))) (judges (refused 29 4) buffer)
+    ∷ turnedRow circuit-c (encoded (after-bits (step Digits 2 4 2) ++ step Digits 2 4 2 ∷ [])) 29 5
+    ∷ turnedRow circuit-c (encoded (step Digits 1 4 2 ∷ [])) 17 1
+    ∷ turnedRow circuit-c (encoded (after-bits (step Digits 1 4 2))) 29 4
+    -- .. a zero on an input tagged 0, which isn't met without the tag; an idle step before one that isn't met
+    ∷ taggedRow circuit-b (isMost 1 0 ∷ []) (judging (oneStep 3 1 0 0)) (judges (refused 29 1) buffer)
+    ∷ turnedRow circuit-b (oneStep 3 1 0 0) 17 1
+    ∷ turnedRow circuit-e (encoded (step Root 1 1 0 ∷ step Root 1 1 0 ∷ step Product 1 1 0 ∷ [])) 29 2
+    -- c renewed: padded, and with nothing idle; with the tag its sum is idle too
+    ∷ renewedRow circuit-c padded-c steps-c
+    ∷ renewedRow circuit-c steps-c steps-c
+    ∷ taggedRow circuit-c (isMost 1 7 ∷ []) (renewing (encoded padded-c)) (renewedAs steps-tagged)
+    ∷ taggedRow circuit-b (isMost 1 0 ∷ []) (renewing (oneStep 3 1 0 0)) (renewedAs [])
+    -- .. a step that isn't met, after an idle one; and 105 bytes of which 56 would be left, but the buffer has 100
+    ∷ unrenewedRow circuit-c (step Root 2 1 0 ∷ step Root 2 1 0 ∷ step Zero 2 0 0 ∷ []) 17 3
+    ∷ unrenewedRow circuit-c (steps-c ++ steps-c) 25 0
     ∷ []

@@ -1,30 +1,31 @@
--- EMPTY, derivations (rule 7.6): with the sheet that says nothing the call answers and writes what it did before there were sheets.
+-- EMPTY, derivations (rule 7.7): with the sheet that says nothing the call answers and writes what it does on the circuit alone.
 use Prim.Native.Nat.{ℕ}
-use mathlib.Core.Path.{_≡_, refl, ap, fun-ext}
+use mathlib.Core.Path.{_≡_, refl, ap}
+use mathlib.Core.Bool.{false}
 use mathlib.Core.List.{List}
 use lib.ListN.{length}
-use Rattle.circuit.specs.Bytes.{u16At}
 use Rattle.circuit.specs.Circuit.{Circuit}
 use Rattle.circuit.specs.Reading.{Reading, whole, fault}
 use Rattle.circuit.specs.Reader.{readCircuit}
 use Rattle.circuit.specs.Answer.{Answer, given, andThen}
 use Rattle.circuit.specs.Call.{sizesOf, onCircuit, circuitOf}
+use Rattle.circuit.proofs.AnswerLaws.{then-same}
 use Rattle.laws.specs.Problem.{problem}
-use Rattle.laws.specs.Standing.{Standing, start}
+use Rattle.laws.specs.Standing.{Standing}
 use Rattle.tags.specs.Tag.{Sheet, tagged}
 use Rattle.tags.specs.Sheet.{emptySheet, sheetOn}
 use Rattle.tags.proofs.Empty.{noTags, empty-given, empty-problem, empty-shown}
-use Rattle.derivation.specs.Steps.{walkFrom}
-use Rattle.derivation.specs.Call.{Judgement, marksOf, total, verdictOf, judged, headed, derivationOn, derivationCall, leftBy, derivationMarks}
+use Rattle.derivation.specs.Steps.{walked}
+use Rattle.derivation.specs.Call.{Judgement, marksOf, total, verdictOf, judged, framed, roomy, derivationOn, derivationCall, leftBy, derivationMarks}
 
--- what was answered of the last standing: how many signals are marked, and the verdict; of tags none is shown and none is left
+-- what is answered of the last standing: how many signals are marked, and the verdict; of tags none is shown and none is left
 unfoldable pub plainJudged : Circuit → Standing → Judgement
 plainJudged C S =
     record { count = total (marksOf (C .n) S); verdict = verdictOf (problem C) S; shown = record { count = 0; missed = 0 } }
 
--- the call on a circuit alone, as it was
+-- the call on a circuit alone
 unfoldable pub plainCall : Circuit → List ℕ → ℕ → Answer Judgement
-plainCall C d room = headed d (C .n) room (andThen (walkFrom (problem C) d 0 (u16At d 5) (start (problem C))) (λ S. given (plainJudged C S)))
+plainCall C d room = andThen (framed d (roomy (C .n) room (walked false (problem C) d))) (λ S. given (plainJudged C S))
 
 pub empty-judged : (C : Circuit) (S : Standing) → judged (problem C) noTags S ≡ plainJudged C S
 unfolding judged plainJudged
@@ -34,9 +35,7 @@ empty-on : (C : Circuit) (d : List ℕ) (room : ℕ) → derivationOn (tagged C 
 unfolding derivationOn plainCall
 empty-on C d room =
     rw (empty-problem C)
-    (ap
-    (λ (f : Standing → Answer Judgement). headed d (C .n) room (andThen (walkFrom (problem C) d 0 (u16At d 5) (start (problem C))) f))
-    (fun-ext (λ (S : Standing). ap given (empty-judged C S))))
+    (then-same (framed d (roomy (C .n) room (walked false (problem C) d))) _ _ (λ (S : Standing). ap given (empty-judged C S)))
 
 pub empty-derivation : (c d : List ℕ) (room : ℕ) → derivationCall c emptySheet d room ≡ onCircuit (readCircuit c) (λ C. plainCall C d room)
 unfolding derivationCall

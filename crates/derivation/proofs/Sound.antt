@@ -12,13 +12,14 @@ use Rattle.circuit.specs.Answer.{given}
 use Rattle.circuit.proofs.WellFormed.{read-well-formed}
 use Rattle.circuit.proofs.SearchLaws.{passed}
 use Rattle.laws.specs.Sum.{implies}
-use Rattle.laws.specs.Standing.{Standing}
+use Rattle.laws.specs.Standing.{Standing, start}
+use Rattle.laws.proofs.Idle.{accepted-formerly}
 use Rattle.laws.specs.Sound.{Sound}
 use Rattle.tags.specs.Tag.{limit, Sheet, Obeys, tagged, Allowed, onOther, isShown, notMissed, shownBy}
 use Rattle.tags.specs.Sheet.{Unrefused}
 use Rattle.tags.proofs.TagLaws.{obeys-exactly}
 use Rattle.tags.proofs.SheetLaws.{unrefused-circuit, unrefused-sheet, unrefused-fits, tag-signal}
-use Rattle.tags.proofs.Tagged.{accepted-sound}
+use Rattle.tags.proofs.Tagged.{steps-sound}
 use Rattle.derivation.specs.Steps.{stepsOf}
 use Rattle.derivation.specs.Call.{Judgement, bit, marksFrom, marksOf, judged, derivationOn, derivationCall, lastOf, derivationMarks}
 use Rattle.derivation.specs.Exact.{SoundCall}
@@ -61,7 +62,9 @@ module _ (d : List ℕ) {c h : List ℕ} {C : Circuit} {T : Sheet} (U : Unrefuse
       → Sound (tagged C T) (Allowed C T) (lastOf (tagged C T) d)
   unfolding lastOf
   last-sound room e =
-      accepted-sound (read-well-formed c C (U .size) (U .read)) T (stepsOf d) (derivation-accepted (tagged C T) T d room e .met)
+      let P = tagged C T in
+      steps-sound (read-well-formed c C (U .size) (U .read)) T (stepsOf d)
+      (accepted-formerly P (start P) (stepsOf d) (derivation-accepted P T d room e .adds))
 
   -- tags that are shown are obeyed
   module _ (B : Sound (tagged C T) (Allowed C T) (lastOf (tagged C T) d)) (run : List ℕ) (a : Allowed C T run) (k : ℕ) (l : 1 ≤ k) (m : k ≤ T .count) where

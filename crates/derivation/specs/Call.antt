@@ -15,7 +15,7 @@ use Rattle.laws.specs.Standing.{Standing, start}
 use Rattle.laws.specs.Step.{replay}
 use Rattle.tags.specs.Tag.{Sheet, tagged, Shown, shownBy}
 use Rattle.tags.specs.Sheet.{sheetOf, sheetOn}
-use Rattle.derivation.specs.Steps.{headSize, stepSize, stepsMost, walkFrom, stepsOf}
+use Rattle.derivation.specs.Steps.{headSize, stepSize, stepsMost, walked, stepsOf}
 
 -- Rule 6.6: fixed where every output is marked, else open.
 pub data Verdict : Type 0 where
@@ -60,17 +60,20 @@ verdictOf P S = verdictBy (all (P .o) (outputMarked (S .marked) (P .i)))
 unfoldable pub judged : Problem → Sheet → Standing → Judgement
 judged P T S = record { count = total (marksOf (P .n) S); verdict = verdictOf P S; shown = shownBy (P .i) T (S .bound) }
 
--- Refusals 11 to 14, and then r; room is the length of the lent buffer.
-unfoldable pub headed : {A : Type 0} → List ℕ → ℕ → ℕ → Answer A → Answer A
-headed d n room r =
+-- Refusals 11 to 13, and then r.
+unfoldable pub framed : {A : Type 0} → List ℕ → Answer A → Answer A
+framed d r =
     ask (leb headSize (length d)) 11 0
     (ask (hasMark derivationLetter d) 11 0
-    (ask (eqb (u16At d 3) 1) 12 0
-    (ask (leb (u16At d 5) stepsMost) 13 0 (ask (eqb (length d) (headSize + stepSize * u16At d 5)) 13 0 (ask (leb n room) 14 0 r)))))
+    (ask (eqb (u16At d 3) 1) 12 0 (ask (leb (u16At d 5) stepsMost) 13 0 (ask (eqb (length d) (headSize + stepSize * u16At d 5)) 13 0 r))))
 
--- Rule 6.6: the header, the steps, then the judgement; refusals 11 to 17.
+-- Refusal 14, and then r; room is the length of the lent buffer.
+abbrev pub roomy : {A : Type 0} → ℕ → ℕ → Answer A → Answer A
+roomy n room r = ask (leb n room) 14 0 r
+
+-- Rule 6.6: the header, the steps, then the judgement; refusals 11 to 17 and 29.
 unfoldable pub derivationOn : Problem → Sheet → List ℕ → ℕ → Answer Judgement
-derivationOn P T d room = headed d (P .n) room (andThen (walkFrom P d 0 (u16At d 5) (start P)) (λ S. given (judged P T S)))
+derivationOn P T d room = andThen (framed d (roomy (P .n) room (walked false P d))) (λ S. given (judged P T S))
 
 -- The call's answer, for a circuit c, a sheet h and a derivation d: the circuit first, refusals 1 to 10, then the sheet, 26 and 27.
 unfoldable pub derivationCall : List ℕ → List ℕ → List ℕ → ℕ → Answer Judgement

@@ -1,5 +1,5 @@
--- What the derivation call is for. EXACT: a well-formed derivation is accepted exactly if each step meets its rule where it stands.
--- SOUND: what an accepted derivation says of the allowed runs, over the answer and the bytes that the call wrote.
+-- What the derivation call is for. EXACT: a well-formed derivation is accepted exactly if each step meets its rule where it stands and isn't
+-- idle. SOUND: what an accepted derivation says of the allowed runs, over the answer and the bytes that the call wrote.
 use Prim.Native.Nat.{ℕ, _+_, _*_, _-_, _≤_, _<_}
 use mathlib.Core.Path.{_≡_}
 use mathlib.Core.Bool.{true}
@@ -18,14 +18,13 @@ use Rattle.tags.specs.Sheet.{Unrefused}
 use Rattle.derivation.specs.Steps.{headSize, stepSize, stepsMost, readStep, stepsOf}
 use Rattle.derivation.specs.Call.{Judgement, bit, judged, lastOf}
 
--- refusals 11 to 14 aren't met
-pub record Framed (d : List ℕ) (n room : ℕ) : Type 0 where
+-- refusals 11 to 13 aren't met
+pub record Framed (d : List ℕ) : Type 0 where
   pub long : headSize ≤ length d
   pub mark : hasMark derivationLetter d ≡ true
   pub version : u16At d 3 ≡ 1
   pub few : u16At d 5 ≤ stepsMost
   pub sized : length d ≡ headSize + stepSize * u16At d 5
-  pub roomy : n ≤ room
 
 -- step k, counted from 0, meets neither 15 nor 16
 pub record FineStep (P : Problem) (d : List ℕ) (k : ℕ) : Type 0 where
@@ -35,17 +34,18 @@ pub record FineStep (P : Problem) (d : List ℕ) (k : ℕ) : Type 0 where
 
 -- Rule 6.9, on a circuit and a sheet that aren't refused.
 pub record WellFormedDerivation (P : Problem) (d : List ℕ) (room : ℕ) : Type 0 where
-  pub framed : Framed d (P .n) room
+  pub framed : Framed d
+  pub roomy : P .n ≤ room
   pub each : (k : ℕ) → k < u16At d 5 → FineStep P d k
 
--- each step meets its rule where it stands
-abbrev pub EachMet : Problem → List ℕ → Type 0
-EachMet P d = accepted P (start P) (stepsOf d) ≡ true
+-- each step meets its rule where it stands and isn't idle
+abbrev pub EachAdds : Problem → List ℕ → Type 0
+EachAdds P d = accepted P (start P) (stepsOf d) ≡ true
 
--- Rule 7.2: the derivation is accepted exactly if each step meets its rule, and then the answer is what the steps lead to.
+-- Rule 7.2: the derivation is accepted exactly if each step meets its rule and isn't idle, and then the answer is what the steps lead to.
 pub record Exact (P : Problem) (T : Sheet) (d : List ℕ) (r : Answer Judgement) : Type 0 where
-  pub accepts : EachMet P d → r ≡ given (judged P T (lastOf P d))
-  pub only : (judgement : Judgement) → r ≡ given judgement → EachMet P d
+  pub accepts : EachAdds P d → r ≡ given (judged P T (lastOf P d))
+  pub only : (judgement : Judgement) → r ≡ given judgement → EachAdds P d
 
 abbrev pub ExactCall : List ℕ → List ℕ → List ℕ → ℕ → Answer Judgement → Type 0
 ExactCall c h d room r =

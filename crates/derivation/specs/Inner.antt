@@ -1,10 +1,10 @@
 -- How the functions inside the call run: what they promise one another, not what the call means.
-use Prim.Native.Nat.{ℕ, suc, min}
+use Prim.Native.Nat.{ℕ, zero, suc, _≤_, min}
 use mathlib.Core.Path.{_≡_}
-use mathlib.Core.Bool.{true}
-use mathlib.Core.List.{List, []}
+use mathlib.Core.Bool.{Bool, true, false}
+use mathlib.Core.List.{List, [], _∷_, _++_}
 use mathlib.Core.Option.{Option, none, some}
-use lib.ListN.{length}
+use lib.ListN.{length, getD}
 use Rattle.circuit.specs.Answer.{Answer, refused}
 use Rattle.circuit.specs.Bytes.{u16At}
 use Rattle.circuit.specs.Reader.{signalsMost}
@@ -22,7 +22,7 @@ use Rattle.tags.specs.Sheet.{sheetOf}
 use Rattle.rules.specs.Promise.{subjectIn, kindOf, reduces}
 use Rattle.rules.specs.Rows.{Row, Rows, Roomy, rowOf}
 use Rattle.rules.specs.declared.standing.Kind.{Kind}
-use Rattle.derivation.specs.Steps.{readStep, tried, walkFrom}
+use Rattle.derivation.specs.Steps.{readStep, tried, stepsOf}
 use Rattle.derivation.specs.Call.{Judgement, marksFrom, total, outputMarked, verdictBy, derivationCall, derivationMarks}
 use Rattle.derivation.specs.declared.kinds.KindByte.{KindByte}
 use Rattle.derivation.specs.declared.kinds.KindByte.the-variants.{Known, Unknown}
@@ -32,8 +32,8 @@ use Rattle.derivation.specs.declared.kinds.Entry.{Entry}
 use Rattle.derivation.specs.declared.kinds.Step.{Step}
 use Rattle.derivation.specs.declared.step.StepRead.{StepRead}
 use Rattle.derivation.specs.declared.step.StepRead.the-variants.{Fine, Refused}
-use Rattle.derivation.specs.declared.call.Way.{Way}
-use Rattle.derivation.specs.declared.call.Way.the-variants.{On, Stopped}
+use Rattle.derivation.specs.declared.walk.Way.{Way}
+use Rattle.derivation.specs.declared.walk.Way.the-variants.{On, Stopped}
 
 -- the circuit with any first bounds: no step looks at them but through the standing
 abbrev pub problemOf : List ℕ → (ℕ → ℕ) → Problem
@@ -61,7 +61,7 @@ stepIn x = record { kind = kindOf (x .kind); target = x .target; constraint = x 
 -- step k, counted from 0, is known and in range; or it is refused, whatever the standing is
 abbrev pub Reads : Problem → List ℕ → ℕ → StepRead → Type 0
 Reads P d k (Fine x) = (readStep d k ≡ some (stepIn x)) × (step.inRange P (stepIn x) ≡ true)
-Reads P d k (Refused number) = (S : standing.Standing) → tried P S (readStep d k) (suc k) ≡ refused number (suc k)
+Reads P d k (Refused number) = (padded : Bool) (S : standing.Standing) → tried padded P S (readStep d k) (suc k) ≡ refused number (suc k)
 
 -- go on with r, or stopped by a refusal
 abbrev pub byWay : {A : Type 0} → Way → Answer A → Answer A
@@ -72,9 +72,20 @@ byWay (Stopped number place) r = refused number place
 abbrev pub taggedIn : List ℕ → List ℕ → Problem
 taggedIn c h = tagged (circuitOf c) (sheetOf h)
 
--- what the steps from the start lead to
-abbrev pub Walked : List ℕ → List ℕ → List ℕ → Answer standing.Standing → Type 0
-Walked c h d w = w ≡ walkFrom (taggedIn c h) d 0 (u16At d 5) (standing.start (taggedIn c h))
+-- a step as a list, empty where it is noted as idle or has no known kind
+abbrev pub unnoted : Bool → Option step.Step → List step.Step
+unnoted true o = []
+unnoted false none = []
+unnoted false (some x) = x ∷ []
+
+-- the first k steps, less those noted as idle
+unfoldable pub unflagged : List Bool → List ℕ → ℕ → List step.Step
+unflagged idle d zero = []
+unflagged idle d (suc k) = unflagged idle d k ++ unnoted (getD idle k false) (readStep d k)
+
+-- the notes, in an array with this much room, say of each step whether it is idle where it stands
+pub record Noted (P : Problem) (S : standing.Standing) (d : List ℕ) (room : ℕ) (idle : List Bool) : Type 0 where
+  pub tells : u16At d 5 ≤ room → unflagged idle d (u16At d 5) ≡ step.lessIdle P S (stepsOf d)
 
 -- the call's answer, and what it leaves in the buffer that held `marks`
 pub record Answers (c h d marks : List ℕ) (r : Answer Judgement) (left : List ℕ) : Type 0 where

@@ -1,14 +1,14 @@
--- A derivation's steps, read from its bytes and taken one after the other: refusals 15 to 17, each step checked in full before the next.
+-- A derivation's steps, read from its bytes and taken one after the other: refusals 15 to 17 and 29, each step checked in full before the next.
 use Prim.Native.Nat.{ℕ, zero, suc, _+_, _*_}
-use mathlib.Core.Bool.{cond}
+use mathlib.Core.Bool.{Bool, cond, not, _||_}
 use mathlib.Core.List.{List, [], _∷_}
 use mathlib.Core.Option.{Option, none, some}
 use lib.Dec.{eqb}
 use Rattle.circuit.specs.Bytes.{byteAt, u16At}
 use Rattle.circuit.specs.Answer.{Answer, refused, given, ask, andThen}
 use Rattle.laws.specs.Problem.{Problem}
-use Rattle.laws.specs.Standing.{Standing}
-use Rattle.laws.specs.Step.{Kind, kinds, kindNumber, Step, inRange, met, after}
+use Rattle.laws.specs.Standing.{Standing, start}
+use Rattle.laws.specs.Step.{Kind, kinds, kindNumber, Step, inRange, met, isIdle, after}
 
 -- the first of the kinds that has a number
 unfoldable pub numbered : List Kind → ℕ → Option Kind
@@ -51,15 +51,21 @@ ofKind (some q) d k = some (stepAt q d k)
 unfoldable pub readStep : List ℕ → ℕ → Option Step
 readStep d k = ofKind (kindOf (byteAt d (stepStart k))) d k
 
--- Rules 3.3 and 3.4: one step, refused with 15, 16 or 17, or the standing that it gives.
-abbrev pub tried : Problem → Standing → Option Step → ℕ → Answer Standing
-tried P S none place = refused 15 place
-tried P S (some x) place = ask (inRange P x) 16 place (ask (met P S x) 17 place (given (after P S x)))
+-- Rules 3.3 and 3.4: one step, refused with 15, 16, 17 or 29, or the standing that it gives. Where `padded` is true idle steps are let pass, as a
+-- renewal does.
+abbrev pub tried : Bool → Problem → Standing → Option Step → ℕ → Answer Standing
+tried padded P S none place = refused 15 place
+tried padded P S (some x) place =
+    ask (inRange P x) 16 place (ask (met P S x) 17 place (ask (padded || not (isIdle P S x)) 29 place (given (after P S x))))
 
 -- Rule 3.5: the steps from k (counted from 0) on, `left` of them, each taken on what the one before it gave.
-unfoldable pub walkFrom : Problem → List ℕ → ℕ → ℕ → Standing → Answer Standing
-walkFrom P d k zero S = given S
-walkFrom P d k (suc left) S = andThen (tried P S (readStep d k) (suc k)) (walkFrom P d (suc k) left)
+unfoldable pub walkFrom : Bool → Problem → List ℕ → ℕ → ℕ → Standing → Answer Standing
+walkFrom padded P d k zero S = given S
+walkFrom padded P d k (suc left) S = andThen (tried padded P S (readStep d k) (suc k)) (walkFrom padded P d (suc k) left)
+
+-- all steps, the first of them taken on the start
+abbrev pub walked : Bool → Problem → List ℕ → Answer Standing
+walked padded P d = walkFrom padded P d 0 (u16At d 5) (start P)
 
 -- the same steps as a list, those of an unknown kind left out
 abbrev pub listed : Option Step → List Step → List Step

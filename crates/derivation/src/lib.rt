@@ -6,4 +6,5 @@ mod kinds;
 pub mod marks;
 pub mod sheets;
 pub mod step;
+pub mod walk;
 pub mod writer;

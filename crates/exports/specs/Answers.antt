@@ -8,7 +8,7 @@ use Rattle.derivation.specs.Call.{Verdict, Fixed, Open, Judgement}
 use Rattle.solver.specs.Call.{Solved}
 
 -- The returned value of every call. High half: the refusal's number, 0 on a result. Low half: the refusal's place; on a result the signal q of
--- an accepted pair, 0 for the other calls. Places and signals are far below 2^32, so the low half holds them whole.
+-- an accepted pair, the new length of a renewed derivation, 0 for the other calls. Each is far below 2^32, so the low half holds it whole.
 abbrev pub returned : ℕ → ℕ → ℕ
 returned number low = number * 4294967296 + low % 4294967296
 
@@ -55,3 +55,7 @@ solveAnswer r before =
     (λ x.
     x .judgement .count ∷ verdictNumber (x .judgement .verdict) ∷ x .judgement .shown .count ∷ x .judgement .shown .missed ∷ x .bytes ∷ [])
     before
+
+-- renewing a derivation: its new length is returned, and there is no array
+abbrev pub renewReturned : Answer ℕ → ℕ
+renewReturned r = returnedBy r (λ bytes. bytes)

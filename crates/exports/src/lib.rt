@@ -1,5 +1,5 @@
-// The four public calls for callers in other languages. A slice passes as a pointer and a length, a lent array as a pointer. The returned value holds a
-// refusal's number and place, or q; lent memory is written only on a result that has something to hand over.
+// The five public calls for callers in other languages. A slice passes as a pointer and a length, a lent array as a pointer. The returned value holds a
+// refusal's number and place, or q, or a length; lent memory is written only on a result that has something to hand over.
 
 use circuit::reader::CircuitAnswer;
 use circuit::reader::check_circuit;
@@ -8,6 +8,8 @@ use derivation::answer::Verdict;
 use derivation::call::check_derivation;
 use pair::PairAnswer;
 use pair::check_pair;
+use renewal::answer::RenewalAnswer;
+use renewal::call::renew;
 use solver::answer::SolverAnswer;
 use solver::call::solve;
 ghost use mathlib.Core.Path.{_≡_};
@@ -16,11 +18,12 @@ ghost use lib.ListN.{length};
 ghost use Rattle.derivation.specs.Answer.{verdictIn};
 ghost use Rattle.derivation.specs.Call.{derivationCall, derivationMarks};
 ghost use Rattle.pair.specs.Call.{pairCall};
+ghost use Rattle.renewal.specs.Call.{renewalCall, renewalOutput};
 ghost use Rattle.solver.specs.Call.{solverCall, solverOutput};
 ghost use Rattle.exports.specs.Answers.{readReturned, readAnswer, pairReturned, verdictNumber, markReturned, markAnswer, solveReturned, solveAnswer};
-ghost use Rattle.exports.specs.Answers.{returned as Answers·returned};
+ghost use Rattle.exports.specs.Answers.{renewReturned, returned as Answers·returned};
 
-// The returned value: the number in the high half, the place or q in the low half.
+// The returned value: the number in the high half, the place, q or a length in the low half.
 fn returned(number: u32, low: usize) -> u64
     ensures { λ r. ⌜ r ≡ Answers·returned number low ⌝ }
 {
@@ -131,5 +134,25 @@ pub extern "C" fn yolqushek_solve(
             ];
             returned(0, 0)
         }
+    }
+}
+
+// Renews a derivation with a sheet, and returns its new length. The renewed derivation goes to `output`.
+#[no_mangle]
+pub extern "C" fn yolqushek_renew(
+    circuit: &[u8],
+    sheet: &[u8],
+    derivation: &[u8],
+    output: &mut [u8],
+) -> u64
+    ensures returned { λ r. ⌜ r
+        ≡ renewReturned (renewalCall (now (circuit .entry)) (now (sheet .entry)) (now (derivation .entry)) (length (now (output .entry)))) ⌝ }
+    ensures written { λ r. ⌜ now (output .exit)
+        ≡ renewalOutput (now (circuit .entry)) (now (sheet .entry)) (now (derivation .entry)) (now (output .entry)) ⌝ }
+{
+    let result = renew(circuit, sheet, derivation, output);
+    match result {
+        RenewalAnswer::Refused { number, place } => returned(number, place),
+        RenewalAnswer::Renewed { bytes } => returned(0, bytes),
     }
 }

@@ -11,6 +11,7 @@ pub mod Sound
 pub mod Monotone
 pub mod Optimum
 pub mod Turns
+pub mod Idle
 pub mod Best
 pub mod Greedy
 pub mod KindLaws

@@ -9,7 +9,7 @@ use lib.Dec.{eqb}
 use borrow.Author.Tests.{eq-eqb, ne-eqb, leb-true}
 use Rattle.laws.specs.Problem.{Problem}
 use Rattle.laws.specs.Standing.{Standing, put, add, lower, mark, Change, atMost, fixed, apply, idle, bounds, marks, value}
-use Rattle.laws.specs.Step.{Step, fits, change, after, replay, accepted}
+use Rattle.laws.specs.Step.{Step, change, after, replay, each}
 use Rattle.laws.specs.Sound.{AtLeast}
 use Rattle.laws.proofs.Sum.{and-left, and-right, and-both, or-right, true-or-false, by-equal}
 
@@ -144,11 +144,11 @@ unfolding replay
 replay-append P S [] ys = refl
 replay-append P S (x ∷ xs) ys = replay-append P (after P S x) xs ys
 
-pub accepted-append : (P : Problem) (S : Standing) (xs ys : List Step)
-    → accepted P S xs ≡ true → accepted P (replay P S xs) ys ≡ true → accepted P S (xs ++ ys) ≡ true
-unfolding accepted replay
-accepted-append P S [] ys e f = f
-accepted-append P S (x ∷ xs) ys e f =
-    let here = fits P S x in
-    let rest = accepted P (after P S x) xs in
-    and-both here _ (and-left here rest e) (accepted-append P (after P S x) xs ys (and-right here rest e) f)
+pub each-append : (test : Problem → Standing → Step → Bool) (P : Problem) (S : Standing) (xs ys : List Step)
+    → each test P S xs ≡ true → each test P (replay P S xs) ys ≡ true → each test P S (xs ++ ys) ≡ true
+unfolding each replay
+each-append test P S [] ys e f = f
+each-append test P S (x ∷ xs) ys e f =
+    let here = test P S x in
+    let rest = each test P (after P S x) xs in
+    and-both here _ (and-left here rest e) (each-append test P (after P S x) xs ys (and-right here rest e) f)

@@ -1,4 +1,4 @@
--- The solver's steps are accepted, at most two for each target; no step adds to what they reach, and no accepted derivation exceeds it.
+-- The solver's steps are accepted, so none is idle, at most two for each target; no step adds to what they reach, and no derivation of met steps exceeds it.
 use Prim.Native.Nat.{ℕ, _+_, _*_, _≤_}
 use mathlib.Core.Path.{_≡_, sym}
 use mathlib.Core.Bool.{true}
@@ -8,11 +8,11 @@ use native.Mathlib.Omega.{arith}
 use lib.ListN.{length, length-append}
 use Rattle.laws.specs.Problem.{Problem}
 use Rattle.laws.specs.Standing.{Standing, start, bounds}
-use Rattle.laws.specs.Step.{Step, change, replay, accepted}
+use Rattle.laws.specs.Step.{Step, change, adds, replay, accepted, formerly}
 use Rattle.laws.specs.Sound.{AtLeast, Closed}
 use Rattle.laws.specs.Solver.{addsBy, bounded, boundSteps, markSteps, solution, stepsFor}
 use Rattle.laws.proofs.Sum.{and-both, true-or-false, false-by}
-use Rattle.laws.proofs.Order.{sorts, replay-adds, replay-append, accepted-append}
+use Rattle.laws.proofs.Order.{sorts, replay-adds, replay-append, each-append}
 use Rattle.laws.proofs.Optimum.{optimum}
 use Rattle.laws.proofs.Best.{lowers-says, lowers-holds}
 use Rattle.laws.proofs.Greedy.{lowering-from, bounds-end, nothing-lowers}
@@ -34,7 +34,7 @@ module _ (P : Problem) where
   pub solution-accepted : accepted P (start P) (solution P) ≡ true
   unfolding solution markSteps
   solution-accepted =
-      accepted-append P (start P) (boundSteps P) (markSteps P) (bounds-end P .are-accepted) (steps-end marking P (bounded P) .are-accepted)
+      each-append adds P (start P) (boundSteps P) (markSteps P) (bounds-end P .are-accepted) (steps-end marking P (bounded P) .are-accepted)
 
   -- at most two steps for each target
   pub solution-short : (t : ℕ) → stepsFor t (solution P) ≤ 2
@@ -74,6 +74,6 @@ module _ (P : Problem) where
   pub solution-closed : Closed P (replay P (start P) (solution P))
   solution-closed = rw last-solution last-closed
 
-  pub solution-best : (xs : List Step) → accepted P (start P) xs ≡ true
+  pub solution-best : (xs : List Step) → formerly P (start P) xs ≡ true
       → AtLeast (replay P (start P) xs) (replay P (start P) (solution P))
   solution-best = optimum solution-closed (replay-adds P (start P) (solution P))

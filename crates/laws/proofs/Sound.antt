@@ -25,7 +25,8 @@ use Rattle.laws.specs.Step.{
   change,
   after,
   replay,
-  accepted,
+  each,
+  formerly,
 }
 use Rattle.laws.specs.Sound.{Sound}
 use Rattle.laws.proofs.Sum.{and-left, and-right}
@@ -110,9 +111,9 @@ module _ {P : Problem} {Allowed : List ℕ → Type 0} where
         (and-left _ _ (and-right (within (P .n) (x .target)) _ i))
         (and-right (inRange P x) _ e))
 
-    -- a derivation
-    pub sound : (S : Standing) → Sound P Allowed S → (xs : List Step) → accepted P S xs ≡ true → Sound P Allowed (replay P S xs)
-    unfolding accepted replay
+    -- a derivation, idle steps or not
+    pub sound : (S : Standing) → Sound P Allowed S → (xs : List Step) → formerly P S xs ≡ true → Sound P Allowed (replay P S xs)
+    unfolding each replay
     sound S H [] e = H
     sound S H (x ∷ xs) e = sound (after P S x) (step-sound S x H (and-left (fits P S x) _ e)) xs (and-right (fits P S x) _ e)
 

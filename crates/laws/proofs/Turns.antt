@@ -11,8 +11,8 @@ use lib.ListN.{length}
 use borrow.Author.Tests.{leb-true, eq-eqb, ne-eqb, not-true}
 use Rattle.laws.specs.Problem.{Problem}
 use Rattle.laws.specs.Sum.{sum, keep}
-use Rattle.laws.specs.Standing.{Standing, add, idle}
-use Rattle.laws.specs.Step.{Step, within, inRange, fits, change, adds, after, replay, accepted}
+use Rattle.laws.specs.Standing.{Standing, add}
+use Rattle.laws.specs.Step.{Step, within, inRange, fits, isIdle, adds, after, replay, each, accepted}
 use Rattle.laws.specs.Solver.{taken, turns, stepsFor}
 use Rattle.laws.proofs.Sum.{and-left, and-right, and-both, by-equal, keep-true, keep-false, keep-le, sum-mono, sum-out}
 use Rattle.laws.proofs.Order.{add-same, add-other}
@@ -25,11 +25,11 @@ pub target-within : (P : Problem) (x : Step) → inRange P x ≡ true → (1 ≤
 unfolding inRange
 target-within P x e = within-says (P .n) (x .target) (and-left _ _ e)
 
-pub adds-says : (P : Problem) (S : Standing) (x : Step) → adds P S x ≡ true → (fits P S x ≡ true) × (idle (change P S x) S (x .target) ≡ false)
+pub adds-says : (P : Problem) (S : Standing) (x : Step) → adds P S x ≡ true → (fits P S x ≡ true) × (isIdle P S x ≡ false)
 unfolding adds
 adds-says P S x e = (and-left _ _ e, not-true _ (and-right (fits P S x) _ e))
 
-pub adds-holds : (P : Problem) (S : Standing) (x : Step) → fits P S x ≡ true → idle (change P S x) S (x .target) ≡ false → adds P S x ≡ true
+pub adds-holds : (P : Problem) (S : Standing) (x : Step) → fits P S x ≡ true → isIdle P S x ≡ false → adds P S x ≡ true
 unfolding adds
 adds-holds P S x e g = and-both _ _ e (ap not g)
 
@@ -93,7 +93,7 @@ pub record Turn (P : Problem) (Holds : (ℕ → Bool) → Standing → Type 0) (
   pub new : done (x .target) ≡ false
   pub holds : Holds (add done (x .target)) (after P S x)
 
--- each turn takes a step that is in range and met, with a target that is not done, and keeps the invariant
+-- each turn takes a step that adds, with a target that is not done, and keeps the invariant
 pub record Phase (P : Problem) (choose : Standing → Option Step) (Holds : (ℕ → Bool) → Standing → Type 0) : Type 0 where
   pub turn : (done : ℕ → Bool) (S : Standing) (x : Step) → Holds done S → choose S ≡ some x → Turn P Holds done S x
 
@@ -141,12 +141,12 @@ module _ {P : Problem} {choose : Standing → Option Step} {Holds : (ℕ → Boo
 
   -- a phase of n turns from where no target is done
   pub phase-ends : (S : Standing) → Holds none-done S → Ends P choose Holds S (turns choose P (P .n) S)
-  unfolding accepted replay stepsFor none-done
+  unfolding each replay stepsFor none-done
   phase-ends S h =
       record {
         are-accepted =
             turns-by (λ fuel done S xs. accepted P S xs ≡ true) (λ done S h. refl) (λ fuel done S h e. refl)
-            (λ fuel done S x xs u r. and-both _ _ (adds-says P S x (u .is-new) .0) r)
+            (λ fuel done S x xs u r. and-both _ _ (u .is-new) r)
             (P .n) none-done S h;
         held =
             turns-by (λ fuel done S xs. (last : ℕ → Bool) × Holds last (replay P S xs)) (λ done S h. (done, h)) (λ fuel done S h e. (done, h))

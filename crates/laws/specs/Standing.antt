@@ -42,7 +42,7 @@ abbrev pub apply : Change → Standing → ℕ → Standing
 apply (atMost x) S t = lower S t x
 apply fixed S t = mark S t
 
--- the change gives its target nothing new
+-- Rule 3.4: the change gives its target nothing new. That the standing then stays as it is, and only then, is a theorem.
 abbrev pub idle : Change → Standing → ℕ → Bool
 idle (atMost x) S t = leb (S .bound t) x
 idle fixed S t = S .marked t

@@ -120,11 +120,32 @@ replay P S (x ∷ xs) = replay P (after P S x) xs
 unfoldable pub fits : Problem → Standing → Step → Bool
 fits P S x = inRange P x && met P S x
 
--- .. and gives something new
-unfoldable pub adds : Problem → Standing → Step → Bool
-adds P S x = fits P S x && not (idle (change P S x) S (x .target))
+-- Rule 3.4: the step lowers no bound and marks nothing.
+abbrev pub isIdle : Problem → Standing → Step → Bool
+isIdle P S x = idle (change P S x) S (x .target)
 
--- Rules 3.4 and 3.6: each step is in range and meets its rule where it stands; it may give nothing new.
-unfoldable pub accepted : Problem → Standing → List Step → Bool
-accepted P S [] = true
-accepted P S (x ∷ xs) = fits P S x && accepted P (after P S x) xs
+-- the step is in range, meets its rule and isn't idle
+unfoldable pub adds : Problem → Standing → Step → Bool
+adds P S x = fits P S x && not (isIdle P S x)
+
+-- each step passes the test where it stands
+unfoldable pub each : (Problem → Standing → Step → Bool) → Problem → Standing → List Step → Bool
+each test P S [] = true
+each test P S (x ∷ xs) = test P S x && each test P (after P S x) xs
+
+-- Rules 3.4 and 3.6: each step is in range, meets its rule and isn't idle where it stands.
+abbrev pub accepted : Problem → Standing → List Step → Bool
+accepted = each adds
+
+-- The former rule, by which a renewal reads: each step is in range and meets its rule where it stands; it may be idle.
+abbrev pub formerly : Problem → Standing → List Step → Bool
+formerly = each fits
+
+abbrev pub unless : Bool → Step → List Step → List Step
+unless true x rest = rest
+unless false x rest = x ∷ rest
+
+-- Rule 6.11: the steps that aren't idle where they stand, in their order.
+unfoldable pub lessIdle : Problem → Standing → List Step → List Step
+lessIdle P S [] = []
+lessIdle P S (x ∷ xs) = unless (isIdle P S x) x (lessIdle P (after P S x) xs)

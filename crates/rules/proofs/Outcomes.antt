@@ -13,20 +13,20 @@ use Rattle.laws.specs.Problem.{largest}
 use Rattle.laws.specs.Standing.{add, lower, isInput}
 use Rattle.laws.specs.Standing as laws
 use Rattle.laws.specs.Step.{Rule}
-use Rattle.laws.proofs.Sum.{or-false}
+use Rattle.laws.proofs.Sum.{or-false, true-or-false}
 use Rattle.rules.specs.View.{boundIn, markIn, viewOf}
 use Rattle.rules.specs.Promise.{Gives, Says, isMet, boundAfter}
 use Rattle.rules.specs.declared.standing.Verdict.{Verdict}
 use Rattle.rules.specs.declared.standing.Verdict.the-variants.{Unmet, AtMost}
-use Rattle.rules.proofs.ViewLaws.{bound-within, bound-largest, mark-none, mark-set, view-lower, view-mark}
+use Rattle.rules.proofs.ViewLaws.{bound-within, bound-largest, mark-within, mark-none, mark-set, view-lower, view-mark}
 
-module _ {told : Bool} {before after : laws.Standing} {t : ℕ} {x : Rule} where
-  gives-no : told ≡ false → after ≡ before → x .met ≡ false → Gives told before after t x
-  gives-no is same e = record { told-met = is ∙ sym e; next = same ∙ rw e }
+module _ {told idle : Bool} {before after : laws.Standing} {t : ℕ} {x : Rule} where
+  gives-no : told ≡ false → after ≡ before → x .met ≡ false → Gives told idle before after t x
+  gives-no is same e = record { told-met = is ∙ sym e; told-idle = λ m. true-or-false (x .met) m e; next = same ∙ rw e }
 
-  gives-yes : {change : laws.Change} → told ≡ true → after ≡ laws.apply change before t
-      → (x .met ≡ true) × (x .change ≡ change) → Gives told before after t x
-  gives-yes is same e = record { told-met = is ∙ sym (e .0); next = same ∙ rw (e .0, e .1) }
+  gives-yes : {change : laws.Change} → told ≡ true → idle ≡ laws.idle change before t → after ≡ laws.apply change before t
+      → (x .met ≡ true) × (x .change ≡ change) → Gives told idle before after t x
+  gives-yes is still same e = record { told-met = is ∙ sym (e .0); told-idle = λ m. rw (e .1) still; next = same ∙ rw (e .0, e .1) }
 
 -- Stores
 
@@ -35,18 +35,32 @@ lowered-view : (p : ℕ) (bounds : List ℕ) (marks : List Bool) (t x v : ℕ) �
 lowered-view p bounds marks t x v h e =
     ap (λ (k : ℕ). viewOf p (set bounds t k) marks) (e ∙ ap (λ (k : ℕ). min k x) (bound-within p bounds t h)) ∙ view-lower p bounds marks t x h
 
+-- a bound that isn't lowered is as it was
+still-there : (b y : ℕ) → eqb (min b y) b ≡ leb b y
+still-there b y = go (decLe b y)
+  where
+    go : Dec (b ≤ y) → eqb (min b y) b ≡ leb b y
+    go (yes h) = rw (eq-eqb (min b y) b (omega arith), le-leb b y h)
+    go (no h) = rw (ne-eqb (min b y) b (λ e. h (omega arith)), lt-leb b y (omega arith))
+
 -- the target's bound is what the verdict makes of it
 pub gives-bound : (p : ℕ) (bounds : List ℕ) (marks : List Bool) (t v : ℕ) (verdict : Verdict) {x : Rule} → t < length bounds
-    → v ≡ boundAfter verdict (getD bounds t 0) → Says verdict x → Gives (isMet verdict) (viewOf p bounds marks) (viewOf p (set bounds t v) marks) t x
+    → v ≡ boundAfter verdict (getD bounds t 0) → Says verdict x
+    → Gives (isMet verdict) (eqb v (getD bounds t 0)) (viewOf p bounds marks) (viewOf p (set bounds t v) marks) t x
+unfolding viewOf
 gives-bound p bounds marks t v Unmet h e says =
     gives-no refl (ap (λ (l : List ℕ). viewOf p l marks) (ap (λ (k : ℕ). set bounds t k) e ∙ set-getD bounds t 0)) says
-gives-bound p bounds marks t v (AtMost y) h e says = gives-yes refl (lowered-view p bounds marks t y v h e) says
+gives-bound p bounds marks t v (AtMost y) h e says =
+    let still : eqb v (getD bounds t 0) ≡ leb (boundIn p bounds t) y
+    = ap (λ (k : ℕ). eqb k (getD bounds t 0)) e ∙ still-there (getD bounds t 0) y ∙ ap (λ (k : ℕ). leb k y) (bound-within p bounds t h) in
+    gives-yes refl still (lowered-view p bounds marks t y v h e) says
 
 -- the target is marked if it was or the rule is met
 pub gives-mark : (p : ℕ) (bounds : List ℕ) (marks : List Bool) (t : ℕ) (v b : Bool) {x : Rule} → t < length marks → v ≡ (getD marks t false || b)
-    → b ≡ x .met → x .change ≡ laws.fixed → Gives b (viewOf p bounds marks) (viewOf p bounds (set marks t v)) t x
+    → b ≡ x .met → x .change ≡ laws.fixed → Gives b (getD marks t false) (viewOf p bounds marks) (viewOf p bounds (set marks t v)) t x
+unfolding viewOf
 gives-mark p bounds marks t v true h e met change =
-    gives-yes refl (ap (λ (a : Bool). viewOf p bounds (set marks t a)) (e ∙ or-true (getD marks t false)) ∙ view-mark p bounds marks t h) (sym met, change)
+    gives-yes refl (mark-within false marks t h) (ap (λ (a : Bool). viewOf p bounds (set marks t a)) (e ∙ or-true (getD marks t false)) ∙ view-mark p bounds marks t h) (sym met, change)
 gives-mark p bounds marks t v false h e met change =
     gives-no refl
     (ap (λ (l : List Bool). viewOf p bounds l) (ap (λ (a : Bool). set marks t a) (e ∙ or-false (getD marks t false)) ∙ set-getD marks t false)) (sym met)

@@ -24,9 +24,10 @@ view p st = viewOf p (st .bounds) (st .marks)
 abbrev pub subjectIn : ℕ → ℕ → List ℕ → Subject
 subjectIn p n part = record { p = p; n = n; equation = constraintIn part }
 
--- Rule 3.3: it is told whether the rule is met, and target t has its change if it is.
-pub record Gives (told : Bool) (before after : laws.Standing) (t : ℕ) (x : step.Rule) : Type 0 where
+-- Rules 3.3 and 3.4: it is told whether the rule is met and, if it is, whether the step is idle; target t has the rule's change if it is met.
+pub record Gives (told idle : Bool) (before after : laws.Standing) (t : ℕ) (x : step.Rule) : Type 0 where
   pub told-met : told ≡ x .met
+  pub told-idle : x .met ≡ true → idle ≡ laws.idle (x .change) before t
   pub next : after ≡ cond (x .met) (laws.apply (x .change) before t) before
 
 -- what a verdict says of a rule that gives bounds

@@ -23,10 +23,11 @@ pub struct Standing {
     pub marks: [bool; 257],
 }
 
-// The standing after a step, the same where the rule isn't met.
+// The standing after a step, the same where the rule isn't met; and of a step that meets its rule whether it is idle.
 pub struct Outcome {
     pub next: Standing,
     pub met: bool,
+    pub idle: bool,
 }
 
 // What a rule that gives bounds says of a step: not met, or met, and the bound that its target then has at most.
@@ -112,70 +113,102 @@ impl Standing {
 
     pub fn root(mut self, part: &[u8], p: u32, t: u32) -> Outcome
         ensures { λ o. ⌜ ((n r : ℕ) (row : List ℕ) → Asked laws.Root p n (now (part .entry)) row t r
-            → Gives (o .met) (view p self) (view p (o .next)) t (rule laws.Root (subjectIn p n (now (part .entry))) (view p self) t r)) ⌝ }
+            → Gives (o .met) (o .idle) (view p self) (view p (o .next)) t (rule laws.Root (subjectIn p n (now (part .entry))) (view p self) t r)) ⌝ }
     {
         let verdict = root_verdict(part, p, t);
         let met = is_met(verdict);
         let at = t as usize;
+        let mut idle = true;
         if at < 257 {
-            self.bounds[at] = bound_after(verdict, self.bounds[at]);
+            let bound = bound_after(verdict, self.bounds[at]);
+            idle = bound == self.bounds[at];
+            self.bounds[at] = bound;
         }
-        Outcome { next: self, met }
+        Outcome {
+            next: self,
+            met,
+            idle,
+        }
     }
 
     pub fn sum(mut self, part: &[u8], row: &[u32], p: u32, t: u32) -> Outcome
         ensures { λ o. ⌜ ((n r : ℕ) → Asked laws.Sum p n (now (part .entry)) (now (row .entry)) t r
-            → Gives (o .met) (view p self) (view p (o .next)) t (rule laws.Sum (subjectIn p n (now (part .entry))) (view p self) t r)) ⌝ }
+            → Gives (o .met) (o .idle) (view p self) (view p (o .next)) t (rule laws.Sum (subjectIn p n (now (part .entry))) (view p self) t r)) ⌝ }
     {
         let verdict = sum_verdict(part, row, &self.bounds, p, t);
         let met = is_met(verdict);
         let at = t as usize;
+        let mut idle = true;
         if at < 257 {
-            self.bounds[at] = bound_after(verdict, self.bounds[at]);
+            let lowered = bound_after(verdict, self.bounds[at]);
+            idle = lowered == self.bounds[at];
+            self.bounds[at] = lowered;
         }
-        Outcome { next: self, met }
+        Outcome {
+            next: self,
+            met,
+            idle,
+        }
     }
 
     pub fn zero(mut self, p: u32, t: u32) -> Outcome
         ensures { λ o. ⌜ ((n r : ℕ) (part row : List ℕ) → Asked laws.Zero p n part row t r
-            → Gives (o .met) (view p self) (view p (o .next)) t (rule laws.Zero (subjectIn p n part) (view p self) t r)) ⌝ }
+            → Gives (o .met) (o .idle) (view p self) (view p (o .next)) t (rule laws.Zero (subjectIn p n part) (view p self) t r)) ⌝ }
     {
         let met = bound_at(&self.bounds, t as usize, p) == 0;
         let at = t as usize;
+        let mut idle = true;
         if at < 257 {
-            self.marks[at] = self.marks[at] | met;
+            idle = self.marks[at];
+            self.marks[at] = idle | met;
         }
-        Outcome { next: self, met }
+        Outcome {
+            next: self,
+            met,
+            idle,
+        }
     }
 
     pub fn product(mut self, part: &[u8], t: u32) -> Outcome
         ensures { λ o. ⌜ ((p n r : ℕ) (row : List ℕ) → Asked laws.Product p n (now (part .entry)) row t r
-            → Gives (o .met) (view p self) (view p (o .next)) t (rule laws.Product (subjectIn p n (now (part .entry))) (view p self) t r)) ⌝ }
+            → Gives (o .met) (o .idle) (view p self) (view p (o .next)) t (rule laws.Product (subjectIn p n (now (part .entry))) (view p self) t r)) ⌝ }
     {
         let met = product_met(part, &self.marks, t);
         let at = t as usize;
+        let mut idle = true;
         if at < 257 {
-            self.marks[at] = self.marks[at] | met;
+            idle = self.marks[at];
+            self.marks[at] = idle | met;
         }
-        Outcome { next: self, met }
+        Outcome {
+            next: self,
+            met,
+            idle,
+        }
     }
 
     pub fn digits(mut self, part: &[u8], row: &[u32], p: u32, t: u32, r: u32) -> Outcome
         ensures { λ o. ⌜ ((n : ℕ) → Asked laws.Digits p n (now (part .entry)) (now (row .entry)) t r
-            → Gives (o .met) (view p self) (view p (o .next)) t (rule laws.Digits (subjectIn p n (now (part .entry))) (view p self) t r)) ⌝ }
+            → Gives (o .met) (o .idle) (view p self) (view p (o .next)) t (rule laws.Digits (subjectIn p n (now (part .entry))) (view p self) t r)) ⌝ }
     {
         let met = digits_met(part, row, &self.bounds, &self.marks, p, t, r);
         let at = t as usize;
+        let mut idle = true;
         if at < 257 {
-            self.marks[at] = self.marks[at] | met;
+            idle = self.marks[at];
+            self.marks[at] = idle | met;
         }
-        Outcome { next: self, met }
+        Outcome {
+            next: self,
+            met,
+            idle,
+        }
     }
 
     // A step of any kind, by the constraint at the start of the part and its row, at which only some rules look.
     pub fn step(self, kind: Kind, part: &[u8], row: &[u32], p: u32, t: u32, r: u32) -> Outcome
         ensures { λ o. ⌜ ((n : ℕ) → Asked (kindOf kind) p n (now (part .entry)) (now (row .entry)) t r
-            → Gives (o .met) (view p self) (view p (o .next)) t (rule (kindOf kind) (subjectIn p n (now (part .entry))) (view p self) t r)) ⌝ }
+            → Gives (o .met) (o .idle) (view p self) (view p (o .next)) t (rule (kindOf kind) (subjectIn p n (now (part .entry))) (view p self) t r)) ⌝ }
     {
         match kind {
             Kind::Root => self.root(part, p, t),

@@ -12,8 +12,9 @@ use Rattle.circuit.specs.Circuit.{Circuit}
 use Rattle.circuit.specs.Answer.{given, ask}
 use Rattle.circuit.proofs.WellFormed.{read-well-formed}
 use Rattle.laws.specs.Problem.{Problem}
-use Rattle.laws.specs.Standing.{Standing}
+use Rattle.laws.specs.Standing.{Standing, start}
 use Rattle.laws.specs.Solver.{solution}
+use Rattle.laws.proofs.Idle.{accepted-formerly}
 use Rattle.laws.proofs.Solution.{solution-accepted, solution-short, solution-length, solution-closed, solution-best}
 use Rattle.tags.specs.Tag.{Sheet, tagged}
 use Rattle.tags.specs.Sheet.{Unrefused}
@@ -54,7 +55,9 @@ module _ (P : Problem) (T : Sheet) (few : P .n ≤ 256) where
         is-whole = refl;
         is-short = λ t. rw own-steps (solution-short P t);
         is-closed = rw own-steps (solution-closed P);
-        is-best = λ e a. rw own-steps (solution-best P (stepsOf e) (derivation-accepted P T e (P .n) (a .is) .met));
+        is-best = λ e a.
+            rw own-steps
+            (solution-best P (stepsOf e) (accepted-formerly P (start P) (stepsOf e) (derivation-accepted P T e (P .n) (a .is) .adds)));
       }
 
 -- The call on a circuit and a sheet that aren't refused
@@ -88,13 +91,7 @@ module _ (output : List ℕ) {c h : List ℕ} {C : Circuit} {T : Sheet} (U : Unr
       → (s : ℕ) → 1 ≤ s → s ≤ C .n → getD (derivationMarks c h d marks) (s - 1) 0 ≡ bit (lastOf P d .marked s)
   writes d marks a h s l m =
       let A = derivation-accepted P T d (C .n) (a .is) in
-      let F = A .framed in
-      let longer : AcceptedAs P d (length marks)
-      = record {
-        framed = record { long = F .long; mark = F .mark; version = F .version; few = F .few; sized = F .sized; roomy = h };
-        met = A .met;
-        counted = A .counted;
-      } in
+      let longer : AcceptedAs P d (length marks) = record { framed = A .framed; roomy = h; adds = A .adds; counted = A .counted } in
       rw (marks-left d U marks (accepted-derivation P T d (length marks) longer)) (marks-at (C .n) (lastOf P d) (drop (C .n) marks) s l m)
 
   demand-3 : Demand3 c h C T output (solverCall c h (length output)) (solverOutput c h output)

@@ -1,4 +1,4 @@
--- EMPTY, the solver (rule 7.6): with the sheet that says nothing the call answers and writes what it did before there were sheets.
+-- EMPTY, the solver (rule 7.7): with the sheet that says nothing the call answers and writes what it does on the circuit alone.
 use Prim.Native.Nat.{ℕ}
 use mathlib.Core.Path.{_≡_, refl}
 use mathlib.Core.List.{List}
@@ -16,7 +16,7 @@ use Rattle.tags.proofs.Empty.{noTags, empty-given, empty-problem}
 use Rattle.derivation.proofs.Empty.{plainJudged, empty-judged}
 use Rattle.solver.specs.Call.{Solved, own, reached, solved, roomFor, solverOn, solverCall, leftBy, solverOutput}
 
--- the call on a circuit alone, as it was
+-- the call on a circuit alone
 unfoldable pub plainCall : Circuit → ℕ → Answer Solved
 plainCall C room =
     ask (leb (roomFor (C .n)) room) 25 0

@@ -142,9 +142,9 @@ module _ {c table ends rows lasts befores owners : List ℕ} {z : Sizes} {base :
         let walk = walkable (G .prepared .made) (G .links) (T .least) (T .most) in
         search needs
 
-    module _ {part row : List ℕ} (is-part : part ≡ partNamed (namesOf (kindOf q)) c table k) (is-row : row ≡ rowOf table ends rows k) {b : Bool}
+    module _ {part row : List ℕ} (is-part : part ≡ partNamed (namesOf (kindOf q)) c table k) (is-row : row ≡ rowOf table ends rows k) {b idle : Bool}
         (bounds′ : List ℕ) (marks′ : List Bool)
-        (given-step : (n : ℕ) → Asked (kindOf q) p n part row t r → Gives b S (viewOf p bounds′ marks′) t (rule (kindOf q) (subjectIn p n part) S t r)) where
+        (given-step : (n : ℕ) → Asked (kindOf q) p n part row t r → Gives b idle S (viewOf p bounds′ marks′) t (rule (kindOf q) (subjectIn p n part) S t r)) where
       D : Prepared c table ends rows z
       D = G .prepared
 

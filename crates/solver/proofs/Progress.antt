@@ -111,9 +111,9 @@ module _ {choose : Standing → Option Step} {P : Problem} {S₀ : Standing} {ou
 -- a step that adds, taken by the part of the file that it names and the row of its constraint, leads to the standing after it
 module _ {c table ends rows : List ℕ} {z : Sizes} (D : Prepared c table ends rows z) (x : Step) {part row : List ℕ}
     (is-part : part ≡ partNamed (namesOf (x .kind)) c table (x .constraint)) (is-row : row ≡ rowOf table ends rows (x .constraint))
-    {b : Bool} {S S′ : Standing}
+    {b idle : Bool} {S S′ : Standing}
     (gives : Asked (x .kind) (z .p) (z .n) part row (x .target) (x .reference)
-    → Gives b S S′ (x .target) (rule (x .kind) (subjectIn (z .p) (z .n) part) S (x .target) (x .reference))) where
+    → Gives b idle S S′ (x .target) (rule (x .kind) (subjectIn (z .p) (z .n) part) S (x .target) (x .reference))) where
   pub step-taken : (sort : Change → Bool) (first : ℕ → ℕ) → addsBy sort (given (circuitOf c) first) S x ≡ true
       → S′ ≡ after (given (circuitOf c) first) S x
   unfolding addsBy ruleIn after change met

@@ -1,4 +1,4 @@
--- TAGGED: a circuit with a sheet as a problem is sensible, and the allowed runs obey it. So accepted derivations are sound over them.
+-- TAGGED: a circuit with a sheet as a problem is sensible, and the allowed runs obey it. So derivations of met steps, idle or not, are sound over them.
 use Prim.Native.Nat.{ℕ, zero, suc, _-_, _≤_, _<_, min}
 use mathlib.Core.Path.{_≡_, refl}
 use mathlib.Core.Bool.{Bool, true, false, cond}
@@ -10,7 +10,7 @@ use Rattle.circuit.specs.Circuit.{Circuit, WellFormed, valueOf}
 use Rattle.laws.specs.Problem as laws
 use Rattle.laws.specs.Problem.{Sensible}
 use Rattle.laws.specs.Standing.{isInput, start}
-use Rattle.laws.specs.Step.{Step, accepted, replay}
+use Rattle.laws.specs.Step.{Step, formerly, replay}
 use Rattle.laws.specs.Sound.{Sound}
 use Rattle.laws.proofs.Sound.{sound, start-sound}
 use Rattle.laws.proofs.Sum.{and-right}
@@ -61,6 +61,6 @@ module _ {C : Circuit} (W : WellFormed C) (T : Sheet) where
       go s l h true e = input-low run a s l (leb-true s (C .i) (and-right (leb 1 s) _ e)) (omega arith)
       go s l h false e = omega arith
 
-  pub accepted-sound : (xs : List Step) → accepted (tagged C T) (start (tagged C T)) xs ≡ true
+  pub steps-sound : (xs : List Step) → formerly (tagged C T) (start (tagged C T)) xs ≡ true
       → Sound (tagged C T) (Allowed C T) (replay (tagged C T) (start (tagged C T)) xs)
-  accepted-sound xs e = sound sensible obeys (start (tagged C T)) (start-sound sensible obeys) xs e
+  steps-sound xs e = sound sensible obeys (start (tagged C T)) (start-sound sensible obeys) xs e

@@ -1,7 +1,8 @@
 // One call of a record, and whether its answer and its buffer are what the record says.
 
+use crate::record::Part;
 use crate::record::Record;
-use crate::record::part;
+use crate::record::bytes_of;
 use circuit::bytes::u16_at;
 use circuit::bytes::u32_at;
 ghost use Prim.Native.Nat.{_+_, _≤_};
@@ -13,17 +14,11 @@ const FILLING: u8 = 165;
 const UNTOUCHED: u64 = 11936128518282651045;
 
 pub(crate) fn agrees(file: &[u8], record: Record) -> bool {
-    let mut buffer = [FILLING; 4096];
+    let mut buffer = [FILLING; 32768];
     agrees_on(file, record, &mut buffer)
 }
 
 fn agrees_on(file: &[u8], record: Record, buffer: &mut [u8]) -> bool {
-    let circuit_at = record.circuit_at;
-    let circuit_size = record.circuit_size;
-    let sheet_at = record.sheet_at;
-    let sheet_size = record.sheet_size;
-    let hand_in_at = record.hand_in_at;
-    let hand_in_size = record.hand_in_size;
     let lent = record.lent;
     let at = record.answer_at;
     if buffer.len() < lent {
@@ -35,9 +30,9 @@ fn agrees_on(file: &[u8], record: Record, buffer: &mut [u8]) -> bool {
     if file.len() - 30 < at {
         return false;
     }
-    let circuit = part(file, circuit_at, circuit_size);
-    let sheet = part(file, sheet_at, sheet_size);
-    let hand_in = part(file, hand_in_at, hand_in_size);
+    let circuit = bytes_of(file, record.circuit);
+    let sheet = bytes_of(file, record.sheet);
+    let hand_in = bytes_of(file, record.hand_in);
     let kind = record.kind;
     let told = call(kind, circuit, sheet, hand_in, &mut buffer[..lent]);
     if told.returned != returned(file, at, kind) {
@@ -64,7 +59,11 @@ fn call(kind: u32, circuit: &[u8], sheet: &[u8], hand_in: &[u8], buffer: &mut [u
             returned: exports::yolqushek_pair(circuit, sheet, hand_in),
             numbers: [UNTOUCHED; 5],
         },
-        _ => solve(circuit, sheet, buffer),
+        4 => solve(circuit, sheet, buffer),
+        _ => Told {
+            returned: exports::yolqushek_renew(circuit, sheet, hand_in, buffer),
+            numbers: [UNTOUCHED; 5],
+        },
     }
 }
 
@@ -89,7 +88,7 @@ fn solve(circuit: &[u8], sheet: &[u8], buffer: &mut [u8]) -> Told {
     Told { returned, numbers }
 }
 
-// The value that the call must return: the record's number and place, or 0 and an accepted pair's signal.
+// The value that the call must return: the record's number and place, or 0 and an accepted pair's signal or the length of what a renewal wrote.
 fn returned(file: &[u8], at: usize, kind: u32) -> u64
     requires { ⌜ at + 30 ≤ length (now file) ⌝ }
 {
@@ -97,10 +96,9 @@ fn returned(file: &[u8], at: usize, kind: u32) -> u64
     if number != 0 {
         return number as u64 * 4294967296 + u32_at(file, at + 2) as u64;
     }
-    if kind == 3 {
-        u32_at(file, at + 6) as u64
-    } else {
-        0
+    match kind {
+        3 | 5 => u32_at(file, at + 6) as u64,
+        _ => 0,
     }
 }
 
@@ -108,7 +106,7 @@ fn returned(file: &[u8], at: usize, kind: u32) -> u64
 fn handed_over(kind: u32) -> usize {
     match kind {
         2 => 4,
-        3 => 0,
+        3 | 5 => 0,
         _ => 5,
     }
 }
@@ -139,7 +137,7 @@ fn is_written(file: &[u8], at: usize, buffer: &[u8]) -> bool
     requires { ⌜ at + 30 ≤ length (now file) ⌝ }
 {
     let size = u32_at(file, at + 26) as usize;
-    let written = part(file, at + 30, size);
+    let written = bytes_of(file, Part { at: at + 30, size });
     if written.len() != size {
         return false;
     }

@@ -1,14 +1,15 @@
 // How many calls of each kind agree with the vectors.
 
 use crate::call::agrees;
+use crate::record::header;
 use crate::record::read_record;
 use circuit::bytes::u32_at;
 use libc::STDOUT_FILENO;
 
-// Counts by kind, 1 to 4, and the number of the first record that doesn't agree, 0 where all do.
+// Counts by kind, 1 to 5, and the number of the first record that doesn't agree, 0 where all do.
 pub struct Tally {
-    pub calls: [u32; 5],
-    pub agreeing: [u32; 5],
+    pub calls: [u32; 6],
+    pub agreeing: [u32; 6],
     pub first: u32,
 }
 
@@ -19,7 +20,7 @@ fn more(x: u32) -> u32 {
 impl Tally {
     // With one call more; a kind that there isn't counts as one that differs.
     fn with(self, kind: u32, agrees: bool, number: u32) -> Tally {
-        if 4 < kind {
+        if 5 < kind {
             return self.differing(number);
         }
         let k = kind as usize;
@@ -44,22 +45,19 @@ impl Tally {
 pub(crate) fn run(file: &[u8]) -> Tally {
     let count = u32_at(file, 5);
     let mut tally = Tally {
-        calls: [0; 5],
-        agreeing: [0; 5],
+        calls: [0; 6],
+        agreeing: [0; 6],
         first: 0,
     };
-    let mut at: usize = 9;
-    let mut circuit_at: usize = 0;
-    let mut circuit_size: usize = 0;
+    let mut last = header();
     let mut k: u32 = 0;
     while k < count {
+        let at = last.end;
         if file.len() <= at {
             break;
         }
-        let record = read_record(file, at, circuit_at, circuit_size);
-        circuit_at = record.circuit_at;
-        circuit_size = record.circuit_size;
-        at = record.end;
+        let record = read_record(file, at, last);
+        last = record;
         let kind = record.kind;
         k += 1;
         tally = tally.with(kind, agrees(file, record), k);
@@ -89,6 +87,7 @@ pub(crate) fn print(path: &[u8], tally: Tally) {
     line(b"derivation: ", agreeing[2], calls[2]);
     line(b"pair: ", agreeing[3], calls[3]);
     line(b"solve: ", agreeing[4], calls[4]);
+    line(b"renew: ", agreeing[5], calls[5]);
     if tally.first == 0 {
         word(b"all agree\n");
     } else {

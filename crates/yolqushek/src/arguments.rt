@@ -6,6 +6,7 @@ pub enum Command {
     Help,
     Solve,
     Mark,
+    Renew,
     Wrong,
 }
 
@@ -35,6 +36,9 @@ fn command_of(word: &[u8]) -> Command {
     if check::same(word, b"mark") {
         return Command::Mark;
     }
+    if check::same(word, b"renew") {
+        return Command::Renew;
+    }
     Command::Wrong
 }
 
@@ -44,6 +48,7 @@ fn operands_of(command: Command) -> usize {
         Command::Help => 0,
         Command::Solve => 2,
         Command::Mark => 2,
+        Command::Renew => 3,
         Command::Wrong => 0,
     }
 }
@@ -54,6 +59,7 @@ fn takes_tags(command: Command) -> bool {
         Command::Help => false,
         Command::Solve => true,
         Command::Mark => true,
+        Command::Renew => true,
         Command::Wrong => false,
     }
 }

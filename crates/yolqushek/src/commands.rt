@@ -1,4 +1,4 @@
-// The program's commands: each reads its operands and what its options name, makes one call of the libraries and prints the answer.
+// The program's commands: each reads its operands and what its options name, calls the libraries and prints the answer.
 
 use crate::arguments::Request;
 use crate::files;
@@ -10,6 +10,7 @@ use derivation::answer::DerivationAnswer;
 use libc::STDERR_FILENO;
 use libc::STDIN_FILENO;
 use pair::PairAnswer;
+use renewal::answer::RenewalAnswer;
 use solver::answer::SolverAnswer;
 ghost use Rattle.io.specs.Counts.{Counts};
 
@@ -66,7 +67,7 @@ pub(crate) fn solve_input() {
     let mut output = [0u8; OUTPUT];
     let answer = solver::call::solve(&file[..n], &sheet, &mut output);
     let SolverAnswer::Refused { number, place } = answer else {
-        listing::print_listing(&file[..n], &output, answer, false);
+        listing::print_solved(&file[..n], &output, answer, false);
         return;
     };
     listing::print_refusal(number, place);
@@ -103,7 +104,7 @@ pub(crate) fn solve_file(request: Request) {
         return;
     }
     if files::write_argument(out, &output[..bytes]) {
-        listing::print_listing(&file[..n], &output, answer, request.tags != 0);
+        listing::print_solved(&file[..n], &output, answer, request.tags != 0);
     }
 }
 
@@ -114,30 +115,41 @@ fn print_refused_solver(answer: SolverAnswer) {
     listing::print_refusal(number, place);
 }
 
-// mark CIRCUIT HANDIN: judges a hand-in; one that begins with `PQT` is a pair, any other a derivation.
-pub(crate) fn mark_file(request: Request) {
+// mark CIRCUIT HANDIN and renew CIRCUIT DERIVATION OUT, which read the same files. Where there is no third operand, OUT is argument 0, which names no file.
+pub(crate) fn take_hand_in(request: Request) {
+    let out = request.operands[2];
     let mut file = [0u8; CIRCUIT];
-    let got = files::read_argument(request.operands[0], 0, &mut file);
+    let got = files::read_argument(request.operands[0], out, &mut file);
     if !got.whole {
         return;
     }
     let n = got.count;
     let mut sheet = [0u8; SHEET];
-    let tags = read_sheet(request.tags, 0, &mut sheet);
+    let tags = read_sheet(request.tags, out, &mut sheet);
     if !tags.whole {
         return;
     }
     let t = tags.count;
     let mut hand_in = [0u8; HAND_IN];
-    let hand = files::read_argument(request.operands[1], 0, &mut hand_in);
+    let hand = files::read_argument(request.operands[1], out, &mut hand_in);
     if !hand.whole {
         return;
     }
     let k = hand.count;
-    if has_mark(&hand_in[..k], PAIR_MARK) {
-        judge_pair(&file[..n], &sheet[..t], &hand_in[..k]);
+    let tagged = request.tags != 0;
+    if out == 0 {
+        judge(&file[..n], &sheet[..t], &hand_in[..k], tagged);
     } else {
-        judge_derivation(&file[..n], &sheet[..t], &hand_in[..k], request.tags != 0);
+        renew(&file[..n], &sheet[..t], &hand_in[..k], out, tagged);
+    }
+}
+
+// Judges a hand-in; one that begins with `PQT` is a pair, any other a derivation. `tagged` says whether a sheet was given, so that what is shown of it is told.
+fn judge(circuit: &[u8], sheet: &[u8], hand_in: &[u8], tagged: bool) {
+    if has_mark(hand_in, PAIR_MARK) {
+        judge_pair(circuit, sheet, hand_in);
+    } else {
+        judge_derivation(circuit, sheet, hand_in, tagged);
     }
 }
 
@@ -149,7 +161,6 @@ fn judge_pair(circuit: &[u8], sheet: &[u8], hand_in: &[u8]) {
     }
 }
 
-// `tagged` says whether a sheet was given, so that what is shown of it is told.
 fn judge_derivation(circuit: &[u8], sheet: &[u8], hand_in: &[u8], tagged: bool) {
     let mut marks = [0u8; 256];
     let answer = derivation::call::check_derivation(circuit, sheet, hand_in, &mut marks);
@@ -160,5 +171,38 @@ fn judge_derivation(circuit: &[u8], sheet: &[u8], hand_in: &[u8], tagged: bool) 
             verdict,
             shown,
         } => listing::print_judged(verdict, count, &marks, shown, tagged),
+    }
+}
+
+// Renews a derivation into the file that argument `out` names, which is not touched where anything is refused. What is renewed is no longer than what is given,
+// so it has room.
+fn renew(circuit: &[u8], sheet: &[u8], hand_in: &[u8], out: usize, tagged: bool) {
+    let mut output = [0u8; HAND_IN];
+    let answer = renewal::call::renew(circuit, sheet, hand_in, &mut output);
+    match answer {
+        RenewalAnswer::Refused { number, place } => listing::print_refusal(number, place),
+        RenewalAnswer::Renewed { bytes } => {
+            if bytes <= output.len() {
+                hand_back(circuit, sheet, &output[..bytes], out, tagged);
+            }
+        }
+    }
+}
+
+// Writes a renewed derivation and lists it. The derivation call, which accepts whatever was renewed, says what it marks and shows.
+fn hand_back(circuit: &[u8], sheet: &[u8], renewed: &[u8], out: usize, tagged: bool) {
+    let mut marks = [0u8; 256];
+    let answer = derivation::call::check_derivation(circuit, sheet, renewed, &mut marks);
+    match answer {
+        DerivationAnswer::Refused { number, place } => listing::print_refusal(number, place),
+        DerivationAnswer::Accepted {
+            count,
+            verdict,
+            shown,
+        } => {
+            if files::write_argument(out, renewed) {
+                listing::print_listing(circuit, renewed, verdict, count, shown, tagged);
+            }
+        }
     }
 }

@@ -1,4 +1,4 @@
-// What the program prints: each number is a library's answer, or read from the bytes that the solver wrote.
+// What the program prints: each number is a library's answer, or read from the bytes of the derivation that a library wrote.
 
 use crate::text::Page;
 use circuit::bytes::byte_at;
@@ -78,8 +78,8 @@ fn mark_number(page: Page, text: &mut [u8], mark: u8, signal: u64) -> Page {
     }
 }
 
-// The circuit's numbers, the derivation's steps, verdict and count, and what is shown where a sheet was given.
-pub(crate) fn print_listing(circuit: &[u8], derivation: &[u8], answer: SolverAnswer, tagged: bool) {
+// The listing of what the solver wrote; nothing where it refused.
+pub(crate) fn print_solved(circuit: &[u8], derivation: &[u8], answer: SolverAnswer, tagged: bool) {
     let SolverAnswer::Solved {
         count,
         verdict,
@@ -89,6 +89,18 @@ pub(crate) fn print_listing(circuit: &[u8], derivation: &[u8], answer: SolverAns
     else {
         return;
     };
+    print_listing(circuit, derivation, verdict, count, shown, tagged);
+}
+
+// The circuit's numbers, the derivation's steps, verdict and count, and what is shown where a sheet was given.
+pub(crate) fn print_listing(
+    circuit: &[u8],
+    derivation: &[u8],
+    verdict: Verdict,
+    count: u32,
+    shown: Shown,
+    tagged: bool,
+) {
     let mut text = io::buffer();
     let page = circuit_line(Page::empty(), &mut text, circuit);
     let page = step_lines(page, &mut text, derivation);

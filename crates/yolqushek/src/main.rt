@@ -1,5 +1,5 @@
-// The program for teachers: solves a circuit and marks hand-ins. It moves bytes and prints; what is right is in the libraries. It always ends with status 0;
-// the script bin/yolqushek sets one from what was printed.
+// The program for teachers: solves a circuit, marks hand-ins and renews derivations. It moves bytes and prints; what is right is in the libraries. It always
+// ends with status 0; the script bin/yolqushek sets one from what was printed.
 
 mod arguments;
 mod commands;
@@ -21,7 +21,8 @@ fn main() {
     match command {
         Command::Help => usage(STDOUT_FILENO),
         Command::Solve => commands::solve_file(request),
-        Command::Mark => commands::mark_file(request),
+        Command::Mark => commands::take_hand_in(request),
+        Command::Renew => commands::take_hand_in(request),
         Command::Wrong => usage(STDERR_FILENO),
     }
 }
@@ -29,11 +30,12 @@ fn main() {
 fn usage(fd: i32) {
     let written = io::write_all(
         fd,
-        b"usage: yolqushek < CIRCUIT               solve the circuit and list the derivation
-       yolqushek solve CIRCUIT OUT         the same, and write the derivation to OUT
-       yolqushek mark CIRCUIT HANDIN       judge a derivation or a pair of runs
+        b"usage: yolqushek < CIRCUIT                      solve the circuit and list the derivation
+       yolqushek solve CIRCUIT OUT              the same, and write the derivation to OUT
+       yolqushek mark CIRCUIT HANDIN            judge a derivation or a pair of runs
+       yolqushek renew CIRCUIT DERIVATION OUT   write the derivation without its idle steps to OUT, and list it
        yolqushek --help
-solve and mark also take --tags SHEET      with the tags of a sheet; tells how many are shown, and the first that isn't
+solve, mark and renew also take --tags SHEET    with the tags of a sheet; tells how many are shown, and the first that isn't
 ",
     );
     if !written {

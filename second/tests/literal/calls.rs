@@ -4,7 +4,7 @@ use second::marker::MOST_STEPS;
 use second::reader::{number16, number32, Circuit};
 use second::rules::Step;
 use second::sheet::{Tag, MOST_TAGS};
-use second::vectors::{Record, DERIVATION, PAIR, READ};
+use second::vectors::{Record, DERIVATION, PAIR, READ, RENEW};
 use second::{field, read_circuit};
 
 use crate::literal::{Literal, Tagging};
@@ -15,7 +15,7 @@ pub type Found = (u16, u32);
 /// The least is met first.
 pub type Order = (u32, u32, u32);
 
-/// The right order: by number, but 6 to 9 by place in the file and 15 to 17 by step; 26 and 27 after 10, 28 after 23.
+/// The right order: by number, but 6 to 9 by place in the file, 15 to 17 and 29 by step; 26 and 27 after 10, 28 after 23.
 pub fn right((number, place): Found) -> Order {
     (stage(number), place, u32::from(number))
 }
@@ -24,7 +24,7 @@ pub fn right((number, place): Found) -> Order {
 pub fn stage(number: u16) -> u32 {
     match number {
         6..=9 => stage(5) + 6,
-        15..=17 => stage(14) + 6,
+        15..=17 | 29 => stage(14) + 6,
         26 => stage(10) + 2,
         27 => stage(10) + 4,
         28 => stage(23) + 3,
@@ -62,6 +62,12 @@ fn faults(record: &Record) -> Vec<Found> {
             found.extend(in_derivation(hand_in));
             found.extend((circuit.len() >= 17 && *lent < u32::from(n)).then_some((14, 0)));
             found.extend(in_steps(read.as_ref(), &good_tags(circuit, sheet), [n, m], hand_in));
+        }
+        RENEW => {
+            found.extend(in_derivation(hand_in));
+            let steps = in_steps(read.as_ref(), &good_tags(circuit, sheet), [n, m], hand_in);
+            found.extend(steps.into_iter().filter(|&(number, _)| number != 29));
+            found.extend(((*lent as usize) < hand_in.len()).then_some((25, 0)));
         }
         PAIR => {
             found.extend(in_pair(read.as_ref(), circuit, [n, i, o], hand_in));
@@ -182,7 +188,7 @@ fn in_derivation(derivation: &[u8]) -> Vec<Found> {
     found
 }
 
-/// 15 to 17 of all steps that the file has; a step with a fault changes nothing.
+/// 15 to 17 and 29 of all steps that the file has; a step with a fault changes nothing. One that has a wrong field which its rule doesn't read may be idle too.
 fn in_steps(read: Option<&Circuit>, tags: &[Tag], [n, m]: [u16; 2], derivation: &[u8]) -> Vec<Found> {
     let literal = read.map(|read| Literal::new(read, tags));
     let mut standing = literal.as_ref().map(Literal::start);
@@ -194,6 +200,7 @@ fn in_steps(read: Option<&Circuit>, tags: &[Tag], [n, m]: [u16; 2], derivation: 
         found.extend((!fields).then_some((16, number)));
         if let (Some(literal), Some(now), true) = (&literal, &standing, can_be_judged(step, n, m)) {
             match literal.take(now, step) {
+                Some(next) if next == *now => found.push((29, number)),
                 Some(next) if fields => standing = Some(next),
                 Some(_) => (),
                 None => found.push((17, number)),

@@ -5,10 +5,10 @@ use Rattle.vectors.proofs.tally.run.Statement.{statement}
 use Rattle.vectors.proofs.tally.run.Tie as tie
 
 abbrev Inv-loop : tie.InvT-loop
-Inv-loop file count tally₀ at₀ circuit-at₀ circuit-size₀ k₀ tally at circuit-at circuit-size k = k ≤ count
+Inv-loop file count tally₀ last₀ k₀ tally last k = k ≤ count
 
 abbrev μ-loop : tie.MeasureT-loop
-μ-loop file count tally₀ at₀ circuit-at₀ circuit-size₀ k₀ tally at circuit-at circuit-size k = count - k
+μ-loop file count tally₀ last₀ k₀ tally last k = count - k
 
 pub run-spec : {M : Type 1} → statement M
 run-spec =
@@ -16,5 +16,5 @@ run-spec =
     (tie.spec
     Inv-loop
     μ-loop
-    (λ c κs. search needs) (λ c. search needs) (λ c κs. search needs) (λ c. search needs) (λ c κs. search needs) (λ c κs. search needs)
-    (λ c. search needs) (λ c. search needs) (λ c. search needs) (λ c. search needs))
+    (λ c κs. search needs) (λ c κs. search needs) (λ c. search needs) (λ c κs. search needs) (λ c. search needs) (λ c κs. search needs)
+    (λ c κs. search needs) (λ c. search needs) (λ c. search needs) (λ c. search needs) (λ c. search needs))

@@ -11,15 +11,17 @@ use Rattle.rules.proofs.standing.Standing.sum.Tie as tie
 returns : tie.Need-returns
 unfolding viewOf
 returns c n r A =
-    let sized : length (c .before .before .before .before .before .before .before .before .before .before .args .t1 .bounds) ≡ 257 = search needs in
-    let asked = c .before .before .before .before .sum-verdict in
-    rw (c .before .before .before .is-met .ensures)
-    (gives-bound _ _ _ _ _ (asked .result) (omega (arith, A .few, A .most)) (c .bound-after .ensures) (asked .ensures n r A))
+    let told = c .before in
+    let sized : length (told .before .before .before .before .before .before .before .before .before .before .args .t1 .bounds) ≡ 257 = search needs in
+    let asked = told .before .before .before .before .sum-verdict in
+    rw (told .before .before .before .is-met .ensures)
+    (gives-bound _ _ _ _ _ (asked .result) (omega (arith, A .few, A .most)) (told .bound-after .ensures) (asked .ensures n r A))
 
 pub sum-spec : {M : Type 1} → statement M
 sum-spec =
     tie.close
     (tie.spec
     (λ c κs. search needs) (λ c κs. search needs) (λ c. search needs) (λ c. search needs) (λ c κs. search needs) (λ c. search needs) (λ c. search needs)
+    (λ c. search needs) (λ c. search needs)
     returns
     (λ c n r A. absurd (omega (arith, c .if1 .left, A .few, A .most))))

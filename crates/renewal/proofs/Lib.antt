@@ -1,0 +1,5 @@
+pub mod Bytes
+pub mod Copies
+pub mod Renewed
+pub mod CallLaws
+pub mod Empty

@@ -1,0 +1,4 @@
+pub mod Call
+pub mod Renewed
+pub mod Answer
+pub mod Inner

@@ -1,0 +1,5 @@
+// The renewal call: a stored derivation without its idle steps.
+
+pub mod answer;
+pub mod call;
+mod copy;
