@@ -1,6 +1,8 @@
 // Circuit files: the readers of terms, forms and constraints, the check of a whole file, and where its constraints stand. Runs: forms evaluated on
 // one, its values and what it satisfies.
 
+#![tactic(auto)]
+
 pub mod bytes;
 pub mod offsets;
 pub mod reader;

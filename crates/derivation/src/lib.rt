@@ -1,5 +1,7 @@
 // The derivation call: the steps read and taken, the marks written, and the whole; and a writer of derivations.
 
+#![tactic(auto)]
+
 pub mod answer;
 pub mod call;
 mod kinds;

@@ -1,6 +1,8 @@
 // The seven public calls for callers in other languages. A slice passes as a pointer and a length, a lent array as a pointer. The returned value holds a
 // refusal's number and place, or q, or a length, or whether a run was written; lent memory is written only on a result that has something to hand over.
 
+#![tactic(auto)]
+
 ghost use Rattle.std.specs.Prelude.{◌≡◌, List, ℕ, length};
 ghost use Rattle.circuit.specs.Call.{circuit_call};
 ghost use Rattle.derivation.specs.Answer.{verdict_in};

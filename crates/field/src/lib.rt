@@ -1,4 +1,6 @@
 // The prime field of a circuit: the test for an odd prime, and the inverse modulo it.
+#![tactic(auto)]
+
 ghost use Rattle.std.specs.Prelude.{◌≡◌, true, ◌*◌, ◌%◌, ◌≤◌, ◌<◌, leb, length};
 ghost use Rattle.field.specs.Divisors.{Enough, Next, paired};
 ghost use Rattle.field.specs.Prime.{odd_prime, TellsOddPrime};

@@ -1,5 +1,7 @@
 // The pair call: two runs of a circuit that share their inputs, obey the tags on them and differ at an output.
 
+#![tactic(auto)]
+
 ghost use Rattle.std.specs.Prelude.{◌≡◌, ◌+◌, ◌*◌, ◌≤◌, ◌<◌, length, drop};
 ghost use Rattle.circuit.specs.Circuit.{value_of};
 ghost use Rattle.circuit.specs.Reader.{signals_most, constraint_of};

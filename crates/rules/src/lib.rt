@@ -1,5 +1,7 @@
 // The five rules (4.1 to 4.7) as code over one constraint's part of the circuit bytes and the standing's arrays.
 
+#![tactic(auto)]
+
 mod arith;
 pub mod constraint;
 pub mod digits;

@@ -1,5 +1,7 @@
 // The solver call: the table of rows, the two phases, and the whole.
 
+#![tactic(auto)]
+
 pub mod answer;
 mod bounds;
 pub mod call;

@@ -1,5 +1,7 @@
 // Tag sheets: the file read and checked, the first bounds of tagged inputs, the first input that breaks a tag, and which tags bounds show.
 
+#![tactic(auto)]
+
 pub mod first;
 pub mod sheet;
 pub mod shown;

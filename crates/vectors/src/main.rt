@@ -1,6 +1,8 @@
 // Runs the public calls over stored vectors, made by the second implementation with the answers that it computes, and prints for each file how many of
 // each kind agree and the first record that doesn't. Buffers are filled before each call; what lies beyond the bytes that a call writes is compared too.
 
+#![tactic(auto)]
+
 mod call;
 mod listed;
 mod record;

@@ -1,6 +1,8 @@
 // The program for teachers: solves a circuit, marks hand-ins, renews derivations and lists runs. It moves bytes and prints; what is right is in the libraries.
 // It always ends with status 0; the script bin/yolqushek sets one from what was printed.
 
+#![tactic(auto)]
+
 mod arguments;
 mod commands;
 mod every_run;
