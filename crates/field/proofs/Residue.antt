@@ -1,7 +1,7 @@
 -- Laws of residues modulo p: congruence, sums and products, the opposite.
 -- Assumes nothing.
 use mathlib.Core.Path.{◌≡◌, refl, sym, ap, ◌∙◌}
-use Prim.Native.Nat.{ℕ, ◌+◌, ◌-◌, ◌*◌, ◌/◌, ◌%◌, ◌<◌}
+use Prim.Native.Nat.{ℕ, ◌+◌, ◌*◌, ◌/◌, ◌%◌, ◌<◌}
 use native.Mathlib.Nat.{add-mul-mod_self_right, div-add-mod', mod-mod, mod-lt, mod-eq_of_lt, zero-mod, mul_comm}
 use native.Mathlib.Omega.{arith}
 use Rattle.field.specs.Residue.{Congruent, opposite}

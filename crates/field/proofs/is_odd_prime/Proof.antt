@@ -9,14 +9,13 @@ use Rattle.field.proofs.Prime.{high_not, odd_prime_told}
 use Rattle.field.proofs.is_odd_prime.Statement.{statement}
 use Rattle.field.proofs.is_odd_prime.Tie as tie
 
-pub is-odd-prime-spec : {M : Type 1} → statement M
+pub is_odd_prime_spec : {M : Type 1} → statement M
 unfolding complete no_divisor trial paired
-is-odd-prime-spec =
+is_odd_prime_spec =
     tie.close
     (tie.spec
-    (λ c. search rules) (λ c. search rules)
     (λ c κs. (omega arith, record { count = 514; all = refl; past = omega arith }, refl))
-    (λ c. odd_prime_told c.odd-prime-by.ensures)
-    (λ c. odd_prime_told (sym (high_not _ (omega arith) c.if2.true)))
+    (λ c. odd_prime_told c.odd_prime_by.ensures)
+    (λ c. odd_prime_told (sym (high_not _ (omega arith) c.if-p-gt-PRIME_MOST.true)))
     (λ c κs. search rules)
-    (λ c. odd_prime_told c.large-odd-prime.ensures))
+    (λ c. odd_prime_told c.large_odd_prime.ensures))

@@ -8,11 +8,10 @@ use Rattle.field.specs.Divisors.{complete, paired}
 use Rattle.field.proofs.large_odd_prime.Statement.{statement}
 use Rattle.field.proofs.large_odd_prime.Tie as tie
 
-pub large-odd-prime-spec : {M : Type 1} → statement M
+pub large_odd_prime_spec : {M : Type 1} → statement M
 unfolding complete no_divisor trial paired
-large-odd-prime-spec =
+large_odd_prime_spec =
     tie.close
     (tie.spec
-    (λ c. search rules) (λ c. search rules)
     (λ c κs. (omega arith, record { count = 23169; all = refl; past = omega arith }, refl))
     (λ c. search rules))

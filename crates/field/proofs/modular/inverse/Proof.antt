@@ -7,29 +7,29 @@ use Rattle.field.proofs.Inverse.{the_inverse}
 use Rattle.field.proofs.modular.inverse.Statement.{statement}
 use Rattle.field.proofs.modular.inverse.Tie as tie
 
-abbrev invariant-loop : tie.invariant-loop
+abbrev invariant-loop : tie.invariant-loop-b
 invariant-loop p c a₀ b₀ s₀ t₀ even₀ a b s t even = Running p c a b s t even
 
-abbrev decreases-loop : tie.decreases-loop
+abbrev decreases-loop : tie.decreases-loop-b
 decreases-loop p c a₀ b₀ s₀ t₀ even₀ a b s t even = b
 
-pub inverse-spec : {M : Type 1} → statement M
-inverse-spec =
+pub inverse_spec : {M : Type 1} → statement M
+inverse_spec =
     tie.close
     (tie.spec
     invariant-loop
     decreases-loop
-    (λ c. the_inverse (inverse_small _ _ c.if1.true))
+    (λ c. the_inverse (inverse_small _ _ c.if-p-lt2.true))
     (λ c. omega arith)
-    (λ c. running_start _ _ c.if1.false)
+    (λ c. running_start _ _ c.if-p-lt2.false)
     (λ c. omega arith) (λ c. omega arith)
-    (λ c. omega (arith, sizes_fit_lem (running_again c.loop-test.true c.before.loop.invariant).sizes))
-    (λ c. omega (arith, sizes_fit_lem (running_again c.loop-test.true c.before.loop.invariant).sizes))
+    (λ c. omega (arith, sizes_fit_lem (running_again c.loop-b-test.true c.before.loop-b.invariant).sizes))
+    (λ c. omega (arith, sizes_fit_lem (running_again c.loop-b-test.true c.before.loop-b.invariant).sizes))
     (λ c. mod-lt _ (omega arith))
-    (λ c. running_again c.loop-test.true c.before.loop.invariant)
-    (λ c. the_inverse (running_none c.if2.true c.before.before.loop.invariant))
-    (λ c. omega (arith, sizes_fit_lem c.before.before.before.loop.invariant.sizes))
-    (λ c. the_inverse (rw c.if3.true at
-    (running_found c.before.before.loop-test.false c.before.if2.false c.before.before.before.loop.invariant)))
-    (λ c. the_inverse (rw c.if3.false at
-    (running_found c.before.before.loop-test.false c.before.if2.false c.before.before.before.loop.invariant))))
+    (λ c. running_again c.loop-b-test.true c.before.loop-b.invariant)
+    (λ c. the_inverse (running_none c.if-b-eq0.true c.before.before.loop-b.invariant))
+    (λ c. omega (arith, sizes_fit_lem c.before.before.before.loop-b.invariant.sizes))
+    (λ c. the_inverse (rw c.if-even.true at
+    (running_found c.before.before.loop-b-test.false c.before.if-b-eq0.false c.before.before.before.loop-b.invariant)))
+    (λ c. the_inverse (rw c.if-even.false at
+    (running_found c.before.before.loop-b-test.false c.before.if-b-eq0.false c.before.before.before.loop-b.invariant))))
