@@ -30,14 +30,14 @@ const LETTER_Q: u32 = 81;
 const LETTER_T: u32 = 84;
 
 // What reading a part finds: the value's size in bytes, or a refusal's number and its offset in the part.
-#[derive(Drop)]
+#[derive(Clone, Copy)]
 pub(crate) enum Found {
     Whole { size: usize },
     Fault { number: u32, offset: usize },
 }
 
 // The header's numbers: the prime, how many signals, inputs, outputs and constraints there are.
-#[derive(Drop)]
+#[derive(Clone, Copy)]
 pub struct Sizes {
     pub p: u32,
     pub n: u32,
@@ -47,7 +47,7 @@ pub struct Sizes {
 }
 
 // The call's answer: a refusal's number and place, or the header's numbers.
-#[derive(Drop)]
+#[derive(Clone, Copy)]
 pub enum CircuitAnswer {
     Refused {
         number: u32,

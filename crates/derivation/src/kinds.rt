@@ -9,28 +9,28 @@ ghost use Rattle.derivation.specs.Inner.{kind_found, names_in, step_in, EntryOf}
 use rules::standing::Kind;
 
 // The kind byte of a step.
-#[derive(Drop)]
+#[derive(Clone, Copy)]
 pub(crate) enum KindByte {
     Known { kind: Kind },
     Unknown,
 }
 
 // What a step's constraint field names.
-#[derive(Drop)]
+#[derive(Clone, Copy)]
 pub(crate) enum Names {
     Nothing,
     AConstraint,
 }
 
 // What the table says of a kind: its number, what the constraint field names, and whether the reference field names a signal.
-#[derive(Drop)]
+#[derive(Clone, Copy)]
 pub(crate) struct Entry {
     pub number: u8,
     pub names: Names,
     pub refers: bool,
 }
 
-#[derive(Drop)]
+#[derive(Clone, Copy)]
 pub(crate) struct Step {
     pub kind: Kind,
     pub target: u32,

@@ -14,7 +14,7 @@ use rules::rows::make_row;
 use rules::standing::{Kind, reads_row};
 
 // A step that is known and in range, or the number of its refusal.
-#[derive(Drop)]
+#[derive(Clone, Copy)]
 pub(crate) enum StepRead {
     Fine { step: Step },
     Refused { number: u32 },

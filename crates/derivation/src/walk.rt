@@ -30,14 +30,14 @@ const MOST_NUMBERS: usize = 21026;
 const FEW_NUMBERS: usize = 1024;
 
 // On to the next step, or stopped by a refusal.
-#[derive(Drop)]
+#[derive(Clone, Copy)]
 pub enum Way {
     On,
     Stopped { number: u32, place: usize },
 }
 
 // What steps lead to: a standing, and whether they end there.
-#[derive(Drop)]
+#[derive(Clone, Copy)]
 pub struct Turn {
     pub next: Standing,
     pub way: Way,

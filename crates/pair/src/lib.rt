@@ -25,7 +25,7 @@ const PAIR_LETTER: u32 = 80;
 const PAIR_HEADER: usize = 7;
 
 // The call's answer: a refusal's number and place, or the signal at which the runs differ.
-#[derive(Drop)]
+#[derive(Clone, Copy)]
 pub enum PairAnswer {
     Refused { number: u32, place: usize },
     Accepted { q: u32 },

@@ -15,7 +15,7 @@ const SIGNALS_MOST: u32 = 256;
 
 // What a walk over a form's terms says of a signal t: whether the form names it, whether all its other signals are marked, the constant, and the
 // coefficient of t.
-#[derive(Drop)]
+#[derive(Clone, Copy)]
 pub(crate) struct Seen {
     pub names: bool,
     pub others: bool,
@@ -97,7 +97,7 @@ pub(crate) fn survey(part: &[u8], marks: &[bool], past: bool, t: u32) -> Seen
 }
 
 // A form as a function of one signal: its constant and that signal's coefficient modulo p.
-#[derive(Drop)]
+#[derive(Clone, Copy)]
 pub(crate) struct Affine {
     pub constant: u32,
     pub coef: u32,

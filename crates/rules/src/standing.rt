@@ -30,14 +30,14 @@ pub struct Outcome {
 }
 
 // What a rule that gives bounds says of a step: not met, or met, and the bound that its target then has at most.
-#[derive(Drop)]
+#[derive(Clone, Copy)]
 enum Verdict {
     Unmet,
     AtMost { bound: u32 },
 }
 
 // Rule 2.2: the kinds of steps.
-#[derive(Drop)]
+#[derive(Clone, Copy)]
 pub enum Kind {
     Root,
     Sum,

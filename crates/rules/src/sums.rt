@@ -147,7 +147,7 @@ fn highest(row: &[u32], bounds: &[u32], p: u32) -> usize
 }
 
 // The one sum by the form of a row that lowers a bound: its target, 0 where there is none, and the bound that it gives.
-#[derive(Drop)]
+#[derive(Clone, Copy)]
 pub struct Lowering {
     pub target: u32,
     pub bound: u32,

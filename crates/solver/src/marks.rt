@@ -23,7 +23,7 @@ use rules::rows::row_of;
 use rules::standing::{Kind, Standing};
 
 // A step that marks an unmarked signal, if there is one.
-#[derive(Drop)]
+#[derive(Clone, Copy)]
 pub(crate) enum Choice {
     Nothing,
     Taken {

@@ -21,14 +21,14 @@ const ENTRIES_MOST: u32 = 256;
 const BITS_MOST: u32 = 30;
 
 // The check's answer: a refusal's number and place, or that the sheet is whole.
-#[derive(Drop)]
+#[derive(Clone, Copy)]
 pub enum SheetAnswer {
     Refused { number: u32, place: usize },
     Whole,
 }
 
 // Rule 2.6: the kinds of tags.
-#[derive(Drop)]
+#[derive(Clone, Copy)]
 pub(crate) enum TagKind {
     Binary,
     Maxbit,
@@ -37,7 +37,7 @@ pub(crate) enum TagKind {
 }
 
 // What a tag says: its signal, and the largest value that it allows as far as 32 bits go.
-#[derive(Drop)]
+#[derive(Clone, Copy)]
 pub(crate) struct Limited {
     pub signal: u32,
     pub limit: u32,

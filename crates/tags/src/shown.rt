@@ -12,7 +12,7 @@ use circuit::bytes::u16_at;
 use circuit::run::value_of;
 
 // How many tags on signals other than inputs are shown, and the number of the first that isn't, 0 where there is none.
-#[derive(Drop)]
+#[derive(Clone, Copy)]
 pub struct Shown {
     pub count: u32,
     pub missed: u32,

@@ -55,7 +55,7 @@ fn agrees_on(file: &[u8], record: Record, buffer: &mut [u8]) -> bool
 }
 
 // What a call returned, and the lent numbers after it, with the filling in place of those that aren't lent.
-#[derive(Drop)]
+#[derive(Clone, Copy)]
 pub struct Told {
     pub returned: u64,
     pub numbers: [u64; 5],

@@ -8,13 +8,13 @@ use circuit::bytes::{byte_at, u32_at};
 const SAME: u32 = 0xffff_ffff;
 
 // Bytes of the file.
-#[derive(Drop)]
+#[derive(Clone, Copy)]
 pub struct Part {
     pub at: usize,
     pub size: usize,
 }
 
-#[derive(Drop)]
+#[derive(Clone, Copy)]
 pub struct Record {
     pub kind: u32,
     pub circuit: Part,

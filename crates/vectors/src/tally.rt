@@ -6,7 +6,7 @@ use circuit::bytes::u32_at;
 use libc::STDOUT_FILENO;
 
 // Counts by kind, 1 to 7, and the number of the first record that doesn't agree, 0 where all do.
-#[derive(Drop)]
+#[derive(Clone, Copy)]
 pub struct Tally {
     pub calls: [u32; 8],
     pub agreeing: [u32; 8],

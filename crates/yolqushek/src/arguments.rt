@@ -2,7 +2,7 @@
 // and a case in each of `option`, which knows its word, `taking`, which takes its value, and `is_taken`, which knows the commands that it goes with.
 
 // What is asked; `Wrong` where the arguments are no command with its operands.
-#[derive(Drop)]
+#[derive(Clone, Copy)]
 pub enum Command {
     Help,
     Solve,
@@ -13,14 +13,14 @@ pub enum Command {
 }
 
 // What the next argument is: an operand, or the value of the option just named.
-#[derive(Drop)]
+#[derive(Clone, Copy)]
 pub enum Awaited {
     Operand,
     Tags,
 }
 
 // A command, which arguments are its operands, and how many there are. Then which argument is the value of each option, 0 where the option isn't given.
-#[derive(Drop)]
+#[derive(Clone, Copy)]
 pub struct Request {
     pub command: Command,
     pub awaited: Awaited,

@@ -11,7 +11,7 @@ use libc::{PATH_MAX, STDIN_FILENO};
 const ARGUMENT: usize = 131072;
 
 // How many bytes were read, and whether nothing failed.
-#[derive(Drop)]
+#[derive(Clone, Copy)]
 pub struct Got {
     pub whole: bool,
     pub count: usize,

@@ -10,7 +10,7 @@ use libc::{STDERR_FILENO, STDOUT_FILENO};
 const LINE: usize = 1024;
 
 // How many bytes of the page are used, and whether every write has succeeded.
-#[derive(Drop)]
+#[derive(Clone, Copy)]
 pub struct Page {
     pub used: usize,
     pub whole: bool,
