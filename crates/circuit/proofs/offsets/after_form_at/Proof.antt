@@ -4,7 +4,7 @@ use Rattle.circuit.specs.Reader.{offset_after}
 use Rattle.circuit.proofs.offsets.after_form_at.Statement.{statement}
 use Rattle.circuit.proofs.offsets.after_form_at.Tie as tie
 
-pub after-form-at-spec : {M : Type 1} → statement M
+pub after_form_at_spec : {M : Type 1} → statement M
 unfolding offset_after
-after-form-at-spec =
+after_form_at_spec =
     tie.close (tie.spec (λ c κs. search rules) (λ c. search rules) (λ c. search rules) (λ c. search rules) (λ c. search rules) (λ c. search rules))

@@ -7,20 +7,19 @@ use Rattle.circuit.proofs.OffsetLaws as laws
 use Rattle.circuit.proofs.offsets.offsets.Statement.{statement}
 use Rattle.circuit.proofs.offsets.offsets.Tie as tie
 
-abbrev invariant-loop : tie.invariant-loop
+abbrev invariant-loop : tie.invariant-loop-k
 invariant-loop circuit m table₀ at₀ k₀ table at k = laws.Filling circuit m table at k
 
-abbrev decreases-loop : tie.decreases-loop
+abbrev decreases-loop : tie.decreases-loop-k
 decreases-loop circuit m table₀ at₀ k₀ table at k = 512 - k
 
-loop-again : tie.Need-loop-preserved invariant-loop decreases-loop
+loop-again : tie.Need-loop-k-preserved invariant-loop decreases-loop
 loop-again c =
-    let a = c.before.before in
-    laws.filling_again a.before.before.before.loop.invariant (search rules) (search rules)
-    a.after-form-at.ensures c.before.after-form-at2.ensures c.after-form-at3.ensures
+    laws.filling_again c.loop-k.invariant (search rules) (search rules)
+    c.after_form_at-b.ensures c.after_form_at-c.ensures c.after_form_at-at.ensures
 
-pub offsets-spec : {M : Type 1} → statement M
-offsets-spec =
+pub offsets_spec : {M : Type 1} → statement M
+offsets_spec =
     tie.close
     (tie.spec
     invariant-loop
@@ -29,5 +28,5 @@ offsets-spec =
     (λ c. search rules) (λ c. search rules) (λ c. search rules) (λ c. search rules) (λ c κs. search rules) (λ c κs. search rules) (λ c κs. search rules)
     (λ c. search rules)
     loop-again
-    (λ c. laws.filling_end c.before.before.loop.invariant (omega (arith, ltb-false)))
-    (λ c. laws.filling_end c.before.loop.invariant (omega arith)))
+    (λ c. laws.filling_end c.loop-k.invariant (omega (arith, ltb-false)))
+    (λ c. laws.filling_end c.loop-k.invariant (omega arith)))

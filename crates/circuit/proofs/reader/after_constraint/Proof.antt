@@ -5,10 +5,10 @@ use Rattle.circuit.specs.Reader.{after_form, after_constraint}
 use Rattle.circuit.proofs.reader.after_constraint.Statement.{statement}
 use Rattle.circuit.proofs.reader.after_constraint.Tie as tie
 
-pub after-constraint-spec : {M : Type 1} → statement M
+pub after_constraint_spec : {M : Type 1} → statement M
 unfolding after_constraint
-after-constraint-spec =
+after_constraint_spec =
     tie.close
     (tie.spec
     (λ c κs. search rules) (λ c κs. search rules) (λ c κs. search rules)
-    (λ c. c.after-form3.ensures ∙ ap after_form (c.before.after-form2.ensures ∙ ap after_form c.before.before.after-form.ensures)))
+    (λ c. c.after_form.ensures ∙ ap after_form (c.after_form-c.ensures ∙ ap after_form c.after_form-b.ensures)))

@@ -4,11 +4,11 @@ use Rattle.circuit.proofs.ReaderLaws as laws
 use Rattle.circuit.proofs.reader.after_form.Statement.{statement}
 use Rattle.circuit.proofs.reader.after_form.Tie as tie
 
-pub after-form-spec : {M : Type 1} → statement M
-after-form-spec =
+pub after_form_spec : {M : Type 1} → statement M
+after_form_spec =
     tie.close
     (tie.spec
     (λ c κs. search rules) (λ c. search rules) (λ c. search rules) (λ c. search rules) (λ c. search rules) (λ c. search rules) (λ c. search rules)
-    (λ c. laws.rest_short _ _ c.before.before.byte_at.ensures.0 c.before.if1.true)
+    (λ c. laws.rest_short _ _ c.byte_at.ensures.0 c.if-s-size.true)
     (λ c. search rules) (λ c. search rules) (λ c. search rules)
-    (λ c. laws.rest_long _ _ c.before.before.byte_at.ensures.0 c.before.if1.false))
+    (λ c. laws.rest_long _ _ c.byte_at.ensures.0 c.if-s-size.false))

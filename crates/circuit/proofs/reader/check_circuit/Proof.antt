@@ -2,7 +2,7 @@
 use mathlib.Core.Path.{◌≡◌, refl, sym, ap, ◌∙◌}
 use mathlib.Core.Bool.{true}
 use borrow.Author.Rules.{rules}
-use borrow.Author.Tests.{le-leb, lt-leb, ne_eqb, not-true, not-false}
+use borrow.Author.Tests.{le-leb, lt-leb, ne_eqb}
 use Rattle.field.specs.Prime.{odd_prime}
 use Rattle.circuit.specs.Reader.{sizes_fit}
 use Rattle.circuit.specs.Answer.{found_of}
@@ -12,84 +12,70 @@ use Rattle.circuit.proofs.reader.check_circuit.Statement.{statement}
 use Rattle.circuit.proofs.reader.check_circuit.Tie as tie
 
 -- what the tests before those of the numbers show
-versioned : (c : tie.After-sizes-at) → laws.Versioned c.before.before.before.before.before.before.before.before.args.s.now
+versioned : (c : tie.After-sizes_at-sizes) → laws.Versioned c.args.s.now
 versioned c =
-    let u = c.before.before in
-    let h = u.before.before in
     record {
-      long = h.before.before.if1.false;
-      short = h.before.if2.false;
-      mark = sym h.has-mark.ensures ∙ not-false _ u.before.if3.false;
-      version = sym u.u16-at.ensures.0 ∙ c.before.if4.false;
+      long = c.if-s-lt-HEADER_SIZE.false;
+      short = c.if-s-gt-FILE_MOST.false;
+      mark = sym c.has_mark.ensures ∙ c.if-not-has_mark.false;
+      version = sym c.u16_at.ensures.0 ∙ c.if-u16_at-ne1.false;
     }
 
-prime : (c : tie.Else5) → odd_prime c.before.before.sizes-at.result.p ≡ true
-prime c = sym c.before.is-odd-prime.ensures.0 ∙ not-false _ c.if5.false
+prime : (c : tie.Else-not-is_odd_prime) → odd_prime c.sizes_at-sizes.result.p ≡ true
+prime c = sym c.is_odd_prime.ensures.0 ∙ c.if-not-is_odd_prime.false
 
-fit : (c : tie.Else6) → let z = c.before.before.before.before.sizes-at.result in sizes_fit z.n z.i z.o z.m ≡ true
-fit c = sym c.before.fits2.ensures ∙ not-false _ c.if6.false
+fit : (c : tie.Else-not-fits) → let z = c.sizes_at-sizes.result in sizes_fit z.n z.i z.o z.m ≡ true
+fit c = sym c.fits.ensures ∙ c.if-not-fits.false
 
-returns-3 : tie.Need-returns-3
+returns-3 : tie.Need-returns-then-not-has_mark
 unfolding laws.chain
 returns-3 c =
-    let h = c.before.before in
-    refusing _ c.refusal3.ensures
+    refusing _ c.refusal-then-not-has_mark.ensures
     (laws.call_chain _ _ refl
-    ∙ rw (le-leb _ _ h.before.before.if1.false, le-leb _ _ h.before.if2.false, sym h.has-mark.ensures ∙ not-true _ c.before.if3.true))
+    ∙ rw (le-leb _ _ c.if-s-lt-HEADER_SIZE.false, le-leb _ _ c.if-s-gt-FILE_MOST.false, sym c.has_mark.ensures ∙ c.if-not-has_mark.true))
 
-returns-4 : tie.Need-returns-4
+returns-4 : tie.Need-returns-then-u16_at-ne1
 unfolding laws.chain
 returns-4 c =
-    let u = c.before.before in
-    let h = u.before.before in
-    let mark = sym h.has-mark.ensures ∙ not-false _ u.before.if3.false in
-    refusing _ c.refusal4.ensures
+    let mark = sym c.has_mark.ensures ∙ c.if-not-has_mark.false in
+    refusing _ c.refusal-then-u16_at-ne1.ensures
     (laws.call_chain _ _ refl
-    ∙ rw (le-leb _ _ h.before.before.if1.false, le-leb _ _ h.before.if2.false, mark, ← u.u16-at.ensures.0, ne_eqb _ _ c.before.if4.true))
+    ∙ rw (le-leb _ _ c.if-s-lt-HEADER_SIZE.false, le-leb _ _ c.if-s-gt-FILE_MOST.false, mark, ← c.u16_at.ensures.0, ne_eqb _ _ c.if-u16_at-ne1.true))
 
-returns-5 : tie.Need-returns-5
+returns-5 : tie.Need-returns-then-not-is_odd_prime
 returns-5 c =
-    let z = c.before.before.before in
-    refusing _ c.refusal5.ensures
-    (laws.call_numbers (versioned z) _ z.sizes-at.ensures
-    ∙ rw (sym c.before.before.is-odd-prime.ensures.0 ∙ not-true _ c.before.if5.true))
+    refusing _ c.refusal-then-not-is_odd_prime.ensures
+    (laws.call_numbers (versioned c.before.before.before) _ c.sizes_at-sizes.ensures
+    ∙ rw (sym c.is_odd_prime.ensures.0 ∙ c.if-not-is_odd_prime.true))
 
-returns-6 : tie.Need-returns-6
+returns-6 : tie.Need-returns-then-not-fits
 returns-6 c =
-    let p = c.before.before.before in
-    let z = p.before.before in
-    refusing _ c.refusal6.ensures
-    (laws.call_numbers (versioned z) _ z.sizes-at.ensures
-    ∙ rw (prime p, sym c.before.before.fits2.ensures ∙ not-true _ c.before.if6.true))
+    refusing _ c.refusal-then-not-fits.ensures
+    (laws.call_numbers (versioned c.before.before.before.before.before) _ c.sizes_at-sizes.ensures
+    ∙ rw (prime c.before.before.before, sym c.fits.ensures ∙ c.if-not-fits.true))
 
-returns-7 : tie.Need-returns-7
+returns-7 : tie.Need-returns-in-Whole
 returns-7 c =
-    let b = c.before.before in
-    let p = b.before.before.before in
-    let z = p.before.before in
     answered _ _
-    (laws.call_numbers (versioned z) _ z.sizes-at.ensures
-    ∙ rw (prime p, fit b.before, sym b.check-body.ensures ∙ ap found_of c.enum_told.given.1))
+    (laws.call_numbers (versioned c.before.before.before.before.before.before) _ c.sizes_at-sizes.ensures
+    ∙ rw (prime c.before.before.before.before, fit c.before.before, sym c.check_body-body.ensures ∙ ap found_of c.in-Whole.is))
 
-returns-8 : tie.Need-returns-8
+returns-8 : tie.Need-returns-in-Fault
 returns-8 c =
-    let b = c.before.before.before in
-    let p = b.before.before.before in
-    let z = p.before.before in
     answered _ _
-    (laws.call_numbers (versioned z) _ z.sizes-at.ensures
-    ∙ rw (prime p, fit b.before, sym b.check-body.ensures ∙ ap found_of c.before.body.given.1))
+    (laws.call_numbers (versioned c.before.before.before.before.before.before) _ c.sizes_at-sizes.ensures
+    ∙ rw (prime c.before.before.before.before, fit c.before.before, sym c.check_body-body.ensures ∙ ap found_of c.in-Fault.is))
 
-pub check-circuit-spec : {M : Type 1} → statement M
+pub check_circuit_spec : {M : Type 1} → statement M
 unfolding laws.chain
-check-circuit-spec =
+check_circuit_spec =
     tie.close
     (tie.spec
     (λ c κs. search rules)
-    (λ c. refusing _ c.refusal.ensures (laws.call_chain _ _ refl ∙ rw (lt-leb _ _ c.before.if1.true)))
+    (λ c. refusing _ c.refusal.ensures (laws.call_chain _ _ refl ∙ rw (lt-leb _ _ c.if-s-lt-HEADER_SIZE.true)))
     (λ c κs. search rules)
-    (λ c. refusing _ c.refusal2.ensures
-    (laws.call_chain _ _ refl ∙ rw (le-leb _ _ c.before.before.if1.false, lt-leb _ _ c.before.if2.true)))
+    (λ c. refusing _ c.refusal-then-s-gt-FILE_MOST.ensures
+    (laws.call_chain _ _ refl ∙ rw (le-leb _ _ c.if-s-lt-HEADER_SIZE.false, lt-leb _ _ c.if-s-gt-FILE_MOST.true)))
     (λ c κs. search rules) (λ c κs. search rules)
     returns-3
     (λ c κs. search rules) (λ c κs. search rules)

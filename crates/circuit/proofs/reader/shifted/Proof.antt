@@ -7,13 +7,13 @@ use Rattle.circuit.specs.Answer.{found_of}
 use Rattle.circuit.proofs.reader.shifted.Statement.{statement}
 use Rattle.circuit.proofs.reader.shifted.Tie as tie
 
-pub shifted-spec : {M : Type 1} → statement M
-shifted-spec =
+pub shifted_spec : {M : Type 1} → statement M
+shifted_spec =
     tie.close
     (tie.spec
     (λ c. search rules)
-    (λ c. let h = rw c.before.found.given.1 at c.before.before.before.requires in omega (arith, h))
+    (λ c. let h = rw c.in-Whole.is at c.requires in omega (arith, h))
     (λ c. search rules)
-    (λ c. let h = rw c.before.found2.given.1 at c.before.before.before.requires in omega (arith, h))
-    (λ c. sym (ap (λ z. further c.before.before.before.args.at (found_of z)) c.before.found.given.1))
-    (λ c. sym (ap (λ z. further c.before.before.before.args.at (found_of z)) c.before.found2.given.1)))
+    (λ c. let h = rw c.in-Fault.is at c.requires in omega (arith, h))
+    (λ c. sym (ap (λ z. further c.args.at (found_of z)) c.in-Whole.is))
+    (λ c. sym (ap (λ z. further c.args.at (found_of z)) c.in-Fault.is)))

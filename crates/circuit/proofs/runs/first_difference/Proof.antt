@@ -9,30 +9,28 @@ use Rattle.circuit.proofs.SearchLaws as laws
 use Rattle.circuit.proofs.runs.first_difference.Statement.{statement}
 use Rattle.circuit.proofs.runs.first_difference.Tie as tie
 
-abbrev invariant-loop : tie.invariant-loop
+abbrev invariant-loop : tie.invariant-loop-s
 invariant-loop values other count s₀ s =
     (s ≤ count)
     × (first_from (agree (values_in values) (values_in other)) 1 count ≡ first_from (agree (values_in values) (values_in other)) (s + 1) (count - s))
 
-abbrev decreases-loop : tie.decreases-loop
+abbrev decreases-loop : tie.decreases-loop-s
 decreases-loop values other count s₀ s = count - s
 
-returns : tie.Need-returns invariant-loop decreases-loop
+returns : tie.Need-returns-then-value_of invariant-loop decreases-loop
 returns c =
-    let v = c.before.before in
-    laws.first_found _ _ _ _ v.before.before.loop.invariant.1 v.before.loop-test.true
-    (laws.agree_no _ _ _ (λ e. c.if1.true (v.value_of_lem.ensures ∙ e ∙ sym c.before.value-of2.ensures)))
+    laws.first_found _ _ _ _ c.loop-s.invariant.1 c.loop-s-test.true
+    (laws.agree_no _ _ _ (λ e. c.if-value_of.true (c.value_of.ensures ∙ e ∙ sym c.value_of-in-loop-s.ensures)))
 
-loop-again : tie.Need-loop-preserved invariant-loop decreases-loop
-loop-again c =
-    let v = c.before.before in (
-      omega arith,
-      laws.first_again _ _ _ _ v.before.before.loop.invariant.1 v.before.loop-test.true
-          (laws.agree_yes _ _ _ (sym v.value_of_lem.ensures ∙ c.if1.false ∙ c.before.value-of2.ensures)),
-    )
+loop-again : tie.Need-loop-s-preserved invariant-loop decreases-loop
+loop-again c = (
+  omega arith,
+  laws.first_again _ _ _ _ c.loop-s.invariant.1 c.loop-s-test.true
+      (laws.agree_yes _ _ _ (sym c.value_of.ensures ∙ c.if-value_of.false ∙ c.value_of-in-loop-s.ensures)),
+)
 
-pub first-difference-spec : {M : Type 1} → statement M
-first-difference-spec =
+pub first_difference_spec : {M : Type 1} → statement M
+first_difference_spec =
     tie.close
     (tie.spec
     invariant-loop
@@ -42,4 +40,4 @@ first-difference-spec =
     returns
     (λ c. search rules)
     loop-again
-    (λ c. laws.first_none _ _ _ _ c.before.loop.invariant.1 c.loop-test.false))
+    (λ c. laws.first_none _ _ _ _ c.loop-s.invariant.1 c.loop-s-test.false))

@@ -3,7 +3,6 @@ use Prim.Native.Nat.{◌+◌, ◌-◌, ◌≤◌}
 use mathlib.Core.Path.{◌≡◌, ◌∙◌}
 use native.Mathlib.Omega.{arith}
 use borrow.Author.Rules.{rules}
-use borrow.Author.Tests.{not-true, not-false}
 use Rattle.circuit.specs.Reader.{part_from, constraint_of}
 use Rattle.circuit.specs.Run.{values_in}
 use Rattle.circuit.specs.Runs.{first_from, satisfied_by}
@@ -11,32 +10,32 @@ use Rattle.circuit.proofs.SearchLaws as laws
 use Rattle.circuit.proofs.runs.first_unsatisfied.Statement.{statement}
 use Rattle.circuit.proofs.runs.first_unsatisfied.Tie as tie
 
-abbrev invariant-loop : tie.invariant-loop
+abbrev invariant-loop : tie.invariant-loop-k
 invariant-loop body values p m rest₀ k₀ rest k =
     (k ≤ m) × (rest ≡ part_from k body)
     × (first_from (satisfied_by p (constraint_of body) (values_in values)) 1 m
     ≡ first_from (satisfied_by p (constraint_of body) (values_in values)) (k + 1) (m - k))
 
-abbrev decreases-loop : tie.decreases-loop
+abbrev decreases-loop : tie.decreases-loop-k
 decreases-loop body values p m rest₀ k₀ rest k = m - k
 
-returns : tie.Need-returns invariant-loop decreases-loop
+returns : tie.Need-returns-then-not-satisfied invariant-loop decreases-loop
 returns c =
-    let l = c.before.before.before.loop in
-    laws.first_found _ _ _ _ l.invariant.2 c.before.before.loop-test.true
-    (laws.satisfied_part _ _ _ _ _ _ l.invariant.1 c.before.satisfied.ensures ∙ not-true _ c.if1.true)
+    let l = c.loop-k in
+    laws.first_found _ _ _ _ l.invariant.2 c.loop-k-test.true
+    (laws.satisfied_part _ _ _ _ _ _ l.invariant.1 c.satisfied.ensures ∙ c.if-not-satisfied.true)
 
-loop-again : tie.Need-loop-preserved invariant-loop decreases-loop
+loop-again : tie.Need-loop-k-preserved invariant-loop decreases-loop
 loop-again c =
-    let l = c.before.before.before.before.loop in (
+    let l = c.loop-k in (
       omega arith,
-      laws.rest_next _ _ _ _ l.invariant.1 c.after-constraint.ensures,
-      laws.first_again _ _ _ _ l.invariant.2 c.before.before.before.loop-test.true
-          (laws.satisfied_part _ _ _ _ _ _ l.invariant.1 c.before.before.satisfied.ensures ∙ not-false _ c.before.if1.false),
+      laws.rest_next _ _ _ _ l.invariant.1 c.after_constraint-next.ensures,
+      laws.first_again _ _ _ _ l.invariant.2 c.loop-k-test.true
+          (laws.satisfied_part _ _ _ _ _ _ l.invariant.1 c.satisfied.ensures ∙ c.if-not-satisfied.false),
     )
 
-pub first-unsatisfied-spec : {M : Type 1} → statement M
-first-unsatisfied-spec =
+pub first_unsatisfied_spec : {M : Type 1} → statement M
+first_unsatisfied_spec =
     tie.close
     (tie.spec
     invariant-loop
@@ -46,4 +45,4 @@ first-unsatisfied-spec =
     returns
     (λ c κs. search rules) (λ c. search rules)
     loop-again
-    (λ c. laws.first_none _ _ _ _ c.before.loop.invariant.2 c.loop-test.false))
+    (λ c. laws.first_none _ _ _ _ c.loop-k.invariant.2 c.loop-k-test.false))

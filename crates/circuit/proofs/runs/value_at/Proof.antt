@@ -4,6 +4,6 @@ use Rattle.circuit.specs.Runs.{value_at}
 use Rattle.circuit.proofs.runs.value_at.Statement.{statement}
 use Rattle.circuit.proofs.runs.value_at.Tie as tie
 
-pub value-at-spec : {M : Type 1} → statement M
+pub value_at_spec : {M : Type 1} → statement M
 unfolding value_at
-value-at-spec = tie.close (tie.spec (λ c. search rules) (λ c. search rules) (λ c κs. search rules) (λ c. c.u32-at.ensures))
+value_at_spec = tie.close (tie.spec (λ c. search rules) (λ c. search rules) (λ c κs. search rules) (λ c. c.u32_at.ensures))
