@@ -28,9 +28,9 @@ closed_idle P S x a f =
 pub optimum : {P : Problem} {S S' : Standing}
     → Closed P S' → AtLeast S S' → (xs : List Step) → formerly P S xs ≡ true → AtLeast (replay P S xs) S'
 unfolding each replay
-optimum c g [] e = g
+optimum {S = S} c g [] e = g
 optimum {P} {S} {S'} c g (x ∷ xs) e =
     let rest = formerly P (after P S x) xs in
     let f = fits_says P S x (and_left (fits P S x) rest e) in
     let still = fits_holds P S' x f.0 (met_mono P g x f.1) in
-    optimum c (at_least_trans (after_mono P g x) (closed_idle P S' x (c.closed x) still)) xs (and_right (fits P S x) rest e)
+    optimum {S = after P S x} c (at_least_trans (after_mono P g x) (closed_idle P S' x (c.closed x) still)) xs (and_right (fits P S x) rest e)
