@@ -7,32 +7,29 @@ use Rattle.tags.proofs.TagLaws as laws
 use Rattle.tags.proofs.first.lower_by.Statement.{statement}
 use Rattle.tags.proofs.first.lower_by.Tie as tie
 
-returns-4 : tie.Need-returns-4
+returns-4 : tie.Need-returns-then-tag-bounds
 unfolding values_in
 returns-4 c t L =
-    let known = c.before.before in
-    let inside = known.before in
-    let below = inside.before in
-    laws.lower_set L below.before.before.if1.false below.if2.false inside.if3.false c.if4.true
-    (omega (arith, known.slice-known.given known.before.before.before.before.before.before.before.args.tag.signal)) refl
+    laws.lower_set L c.if-tag-lt1.false c.if-i-tag.false c.if-bounds-s.false c.if-tag-bounds.true
+    (omega (arith, c.slice_known-1.given c.args.tag.signal)) refl
 
-returns-5 : tie.Need-returns-5
+returns-5 : tie.Need-returns-else-tag-bounds
 unfolding values_in
 returns-5 c t L =
     laws.lower_none (λ s l low high e.
-    let small = c.if4.false in
-    let is : c.before.before.before.before.before.before.before.before.before.args.tag.signal ≡ s = L.signal ∙ e in
+    let small = c.if-tag-bounds.false in
+    let is : c.args.tag.signal ≡ s = L.signal ∙ e in
     omega (arith, L.limit, rw is at small))
 
-pub lower-by-spec : {M : Type 1} → statement M
+pub lower_by_spec : {M : Type 1} → statement M
 unfolding values_in
-lower-by-spec =
+lower_by_spec =
     tie.close
     (tie.spec
     (λ c. search rules)
-    (λ c t L. laws.lower_none (λ s l low high e. absurd (omega (arith, L.signal, c.if1.true))))
-    (λ c t L. laws.lower_none (λ s l low high e. absurd (omega (arith, L.signal, c.if2.true))))
-    (λ c t L. laws.lower_none (λ s l low high e. absurd (omega (arith, L.signal, c.if3.true))))
+    (λ c t L. laws.lower_none (λ s l low high e. absurd (omega (arith, L.signal, c.if-tag-lt1.true))))
+    (λ c t L. laws.lower_none (λ s l low high e. absurd (omega (arith, L.signal, c.if-i-tag.true))))
+    (λ c t L. laws.lower_none (λ s l low high e. absurd (omega (arith, L.signal, c.if-bounds-s.true))))
     (λ c. search rules) (λ c. search rules) (λ c. search rules) (λ c. search rules) (λ c. search rules)
     returns-4
     returns-5)

@@ -10,28 +10,26 @@ use Rattle.tags.proofs.TagLaws as laws
 use Rattle.tags.proofs.first.lower_inputs.Statement.{statement}
 use Rattle.tags.proofs.first.lower_inputs.Tie as tie
 
-abbrev invariant-loop : tie.invariant-loop
+abbrev invariant-loop : tie.invariant-loop-k
 invariant-loop sheet bounds₀ i count k₀ bounds k = (k ≤ count) × Lowered i (laws.up_to (sheet_of sheet) k) bounds₀ bounds
 
-abbrev decreases-loop : tie.decreases-loop
+abbrev decreases-loop : tie.decreases-loop-k
 decreases-loop sheet bounds₀ i count k₀ bounds k = count - k
 
-loop-again : tie.Need-loop-preserved invariant-loop decreases-loop
+loop-again : tie.Need-loop-k-preserved invariant-loop decreases-loop
 unfolding sheet_of
 loop-again c =
-    let lower = c.before.before in
-    let turn = lower.before.before.before in
-    (omega arith, laws.lower_more (sheet_of _) turn.before.loop.invariant.1 (lower.lower_by.ensures _ lower.before.tag_at.ensures))
+    (omega arith, laws.lower_more (sheet_of _) c.loop-k.invariant.1 (c.lower_by.ensures _ c.tag_at.ensures))
 
 returns : tie.Need-returns invariant-loop decreases-loop
 unfolding sheet_of
 returns c =
-    let z : c.before.loop.k ≡ u16_at c.before.before.before.before.before.args.sheet.now 5
-    = omega (arith, c.before.before.u16-at.ensures.0) in
-    rw z at c.before.loop.invariant.1
+    let z : c.loop-k.k ≡ u16_at c.args.sheet.now 5
+    = omega (arith, c.u16_at-count.ensures.0) in
+    rw z at c.loop-k.invariant.1
 
-pub lower-inputs-spec : {M : Type 1} → statement M
-lower-inputs-spec =
+pub lower_inputs_spec : {M : Type 1} → statement M
+lower_inputs_spec =
     tie.close
     (tie.spec
     invariant-loop
@@ -41,5 +39,5 @@ lower-inputs-spec =
     (λ c. search rules) (λ c κs. search rules) (λ c κs. search rules)
     (λ c. search rules)
     loop-again
-    (λ c. c.before.loop.invariant.1.sized)
+    (λ c. c.loop-k.invariant.1.sized)
     returns)

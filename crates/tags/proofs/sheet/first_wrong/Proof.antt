@@ -3,33 +3,30 @@ use Prim.Native.Nat.{◌+◌, ◌-◌, ◌≤◌}
 use mathlib.Core.Path.{◌≡◌, sym, ◌∙◌}
 use native.Mathlib.Omega.{arith}
 use borrow.Author.Rules.{rules}
-use borrow.Author.Tests.{not-true, not-false}
 use Rattle.circuit.specs.Runs.{first_from}
 use Rattle.circuit.proofs.SearchLaws as laws
 use Rattle.tags.specs.Sheet.{entry_fits}
 use Rattle.tags.proofs.sheet.first_wrong.Statement.{statement}
 use Rattle.tags.proofs.sheet.first_wrong.Tie as tie
 
-abbrev invariant-loop : tie.invariant-loop
+abbrev invariant-loop : tie.invariant-loop-k
 invariant-loop sheet n p count k₀ k = (k ≤ count) × (first_from (entry_fits n p sheet) 1 count ≡ first_from (entry_fits n p sheet) (k + 1) (count - k))
 
-abbrev decreases-loop : tie.decreases-loop
+abbrev decreases-loop : tie.decreases-loop-k
 decreases-loop sheet n p count k₀ k = count - k
 
-returns : tie.Need-returns invariant-loop decreases-loop
+returns : tie.Need-returns-then-not-entry_fits invariant-loop decreases-loop
 returns c =
-    let turn = c.before.before in
-    laws.first_found _ _ _ _ turn.before.loop.invariant.1 turn.loop-test.true (sym c.before.entry_fits_lem.ensures ∙ not-true _ c.if1.true)
+    laws.first_found _ _ _ _ c.loop-k.invariant.1 c.loop-k-test.true (sym c.entry_fits.ensures ∙ c.if-not-entry_fits.true)
 
-loop-again : tie.Need-loop-preserved invariant-loop decreases-loop
-loop-again c =
-    let turn = c.before.before in (
-      omega arith,
-      laws.first_again _ _ _ _ turn.before.loop.invariant.1 turn.loop-test.true (sym c.before.entry_fits_lem.ensures ∙ not-false _ c.if1.false),
-    )
+loop-again : tie.Need-loop-k-preserved invariant-loop decreases-loop
+loop-again c = (
+  omega arith,
+  laws.first_again _ _ _ _ c.loop-k.invariant.1 c.loop-k-test.true (sym c.entry_fits.ensures ∙ c.if-not-entry_fits.false),
+)
 
-pub first-wrong-spec : {M : Type 1} → statement M
-first-wrong-spec =
+pub first_wrong_spec : {M : Type 1} → statement M
+first_wrong_spec =
     tie.close
     (tie.spec
     invariant-loop
@@ -39,4 +36,4 @@ first-wrong-spec =
     returns
     (λ c. search rules)
     loop-again
-    (λ c. laws.first_none _ _ _ _ c.before.loop.invariant.1 c.loop-test.false))
+    (λ c. laws.first_none _ _ _ _ c.loop-k.invariant.1 c.loop-k-test.false))

@@ -5,12 +5,12 @@ use borrow.Author.Rules.{rules}
 use Rattle.tags.proofs.sheet.limit_of.Statement.{statement}
 use Rattle.tags.proofs.sheet.limit_of.Tie as tie
 
-pub limit-of-spec : {M : Type 1} → statement M
-limit-of-spec =
+pub limit_of_spec : {M : Type 1} → statement M
+limit_of_spec =
     tie.close
     (tie.spec
     (λ c. search rules) (λ c. search rules) (λ c κs. search rules) (λ c. search rules) (λ c. search rules)
-    (λ c. rw c.enum_told.given.1)
-    (λ c. c.largest-of.ensures ∙ rw c.before.enum-told2.given.1)
-    (λ c. rw c.enum-told3.given.1 (omega arith))
-    (λ c. rw c.enum-told4.given.1))
+    (λ c. rw c.in-Binary.is)
+    (λ c. c.largest_of.ensures ∙ rw c.in-Maxbit.is)
+    (λ c. rw c.in-Maxvalue.is (omega arith))
+    (λ c. rw c.in-Unknown.is))

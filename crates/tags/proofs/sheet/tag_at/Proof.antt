@@ -6,14 +6,12 @@ use Rattle.tags.proofs.sheet.tag_at.Tie as tie
 
 returns : tie.Need-returns
 returns c =
-    let u = c.before.before.before in
-    let b = u.before.before in
     laws.entry_limit
-    (laws.fields b.before.start_of_lem.ensures.0 u.before.kind-of.ensures b.byte_at.ensures.0 u.u16-at.ensures.0 c.before.u32-at.ensures)
-    c.before.before.signal-of.ensures c.limit-of.ensures
+    (laws.fields c.start_of-at.ensures.0 c.kind_of-kind.ensures c.byte_at.ensures.0 c.u16_at.ensures.0 c.u32_at.ensures)
+    c.signal_of.ensures c.limit_of.ensures
 
-pub tag-at-spec : {M : Type 1} → statement M
-tag-at-spec =
+pub tag_at_spec : {M : Type 1} → statement M
+tag_at_spec =
     tie.close
     (tie.spec
     (λ c κs. search rules) (λ c. search rules) (λ c κs. search rules) (λ c κs. search rules) (λ c κs. search rules) (λ c κs. search rules)

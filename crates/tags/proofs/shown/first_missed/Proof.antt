@@ -3,7 +3,6 @@ use Prim.Native.Nat.{◌+◌, ◌-◌, ◌≤◌}
 use mathlib.Core.Path.{◌≡◌, sym, ◌∙◌}
 use native.Mathlib.Omega.{arith}
 use borrow.Author.Rules.{rules}
-use borrow.Author.Tests.{not-true, not-false}
 use Rattle.circuit.specs.Run.{values_in}
 use Rattle.circuit.specs.Runs.{first_from}
 use Rattle.circuit.proofs.SearchLaws as laws
@@ -13,30 +12,28 @@ use Rattle.tags.proofs.ShownLaws.{missed_is}
 use Rattle.tags.proofs.shown.first_missed.Statement.{statement}
 use Rattle.tags.proofs.shown.first_missed.Tie as tie
 
-abbrev invariant-loop : tie.invariant-loop
+abbrev invariant-loop : tie.invariant-loop-k
 invariant-loop sheet bounds i entries k₀ k =
     (k ≤ entries)
     × (first_from (not_missed i (values_in bounds) (tag_in sheet)) 1 entries ≡ first_from (not_missed i (values_in bounds) (tag_in sheet)) (k + 1) (entries - k))
 
-abbrev decreases-loop : tie.decreases-loop
+abbrev decreases-loop : tie.decreases-loop-k
 decreases-loop sheet bounds i entries k₀ k = entries - k
 
-returns : tie.Need-returns invariant-loop decreases-loop
+returns : tie.Need-returns-then-not-shown_at invariant-loop decreases-loop
 returns c =
-    let turn = c.before.before in
-    laws.first_found _ _ _ _ turn.before.loop.invariant.1 turn.loop-test.true
-    (missed_is _ _ _ _ ∙ sym c.before.shown-at.ensures ∙ not-true _ c.if1.true)
+    laws.first_found _ _ _ _ c.loop-k.invariant.1 c.loop-k-test.true
+    (missed_is _ _ _ _ ∙ sym c.shown_at.ensures ∙ c.if-not-shown_at.true)
 
-loop-again : tie.Need-loop-preserved invariant-loop decreases-loop
-loop-again c =
-    let turn = c.before.before in (
-      omega arith,
-      laws.first_again _ _ _ _ turn.before.loop.invariant.1 turn.loop-test.true
-          (missed_is _ _ _ _ ∙ sym c.before.shown-at.ensures ∙ not-false _ c.if1.false),
-    )
+loop-again : tie.Need-loop-k-preserved invariant-loop decreases-loop
+loop-again c = (
+  omega arith,
+  laws.first_again _ _ _ _ c.loop-k.invariant.1 c.loop-k-test.true
+      (missed_is _ _ _ _ ∙ sym c.shown_at.ensures ∙ c.if-not-shown_at.false),
+)
 
-pub first-missed-spec : {M : Type 1} → statement M
-first-missed-spec =
+pub first_missed_spec : {M : Type 1} → statement M
+first_missed_spec =
     tie.close
     (tie.spec
     invariant-loop
@@ -46,4 +43,4 @@ first-missed-spec =
     returns
     (λ c. search rules)
     loop-again
-    (λ c. laws.first_none _ _ _ _ c.before.loop.invariant.1 c.loop-test.false))
+    (λ c. laws.first_none _ _ _ _ c.loop-k.invariant.1 c.loop-k-test.false))

@@ -7,10 +7,10 @@ use Rattle.tags.proofs.shown.show.Tie as tie
 
 returns : tie.Need-returns
 unfolding shown_by sheet_of
-returns c = rw (c.first-missed.ensures, c.before.count-shown.ensures, c.before.before.u16-at.ensures.0)
+returns c = rw (c.first_missed.ensures, c.count_shown.ensures, c.u16_at-entries.ensures.0)
 
-pub show-spec : {M : Type 1} → statement M
-show-spec =
+pub show_spec : {M : Type 1} → statement M
+show_spec =
     tie.close
     (tie.spec
     (λ c κs. search rules) (λ c κs. search rules) (λ c κs. search rules)

@@ -4,13 +4,13 @@ use Rattle.tags.proofs.ShownLaws as laws
 use Rattle.tags.proofs.shown.shown_at.Statement.{statement}
 use Rattle.tags.proofs.shown.shown_at.Tie as tie
 
-pub shown-at-spec : {M : Type 1} → statement M
-shown-at-spec =
+pub shown_at_spec : {M : Type 1} → statement M
+shown_at_spec =
     tie.close
     (tie.spec
     (λ c κs. search rules)
-    (λ c. laws.on_input c.before.before.tag_at.ensures _ _ _ c.if1.true)
+    (λ c. laws.on_input c.tag_at-tag.ensures _ _ _ c.if-tag-i.true)
     (λ c κs. search rules)
     (λ c.
-    laws.on_other_lem c.before.before.before.before.tag_at.ensures _ _ _ c.before.before.if1.false c.before.value_of_lem.ensures
+    laws.on_other_lem c.tag_at-tag.ensures _ _ _ c.if-tag-i.false c.value_of.ensures
     (search rules)))
