@@ -6,16 +6,16 @@ use Rattle.pair.proofs.Exact.{exactly, circuit_refused}
 use Rattle.pair.proofs.check_pair.Statement.{statement}
 use Rattle.pair.proofs.check_pair.Tie as tie
 
-returns : tie.Need-returns
+returns : tie.Need-returns-in-Refused
 returns c =
     exactly _ _ _ _
-    (circuit_refused _ _ _ (sym (ap paper_of c.before.answer.given.1) ∙ c.before.before.before.check-circuit.ensures.0))
+    (circuit_refused _ _ _ (sym (ap paper_of c.in-Refused.is) ∙ c.check_circuit-answer.ensures.0))
 
-pub check-pair-spec : {M : Type 1} → statement M
-check-pair-spec =
+pub check_pair_spec : {M : Type 1} → statement M
+check_pair_spec =
     tie.close
     (tie.spec
     (λ c κs. search rules) (λ c. search rules) (λ c. search rules)
-    (λ c κs. c.before.before.before.check-circuit.ensures.1 _ (ap paper_of c.before.answer2.given.1))
+    (λ c κs. c.check_circuit-answer.ensures.1 _ (ap paper_of c.in-Sizes.is))
     returns
-    (λ c. exactly _ _ _ _ c.check-on.ensures))
+    (λ c. exactly _ _ _ _ c.check_on.ensures))

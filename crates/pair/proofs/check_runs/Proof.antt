@@ -16,109 +16,87 @@ use Rattle.pair.proofs.check_runs.Statement.{statement}
 use Rattle.pair.proofs.check_runs.Tie as tie
 
 -- the runs in the arrays, and the places before
-abbrev v : tie.After-first → ℕ → ℕ
-v b = values_in b.before.before.before.copy_run.result
+abbrev v : tie.After-first-1 → ℕ → ℕ
+v b = values_in b.copy_run-first.result
 
-abbrev w : tie.After-first → ℕ → ℕ
-w b = values_in b.before.copy-run2.result
-
-abbrev start : tie.After-first → tie.Start
-start b = b.before.before.before.before.before.before.before
-
-abbrev arrays : tie.Else2 → tie.After-first
-arrays u = u.before.before.before.before.before
+abbrev w : tie.After-first-1 → ℕ → ℕ
+w b = values_in b.copy_run-second.result
 
 -- the arrays hold the runs
-copied : (b : tie.After-first) (T : Sheet) (constraint : ℕ → Constraint) → let a = (start b).args in
+copied : (b : tie.After-first-1) (T : Sheet) (constraint : ℕ → Constraint) → let a = b.args in
     let values = a.values.now in
     let n = a.sizes.n in
     runs_on a.sizes T constraint (v b) (w b) a.q
     ≡ runs_on a.sizes T constraint (value_of (run_in values n)) (value_of (run_in (drop (4 * n) values) n)) a.q
 copied b T constraint =
-    let s = start b in
-    laws.runs_copied s.args.sizes T constraint s.args.values.now _ _ s.args.q s.pre.0 s.pre.2
-    b.before.before.before.copy_run.ensures b.before.copy-run2.ensures
+    laws.runs_copied b.args.sizes T constraint b.args.values.now _ _ b.args.q b.requires.0 b.requires.2
+    b.copy_run-first.ensures b.copy_run-second.ensures
 
-returns-2 : tie.Need-returns-2
+returns-2 : tie.Need-returns-then-in_second-ne0
 returns-2 c =
-    let second = c.before.before.before in
-    let first = second.before.before in
-    ap paper_of c.refusal2.ensures
-    ∙ laws.runs_second _ _ _ _ _ _ (sym first.before.first-unsatisfied.ensures ∙ first.if1.false) second.first-unsatisfied2.ensures
-    c.before.before.if2.true
-    ∙ copied first.before.before _ _
+    ap paper_of c.refusal-then-in_second-ne0.ensures
+    ∙ laws.runs_second _ _ _ _ _ _ (sym c.first_unsatisfied-in_first.ensures ∙ c.if-in_first-ne0.false) c.first_unsatisfied-in_second.ensures
+    c.if-in_second-ne0.true
+    ∙ copied c.before.before.before.before.before.before.before _ _
 
 -- the searches for an unsatisfied constraint found none
-satisfied : (c : tie.Else2) → let b = arrays c in
-    let a = (start b).args in
-    laws.NoneUnsatisfied a.sizes (constraint_of a.body.now) (v b) (w b)
+satisfied : (c : tie.Else-in_second-ne0) →
+    let a = c.args in
+    laws.NoneUnsatisfied a.sizes (constraint_of a.body.now) (v c.before.before.before.before.before) (w c.before.before.before.before.before)
 satisfied c =
-    let first = c.before.before.before in
     record {
-      first = sym first.before.first-unsatisfied.ensures ∙ first.if1.false;
-      second = sym c.before.first-unsatisfied2.ensures ∙ c.if2.false;
+      first = sym c.first_unsatisfied-in_first.ensures ∙ c.if-in_first-ne0.false;
+      second = sym c.first_unsatisfied-in_second.ensures ∙ c.if-in_second-ne0.false;
     }
 
-returns-3 : tie.Need-returns-3
+returns-3 : tie.Need-returns-then-input-ne0
 returns-3 c =
-    let input = c.before.before in
-    let u = input.before.before.before in
-    ap paper_of c.refusal3.ensures ∙ laws.runs_input _ _ _ _ _ _ (satisfied u) input.first-difference.ensures c.before.if3.true
-    ∙ copied (arrays u) _ _
+    ap paper_of c.refusal-then-input-ne0.ensures ∙ laws.runs_input _ _ _ _ _ _ (satisfied c.before.before.before.before.before) c.first_difference-input.ensures c.if-input-ne0.true
+    ∙ copied c.before.before.before.before.before.before.before.before.before.before _ _
 
 -- what is found among the inputs
-broken : (c : tie.After-first-broken) → let b = arrays c.before.before.before.before.before.before in
-    let a = (start b).args in
-    c.first-broken.result ≡ first_from (kept (sheet_of a.sheet.now) (v b)) 1 a.sizes.i
+broken : (c : tie.After-first_broken-broken) →
+    let a = c.args in
+    c.first_broken-broken.result ≡ first_from (kept (sheet_of a.sheet.now) (v c.before.before.before.before.before.before.before.before.before.before.before)) 1 a.sizes.i
 broken c =
-    let s = start (arrays c.before.before.before.before.before.before) in
-    laws.broken_all _ _ _ s.pre.1 c.first-broken.ensures
+    laws.broken_all _ _ _ c.requires.1 c.first_broken-broken.ensures
 
-returns-4 : tie.Need-returns-4
+returns-4 : tie.Need-returns-then-broken-ne0
 returns-4 c =
-    let input = c.before.before.before.before in
-    let u = input.before.before.before.before in
-    ap paper_of c.refusal4.ensures
-    ∙ laws.runs_broken _ _ _ _ _ _ (satisfied u) (sym input.before.first-difference.ensures ∙ input.if3.false) (broken c.before.before)
-    c.before.if4.true
-    ∙ copied (arrays u) _ _
+    ap paper_of c.refusal-then-broken-ne0.ensures
+    ∙ laws.runs_broken _ _ _ _ _ _ (satisfied c.before.before.before.before.before.before.before.before) (sym c.first_difference-input.ensures ∙ c.if-input-ne0.false) (broken c.before.before)
+    c.if-broken-ne0.true
+    ∙ copied c.before.before.before.before.before.before.before.before.before.before.before.before.before _ _
 
 -- no search found anything
-none : (c : tie.Else4) → let b = arrays c.before.before.before.before.before.before.before in
-    let a = (start b).args in
-    laws.NoneFound a.sizes (sheet_of a.sheet.now) (constraint_of a.body.now) (v b) (w b)
+none : (c : tie.Else-broken-ne0) →
+    let a = c.args in
+    laws.NoneFound a.sizes (sheet_of a.sheet.now) (constraint_of a.body.now) (v c.before.before.before.before.before.before.before.before.before.before.before.before) (w c.before.before.before.before.before.before.before.before.before.before.before.before)
 none c =
-    let input = c.before.before.before in
     record {
-      satisfied = satisfied input.before.before.before.before;
-      input = sym input.before.first-difference.ensures ∙ input.if3.false;
-      broken = sym (broken c.before) ∙ c.if4.false;
+      satisfied = satisfied c.before.before.before.before.before.before.before;
+      input = sym c.first_difference-input.ensures ∙ c.if-input-ne0.false;
+      broken = sym (broken c.before) ∙ c.if-broken-ne0.false;
     }
 
-returns-5 : tie.Need-returns-5
+returns-5 : tie.Need-returns-then-value_of
 returns-5 c =
-    let y = c.before.before in
-    let x = y.before.before in
-    let N = x.before.before in
-    ap paper_of c.refusal5.ensures ∙ laws.runs_agree _ _ _ _ _ _ (none N) x.value_of_lem.ensures y.value-of2.ensures c.before.if5.true
-    ∙ copied (arrays N.before.before.before.before.before.before.before) _ _
+    ap paper_of c.refusal-then-value_of.ensures ∙ laws.runs_agree _ _ _ _ _ _ (none c.before.before.before.before.before.before) c.value_of.ensures c.value_of-2.ensures c.if-value_of.true
+    ∙ copied c.before.before.before.before.before.before.before.before.before.before.before.before.before.before.before.before.before.before _ _
 
-returns-6 : tie.Need-returns-6
+returns-6 : tie.Need-returns
 returns-6 c =
-    let y = c.before in
-    let x = y.before.before in
-    let N = x.before.before in
-    laws.runs_differ _ _ _ _ _ _ (none N) x.value_of_lem.ensures y.value-of2.ensures c.if5.false
-    ∙ copied (arrays N.before.before.before.before.before.before.before) _ _
+    laws.runs_differ _ _ _ _ _ _ (none c.before.before.before.before.before) c.value_of.ensures c.value_of-2.ensures c.if-value_of.false
+    ∙ copied c.before.before.before.before.before.before.before.before.before.before.before.before.before.before.before.before.before _ _
 
-pub check-runs-spec : {M : Type 1} → statement M
-check-runs-spec =
+pub check_runs_spec : {M : Type 1} → statement M
+check_runs_spec =
     tie.close
     (tie.spec
     (λ c. search rules) (λ c. search rules) (λ c κs. search rules) (λ c. search rules) (λ c. search rules) (λ c. search rules) (λ c κs. search rules)
     (λ c. search rules) (λ c κs. search rules) (λ c. search rules) (λ c κs. search rules)
     (λ c. ap paper_of c.refusal.ensures
-    ∙ laws.runs_first _ _ _ _ _ _ c.before.before.first-unsatisfied.ensures c.before.if1.true ∙ copied c.before.before.before _ _)
+    ∙ laws.runs_first _ _ _ _ _ _ c.first_unsatisfied-in_first.ensures c.if-in_first-ne0.true ∙ copied c.before.before.before _ _)
     (λ c. search rules) (λ c κs. search rules) (λ c. search rules) (λ c. search rules) (λ c. search rules) (λ c κs. search rules)
     returns-2
     (λ c. search rules) (λ c. search rules) (λ c κs. search rules) (λ c. search rules) (λ c κs. search rules)
