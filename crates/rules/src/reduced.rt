@@ -44,7 +44,7 @@ fn add_form(coefs: &mut [u32], forms: &mut [u8], part: &[u8], factor: u32, bit: 
     }
 }
 
-// Rule 4.2: typeof.a0.B + typeof.b0.A - a0·b0 - C modulo p, nothing where p is 0 or 1.
+// Rule 4.2: a0·B + b0·A - a0·b0 - C modulo p, nothing where p is 0 or 1.
 pub(crate) fn reduced_form(part: &[u8], p: u32) -> Reduced
     ensures { 1 < p → Reduces p (constraint_in part.now) result.coefs result.forms }
 {

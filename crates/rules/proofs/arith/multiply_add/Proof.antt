@@ -5,8 +5,8 @@ use Rattle.rules.proofs.Products.{product_room}
 use Rattle.rules.proofs.arith.multiply_add.Statement.{statement}
 use Rattle.rules.proofs.arith.multiply_add.Tie as tie
 
-pub multiply-add-spec : {M : Type 1} → statement M
-multiply-add-spec =
+pub multiply_add_spec : {M : Type 1} → statement M
+multiply_add_spec =
     tie.close
     (tie.spec
     (λ c. let room = product_room c.args.a c.args.b (omega arith) (omega arith) in omega arith)

@@ -8,7 +8,7 @@ use Rattle.rules.proofs.arith.opposite.Tie as tie
 
 returns : tie.Need-returns
 unfolding opposite
-returns c = ap (λ (x : ℕ). c.before.args.p - x) c.residue.ensures.0
+returns c = ap (λ (x : ℕ). c.args.p - x) c.residue.ensures.0
 
-pub opposite-spec : {M : Type 1} → statement M
-opposite-spec = tie.close (tie.spec (λ c κs. search rules) (λ c. search rules) returns)
+pub opposite_spec : {M : Type 1} → statement M
+opposite_spec = tie.close (tie.spec (λ c κs. search rules) (λ c. search rules) returns)

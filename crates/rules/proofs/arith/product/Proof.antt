@@ -5,8 +5,8 @@ use Rattle.rules.proofs.Products.{product_room}
 use Rattle.rules.proofs.arith.product.Statement.{statement}
 use Rattle.rules.proofs.arith.product.Tie as tie
 
-pub product-spec : {M : Type 1} → statement M
-product-spec =
+pub product_spec : {M : Type 1} → statement M
+product_spec =
     tie.close
     (tie.spec
     (λ c. let room = product_room c.args.a c.args.b (omega arith) (omega arith) in omega arith)

@@ -6,12 +6,12 @@ use native.Mathlib.Omega.{arith}
 use Rattle.rules.proofs.arith.residue.Statement.{statement}
 use Rattle.rules.proofs.arith.residue.Tie as tie
 
-pub residue-spec : {M : Type 1} → statement M
-residue-spec =
+pub residue_spec : {M : Type 1} → statement M
+residue_spec =
     tie.close
     (tie.spec
     (λ c. search rules)
-    (λ c. (sym (mod-eq_of_lt c.if1.true), c.if1.true))
+    (λ c. (sym (mod-eq_of_lt c.if-v-p.true), c.if-v-p.true))
     (λ c. search rules)
-    (λ c. omega (arith, mod-lt c.before.args.v c.before.requires))
-    (λ c. (refl, mod-lt _ c.before.requires)))
+    (λ c. omega (arith, mod-lt c.args.v c.requires))
+    (λ c. (refl, mod-lt _ c.requires)))

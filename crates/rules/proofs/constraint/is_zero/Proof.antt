@@ -4,5 +4,5 @@ use Rattle.rules.proofs.FormTests as tests
 use Rattle.rules.proofs.constraint.is_zero.Statement.{statement}
 use Rattle.rules.proofs.constraint.is_zero.Tie as tie
 
-pub is-zero-spec : {M : Type 1} → statement M
-is-zero-spec = tie.close (tie.spec (λ c. search rules) (λ c κs. search rules) (λ c. tests.found_zero 1 _ _ c.Stays-out.ensures))
+pub is_zero_spec : {M : Type 1} → statement M
+is_zero_spec = tie.close (tie.spec (λ c. search rules) (λ c κs. search rules) (λ c. tests.found_zero 1 _ _ c.stays_out.ensures))

@@ -1,30 +1,26 @@
 -- `rules::constraint::root_met`: C, A and B, one after the other.
 use borrow.Author.Rules.{rules}
-use borrow.Author.Tests.{not-true, not-false}
 use Rattle.rules.proofs.FormTests as tests
 use Rattle.rules.proofs.constraint.root_met.Statement.{statement}
 use Rattle.rules.proofs.constraint.root_met.Tie as tie
 
-returns : tie.Need-returns
+returns : tie.Need-returns-then-not-is_zero
 returns c =
-    let z = c.before in
-    tests.root_zero _ _ _ z.before.before.after-form.ensures z.before.after-form2.ensures _ _ z.is_zero.ensures (not-true _ c.if1.true)
+    tests.root_zero _ _ _ c.after_form-b.ensures c.after_form.ensures _ _ c.is_zero.ensures c.if-not-is_zero.true
 
-returns-2 : tie.Need-returns-2
+returns-2 : tie.Need-returns-then-not-names_just
 returns-2 c =
-    let z = c.before.before.before in
-    tests.root_first _ _ _ z.before.before.after-form.ensures z.before.after-form2.ensures _ _ z.is_zero.ensures
-    (not-false _ c.before.before.if1.false) _ c.before.names-just.ensures (not-true _ c.if2.true)
+    tests.root_first _ _ _ c.after_form-b.ensures c.after_form.ensures _ _ c.is_zero.ensures
+    c.if-not-is_zero.false _ c.names_just.ensures c.if-not-names_just.true
 
-returns-3 : tie.Need-returns-3
+returns-3 : tie.Need-returns
 returns-3 c =
-    let z = c.before.before.before.before in
-    tests.root_second _ _ _ z.before.before.after-form.ensures z.before.after-form2.ensures _ _ z.is_zero.ensures
-    (not-false _ c.before.before.before.if1.false) _ c.before.before.names-just.ensures (not-false _ c.before.if2.false) _
-    c.names-just2.ensures
+    tests.root_second _ _ _ c.after_form-b.ensures c.after_form.ensures _ _ c.is_zero.ensures
+    c.if-not-is_zero.false _ c.names_just.ensures c.if-not-names_just.false _
+    c.names_just-2.ensures
 
-pub root-met-spec : {M : Type 1} → statement M
-root-met-spec =
+pub root_met_spec : {M : Type 1} → statement M
+root_met_spec =
     tie.close
     (tie.spec
     (λ c κs. search rules) (λ c κs. search rules) (λ c κs. search rules)

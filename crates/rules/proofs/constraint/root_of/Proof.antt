@@ -8,21 +8,21 @@ use Rattle.circuit.specs.Circuit.{coef}
 use Rattle.rules.proofs.constraint.root_of.Statement.{statement}
 use Rattle.rules.proofs.constraint.root_of.Tie as tie
 
-sub-multiply-add : tie.Need-overflow-sub-multiply-add
+sub-multiply-add : tie.Need-overflow_sub-p
 sub-multiply-add c =
-    let a = c.before.before.before.before.args in
-    omega (arith, c.before.coefficients.ensures.0, mod-lt (coef (form_in a.part.now) 0) {m = a.p} (omega arith))
+    let a = c.args in
+    omega (arith, c.coefficients-found.ensures.0, mod-lt (coef (form_in a.part.now) 0) {m = a.p} (omega arith))
 
-returns-2 : tie.Need-returns-2
+returns-2 : tie.Need-returns
 returns-2 c =
-    let found = c.before.before.before.coefficients.ensures in
-    tests.root_made _ _ _ _ _ _ _ found.0 found.1 c.before.inverse.ensures.0 c.multiply-add.ensures.0
+    let found = c.coefficients-found.ensures in
+    tests.root_made _ _ _ _ _ _ _ found.0 found.1 c.inverse.ensures.0 c.multiply_add.ensures.0
 
-pub root-of-spec : {M : Type 1} → statement M
-root-of-spec =
+pub root_of_spec : {M : Type 1} → statement M
+root_of_spec =
     tie.close
     (tie.spec
-    (λ c. tests.root_small _ _ _ c.if1.true)
+    (λ c. tests.root_small _ _ _ c.if-p-lt2.true)
     (λ c κs. search rules)
     sub-multiply-add
     (λ c κs. search rules) (λ c κs. search rules)

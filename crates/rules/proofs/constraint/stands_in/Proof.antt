@@ -5,10 +5,10 @@ use Rattle.rules.proofs.FormTests as tests
 use Rattle.rules.proofs.constraint.stands_in.Statement.{statement}
 use Rattle.rules.proofs.constraint.stands_in.Tie as tie
 
-pub stands-in-spec : {M : Type 1} → statement M
-stands-in-spec =
+pub stands_in_spec : {M : Type 1} → statement M
+stands_in_spec =
     tie.close
     (tie.spec
     (λ c κs. search rules)
-    (λ c. let seen = c.before.before.survey.ensures in tests.survey_no _ _ _ _ seen.others_are seen.named (not-true _ c.if1.true))
-    (λ c. let seen = c.before.before.survey.ensures in tests.survey_yes _ _ _ _ seen.others_are seen.named (not-false _ c.if1.false)))
+    (λ c. let seen = c.survey-seen.ensures in tests.survey_no _ _ _ _ seen.others_are seen.named (not-true _ c.if-not-seen.true))
+    (λ c. let seen = c.survey-seen.ensures in tests.survey_yes _ _ _ _ seen.others_are seen.named (not-false _ c.if-not-seen.false)))

@@ -7,14 +7,14 @@ use Rattle.rules.proofs.FormTests as tests
 use Rattle.rules.proofs.constraint.stays_out.Statement.{statement}
 use Rattle.rules.proofs.constraint.stays_out.Tie as tie
 
-pub stays-out-spec : {M : Type 1} → statement M
-stays-out-spec =
+pub stays_out_spec : {M : Type 1} → statement M
+stays_out_spec =
     tie.close
     (tie.spec
     (λ c κs. search rules)
     (λ c.
-    let seen = c.before.before.survey.ensures in
-    tests.survey_no _ _ _ _ seen.others_are (λ e. ap not (seen.named e)) (not-true _ c.if1.true))
+    let seen = c.survey-seen.ensures in
+    tests.survey_no _ _ _ _ seen.others_are (λ e. ap not (seen.named e)) (not-true _ c.if-not-seen.true))
     (λ c.
-    let seen = c.before.before.before.survey.ensures in
-    tests.survey_yes _ _ _ _ seen.others_are (λ e. ap not (seen.named e)) (not-false _ c.before.if1.false)))
+    let seen = c.survey-seen.ensures in
+    tests.survey_yes _ _ _ _ seen.others_are (λ e. ap not (seen.named e)) (not-false _ c.if-not-seen.false)))

@@ -9,5 +9,5 @@ returns : tie.Need-returns
 unfolding coef_on at
 returns c = refl
 
-pub coef-on-spec : {M : Type 1} → statement M
-coef-on-spec = tie.close (tie.spec (λ c. search rules) (λ c. search rules) (λ c. search rules) (λ c. search rules) returns)
+pub coef_on_spec : {M : Type 1} → statement M
+coef_on_spec = tie.close (tie.spec (λ c. search rules) (λ c. search rules) (λ c. search rules) (λ c. search rules) returns)

@@ -11,33 +11,32 @@ use Rattle.rules.specs.Weights.{Differ, Between}
 use Rattle.rules.proofs.digits.coefs_differ.Statement.{statement}
 use Rattle.rules.proofs.digits.coefs_differ.Tie as tie
 
-abbrev invariant-loop : tie.invariant-loop
+abbrev invariant-loop : tie.invariant-loop-i
 invariant-loop row marks end least₀ most₀ i₀ least most i =
     (i ≤ end) × Differ (coef_on row) (mark_on marks row) i × Between (coef_on row) (mark_on marks row) i least most
 
-abbrev decreases-loop : tie.decreases-loop
+abbrev decreases-loop : tie.decreases-loop-i
 decreases-loop row marks end least₀ most₀ i₀ least most i = end - i
 
-returns : tie.Need-returns invariant-loop decreases-loop
-returns c =
-    let asked = c.before.before.before.before in (
-      λ e. true_or_false _ e refl,
-      λ e. laws.differ_clash _ _ _ _ _ asked.before.loop-test.true c.before.before.coef-on.ensures
-          (sym asked.is_live.ensures ∙ c.before.before.before.if1.true) (c.before.is-taken.ensures.1 c.if2.true),
-    )
+returns : tie.Need-returns-then-is_taken invariant-loop decreases-loop
+returns c = (
+  λ e. true_or_false _ e refl,
+  λ e. laws.differ_clash _ _ _ _ _ c.loop-i-test.true c.coef_on-coef.ensures
+      (sym c.is_live.ensures ∙ c.if-is_live.true) (c.is_taken.ensures.1 c.if-is_taken.true),
+)
 
-loop-again : tie.Need-loop-preserved invariant-loop decreases-loop
+loop-again : tie.Need-loop-i-preserved invariant-loop decreases-loop
 loop-again c =
-    let l = c.before.before.before.loop in (
+    let l = c.loop-i in (
       omega arith,
-      ⊎_elim (λ w. laws.differ_on _ _ _ l.invariant.1 _ w.1.ensures (w.2.ensures.0 w.3.left))
-          (λ w. laws.differ_skip _ _ _ l.invariant.1 (sym c.before.is_live.ensures ∙ w.0.left)) c.if1.branch,
-      ⊎_elim (λ w. rw (w.6, w.7) (laws.between_on _ _ _ _ _ l.invariant.2 _ _ _ w.1.ensures w.4.ensures w.5.ensures))
-          (λ w. rw (w.1, w.2) (laws.between_skip _ _ _ _ _ l.invariant.2 (sym c.before.is_live.ensures ∙ w.0.left))) c.if1.branch,
+      ⊎_elim (λ w. laws.differ_on _ _ _ l.invariant.1 _ w.coef_on-coef.ensures (w.is_taken.ensures.0 w.if-is_taken.false))
+          (λ w. laws.differ_skip _ _ _ l.invariant.1 (sym c.is_live.ensures ∙ w.if-is_live.false)) c.if-is_live.branch-raw,
+      ⊎_elim (λ w. rw (w.least-is, w.most-is) (laws.between_on _ _ _ _ _ l.invariant.2 _ _ _ w.coef_on-coef.ensures w.lesser-least.ensures w.larger-most.ensures))
+          (λ w. rw (w.least-is, w.most-is) (laws.between_skip _ _ _ _ _ l.invariant.2 (sym c.is_live.ensures ∙ w.if-is_live.false))) c.if-is_live.branch-raw,
     )
 
-pub coefs-differ-spec : {M : Type 1} → statement M
-coefs-differ-spec =
+pub coefs_differ_spec : {M : Type 1} → statement M
+coefs_differ_spec =
     tie.close
     (tie.spec
     invariant-loop
@@ -47,4 +46,4 @@ coefs-differ-spec =
     returns
     (λ c κs. search rules) (λ c κs. search rules) (λ c. search rules) (λ c. omega arith)
     loop-again
-    (λ c. (λ e. record { alone = λ s l. c.before.loop.invariant.1.alone s (omega arith) }, λ e. true_or_false _ refl e)))
+    (λ c. (λ e. record { alone = λ s l. c.loop-i.invariant.1.alone s (omega arith) }, λ e. true_or_false _ refl e)))

@@ -11,21 +11,19 @@ use Rattle.rules.proofs.RowDigits as laws
 use Rattle.rules.proofs.digits.first_live.Statement.{statement}
 use Rattle.rules.proofs.digits.first_live.Tie as tie
 
-abbrev invariant-loop : tie.invariant-loop
+abbrev invariant-loop : tie.invariant-loop-i
 invariant-loop row marks end i₀ i = (i ≤ end) × ((j : ℕ) → j < i → live (coef_on row) (mark_on marks row) j ≡ false)
 
-abbrev decreases-loop : tie.decreases-loop
+abbrev decreases-loop : tie.decreases-loop-i
 decreases-loop row marks end i₀ i = end - i
 
-returns : tie.Need-returns invariant-loop decreases-loop
+returns : tie.Need-returns-then-is_live invariant-loop decreases-loop
 returns c =
-    let asked = c.before.before in
-    let turn = asked.before in
-    λ p n K pos L. laws.first_found L pos _ _ _ turn.loop-test.true c.signal-on.ensures
-    (sym asked.is_live.ensures ∙ c.before.if1.true) turn.before.loop.invariant.1
+    λ p n K pos L. laws.first_found L pos _ _ _ c.loop-i-test.true c.signal_on.ensures
+    (sym c.is_live.ensures ∙ c.if-is_live.true) c.loop-i.invariant.1
 
-pub first-live-spec : {M : Type 1} → statement M
-first-live-spec =
+pub first_live_spec : {M : Type 1} → statement M
+first_live_spec =
     tie.close
     (tie.spec
     invariant-loop
@@ -34,5 +32,5 @@ first-live-spec =
     (λ c κs. search rules) (λ c κs. search rules)
     returns
     (λ c. search rules) (λ c. omega arith)
-    (λ c. (omega arith, below_more _ _ c.before.before.before.loop.invariant.1 (sym c.before.is_live.ensures ∙ c.if1.false)))
-    (λ c p n K pos L. laws.first_none L pos _ (λ j l. c.before.loop.invariant.1 j (omega arith))))
+    (λ c. (omega arith, below_more _ _ c.loop-i.invariant.1 (sym c.is_live.ensures ∙ c.if-is_live.false)))
+    (λ c p n K pos L. laws.first_none L pos _ (λ j l. c.loop-i.invariant.1 j (omega arith))))

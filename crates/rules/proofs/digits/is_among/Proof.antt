@@ -11,22 +11,22 @@ use Rattle.rules.specs.Rows.{coef_on}
 use Rattle.rules.proofs.digits.is_among.Statement.{statement}
 use Rattle.rules.proofs.digits.is_among.Tie as tie
 
-abbrev invariant-loop : tie.invariant-loop
+abbrev invariant-loop : tie.invariant-loop-u
 invariant-loop row count x found₀ u₀ found u = (u ≤ count) × (found ≡ false → (s : ℕ) → s < u → coef_on row s ≡ x → ⊥)
 
-abbrev decreases-loop : tie.decreases-loop
+abbrev decreases-loop : tie.decreases-loop-u
 decreases-loop row count x found₀ u₀ found u = count - u
 
-loop-again : tie.Need-loop-preserved invariant-loop decreases-loop
+loop-again : tie.Need-loop-u-preserved invariant-loop decreases-loop
 loop-again c =
-    let l = c.before.before.before.loop in (
+    let l = c.loop-u in (
       omega arith,
-      ⊎_elim (λ w e. true_or_false _ w.1 e)
-          (λ w e. below_more _ _ (l.invariant.1 (sym w.1 ∙ e)) (λ g. w.0.left (c.before.coef-on.ensures ∙ g))) c.if1.branch,
+      ⊎_elim (λ w e. true_or_false _ w.found-is e)
+          (λ w e. below_more _ _ (l.invariant.1 (sym w.found-is ∙ e)) (λ g. w.if-coef_on-x.false (c.coef_on.ensures ∙ g))) c.if-coef_on-x.branch-raw,
     )
 
-pub is-among-spec : {M : Type 1} → statement M
-is-among-spec =
+pub is_among_spec : {M : Type 1} → statement M
+is_among_spec =
     tie.close
     (tie.spec
     invariant-loop
@@ -34,4 +34,4 @@ is-among-spec =
     (λ c. (omega arith, λ e s l g. omega arith))
     (λ c κs. search rules) (λ c. search rules) (λ c. omega arith)
     loop-again
-    (λ c e s l. c.before.loop.invariant.1 e s (omega arith)))
+    (λ c e s l. c.loop-u.invariant.1 e s (omega arith)))

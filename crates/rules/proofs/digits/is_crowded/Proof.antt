@@ -10,19 +10,18 @@ use Rattle.rules.proofs.SumLaws as laws
 use Rattle.rules.proofs.digits.is_crowded.Statement.{statement}
 use Rattle.rules.proofs.digits.is_crowded.Tie as tie
 
-abbrev invariant-loop : tie.invariant-loop
+abbrev invariant-loop : tie.invariant-loop-i
 invariant-loop row bounds marks p end reach₀ i₀ reach i = (i ≤ end) × (reach < 4294967296) × (reach ≡ sum i (bounds_on p bounds marks row))
 
-abbrev decreases-loop : tie.decreases-loop
+abbrev decreases-loop : tie.decreases-loop-i
 decreases-loop row bounds marks p end reach₀ i₀ reach i = end - i
 
-returns : tie.Need-returns invariant-loop decreases-loop
+returns : tie.Need-returns-then-p-reach invariant-loop decreases-loop
 returns c =
-    let turn = c.before.before in
-    λ e. laws.sum_over _ _ _ _ _ _ turn.before.loop.invariant.2 c.before.live-bound.ensures turn.loop-test.true c.if1.true
+    λ e. laws.sum_over _ _ _ _ _ _ c.loop-i.invariant.2 c.live_bound.ensures c.loop-i-test.true c.if-p-reach.true
 
-pub is-crowded-spec : {M : Type 1} → statement M
-is-crowded-spec =
+pub is_crowded_spec : {M : Type 1} → statement M
+is_crowded_spec =
     tie.close
     (tie.spec
     invariant-loop
@@ -31,5 +30,5 @@ is-crowded-spec =
     (λ c κs. search rules) (λ c. search rules) (λ c. search rules)
     returns
     (λ c. search rules) (λ c. omega arith)
-    (λ c. (omega arith, omega (arith, c.if1.false), laws.sum_on _ _ _ _ c.before.before.before.loop.invariant.2 c.before.live-bound.ensures))
+    (λ c. (omega arith, omega (arith, c.if-p-reach.false), laws.sum_on _ _ _ _ c.loop-i.invariant.2 c.live_bound.ensures))
     (λ c e. true_or_false _ e refl))

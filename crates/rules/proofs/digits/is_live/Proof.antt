@@ -8,19 +8,18 @@ use Rattle.rules.proofs.WeightLaws as laws
 use Rattle.rules.proofs.digits.is_live.Statement.{statement}
 use Rattle.rules.proofs.digits.is_live.Tie as tie
 
-returns-3 : tie.Need-returns-3
+returns-3 : tie.Need-returns
 unfolding mark_on
 returns-3 c =
-    let tested = c.before.before in
-    ap not (c.mark-at.ensures ∙ ap (mark_in _) c.before.signal-on.ensures)
-    ∙ sym (laws.live_marked _ _ _ tested.before.before.if1.false (λ e. tested.if2.false (tested.before.coef-on.ensures ∙ e)))
+    ap not (c.mark_at.ensures ∙ ap (mark_in _) c.signal_on.ensures)
+    ∙ sym (laws.live_marked _ _ _ c.if-i-eq0.false (λ e. c.if-coef_on-eq0.false (c.coef_on.ensures ∙ e)))
 
-pub is-live-spec : {M : Type 1} → statement M
-is-live-spec =
+pub is_live_spec : {M : Type 1} → statement M
+is_live_spec =
     tie.close
     (tie.spec
-    (λ c. sym (laws.live_none _ _ _ c.if1.true))
+    (λ c. sym (laws.live_none _ _ _ c.if-i-eq0.true))
     (λ c κs. search rules)
-    (λ c. sym (laws.live_absent _ _ _ (sym c.before.coef-on.ensures ∙ c.if2.true)))
+    (λ c. sym (laws.live_absent _ _ _ (sym c.coef_on.ensures ∙ c.if-coef_on-eq0.true)))
     (λ c κs. search rules) (λ c. search rules) (λ c κs. search rules)
     returns-3)

@@ -5,13 +5,13 @@ use Rattle.rules.proofs.RowDigits as laws
 use Rattle.rules.proofs.digits.prepare.Statement.{statement}
 use Rattle.rules.proofs.digits.prepare.Tie as tie
 
-returns : tie.Need-returns
+returns : tie.Need-returns-then-is_crowded
 returns c =
-    let reach = c.before.before.is-crowded.ensures c.before.if1.true in
+    let reach = c.is_crowded.ensures c.if-is_crowded.true in
     laws.prepared_none _ _ _ _ _ c.hopeless.ensures (record { fails = λ n K P L r er. laws.fails_crowded L P _ _ r er _ refl reach })
 
-pub prepare-spec : {M : Type 1} → statement M
-prepare-spec =
+pub prepare_spec : {M : Type 1} → statement M
+prepare_spec =
     tie.close
     (tie.spec
     (λ c κs. search rules) (λ c κs. search rules)

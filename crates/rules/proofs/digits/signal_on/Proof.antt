@@ -9,5 +9,5 @@ returns : tie.Need-returns
 unfolding signal_on at
 returns c = refl
 
-pub signal-on-spec : {M : Type 1} → statement M
-signal-on-spec = tie.close (tie.spec (λ c. search rules) (λ c. search rules) (λ c. search rules) returns)
+pub signal_on_spec : {M : Type 1} → statement M
+signal_on_spec = tie.close (tie.spec (λ c. search rules) (λ c. search rules) (λ c. search rules) returns)

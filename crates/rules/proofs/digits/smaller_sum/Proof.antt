@@ -11,29 +11,28 @@ use Rattle.rules.specs.Weights.{smaller_at}
 use Rattle.rules.proofs.digits.smaller_sum.Statement.{statement}
 use Rattle.rules.proofs.digits.smaller_sum.Tie as tie
 
-abbrev invariant-loop : tie.invariant-loop
+abbrev invariant-loop : tie.invariant-loop-j
 invariant-loop weights products count w below₀ j₀ below j =
     (j ≤ count) × (below ≡ sum j (smaller_at (coef_in weights) (coef_in products) w))
 
-abbrev decreases-loop : tie.decreases-loop
+abbrev decreases-loop : tie.decreases-loop-j
 decreases-loop weights products count w below₀ j₀ below j = count - j
 
-add-below : tie.Need-overflow-add-below invariant-loop decreases-loop
+add-below : tie.Need-overflow_add-below invariant-loop decreases-loop
 unfolding coef_in
 add-below c =
-    let l = c.before.before.before.before in
     let room =
-    laws.smaller_room _ _ _ _ _ _ _ _ _ c.before.before.before.loop-test.true l.loop.invariant.1 refl refl c.smaller-product.ensures in
-    omega (arith, room, l.before.requires.fits)
+    laws.smaller_room _ _ _ _ _ _ _ _ _ c.loop-j-test.true c.loop-j.invariant.1 refl refl c.smaller_product-below.ensures in
+    omega (arith, room, c.requires.fits)
 
-loop-again : tie.Need-loop-preserved invariant-loop decreases-loop
+loop-again : tie.Need-loop-j-preserved invariant-loop decreases-loop
 unfolding coef_in
 loop-again c =
-    let l = c.before.before.before.before.loop in
-    (omega arith, laws.smaller_on _ _ _ _ _ _ _ _ l.invariant.1 refl refl c.smaller-product.ensures)
+    let l = c.loop-j in
+    (omega arith, laws.smaller_on _ _ _ _ _ _ _ _ l.invariant.1 refl refl c.smaller_product-below.ensures)
 
-pub smaller-sum-spec : {M : Type 1} → statement M
-smaller-sum-spec =
+pub smaller_sum_spec : {M : Type 1} → statement M
+smaller_sum_spec =
     tie.close
     (tie.spec
     invariant-loop
@@ -43,4 +42,4 @@ smaller-sum-spec =
     add-below
     (λ c. search rules) (λ c. omega arith)
     loop-again
-    (λ c. laws.smaller_end _ _ _ _ _ c.before.loop.invariant.0 c.loop-test.false _ c.before.loop.invariant.1))
+    (λ c. laws.smaller_end _ _ _ _ _ c.loop-j.invariant.0 c.loop-j-test.false _ c.loop-j.invariant.1))

@@ -11,17 +11,17 @@ use Rattle.rules.proofs.form.coefficients.Tie as tie
 
 returns : tie.Need-returns
 returns c =
-    let seen = c.before.before.survey.ensures in
-    let p = c.before.before.before.before.before.args.p in
+    let seen = c.survey-seen.ensures in
+    let p = c.args.p in
     let whole = seen.others_are ∙ others_all _ _ _ (mark_all 1) in
     (ap (λ (x : ℕ). x % p) (seen.constant_is whole), ap (λ (x : ℕ). x % p) (seen.coef_is whole))
 
-pub coefficients-spec : {M : Type 1} → statement M
-coefficients-spec =
+pub coefficients_spec : {M : Type 1} → statement M
+coefficients_spec =
     tie.close
     (tie.spec
     (λ c. search rules) (λ c κs. search rules) (λ c. search rules)
-    (λ c. omega (arith, mod-lt c.before.survey.result.constant c.before.before.before.before.requires))
+    (λ c. omega (arith, mod-lt c.survey-seen.result.constant c.requires))
     (λ c. search rules)
-    (λ c. omega (arith, mod-lt c.before.before.survey.result.coef c.before.before.before.before.before.requires))
+    (λ c. omega (arith, mod-lt c.survey-seen.result.coef c.requires))
     returns)

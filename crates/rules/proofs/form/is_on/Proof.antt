@@ -3,5 +3,5 @@ use borrow.Author.Tests.{lt-leb, le-leb}
 use Rattle.rules.proofs.form.is_on.Statement.{statement}
 use Rattle.rules.proofs.form.is_on.Tie as tie
 
-pub is-on-spec : {M : Type 1} → statement M
-is-on-spec = tie.close (tie.spec (λ c. rw (lt-leb _ _ c.if1.true)) (λ c. rw (le-leb _ _ c.if1.false)))
+pub is_on_spec : {M : Type 1} → statement M
+is_on_spec = tie.close (tie.spec (λ c. rw (lt-leb _ _ c.if-signal-gt-SIGNALS_MOST.true)) (λ c. rw (le-leb _ _ c.if-signal-gt-SIGNALS_MOST.false)))

@@ -6,10 +6,10 @@ use Rattle.laws.proofs.Sum.{keep_true, keep_false}
 use Rattle.rules.proofs.form.with_term.Statement.{statement}
 use Rattle.rules.proofs.form.with_term.Tie as tie
 
-pub with-term-spec : {M : Type 1} → statement M
-with-term-spec =
+pub with_term_spec : {M : Type 1} → statement M
+with_term_spec =
     tie.close
     (tie.spec
     (λ c κs. search rules) (λ c. search rules)
-    (λ c. let on = sym c.before.is-on.ensures ∙ c.if1.true in omega (arith, keep_true _ c.before.before.args.coefficient on))
-    (λ c. let off = sym c.before.is-on.ensures ∙ c.if1.false in omega (arith, keep_false _ c.before.before.args.coefficient off)))
+    (λ c. let on = sym c.is_on.ensures ∙ c.if-is_on.true in omega (arith, keep_true _ c.args.coefficient on))
+    (λ c. let off = sym c.is_on.ensures ∙ c.if-is_on.false in omega (arith, keep_false _ c.args.coefficient off)))

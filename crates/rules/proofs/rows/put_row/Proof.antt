@@ -8,41 +8,35 @@ use Rattle.rules.proofs.MakingLaws as laws
 use Rattle.rules.proofs.rows.put_row.Statement.{statement}
 use Rattle.rules.proofs.rows.put_row.Tie as tie
 
-abbrev invariant-loop : tie.invariant-loop
+abbrev invariant-loop : tie.invariant-loop-s
 invariant-loop rows₀ start part n p reduced end₀ s₀ rows end s = laws.Putting p n (constraint_in part) start rows₀ s end rows
 
-abbrev decreases-loop : tie.decreases-loop
+abbrev decreases-loop : tie.decreases-loop-s
 decreases-loop rows₀ start part n p reduced end₀ s₀ rows end s = n + 1 - s
 
-loop-again : tie.Need-loop-preserved invariant-loop decreases-loop
+loop-again : tie.Need-loop-s-preserved-then-end-rows invariant-loop decreases-loop
 loop-again c =
-    let b = c.before.before.before.before in
-    let l = b.before.before.before in
-    laws.puts_one l.before.before.before.before.requires.0 l.before.reduced-form.ensures l.loop.invariant b.before.before.loop-test.true
-    b.has-entry.ensures c.before.before.before.if1.true c.before.before.if2.true _ c.before.head_of.ensures
+    laws.puts_one c.requires.0 c.reduced_form-reduced.ensures c.loop-s.invariant c.loop-s-test.true
+    c.has_entry.ensures c.if-has_entry.true c.if-end-rows.true _ c.head_of.ensures
 
-loop-again-2 : tie.Need-loop-preserved-2 invariant-loop decreases-loop
+loop-again-2 : tie.Need-loop-s-preserved-else-end-rows invariant-loop decreases-loop
 loop-again-2 c =
-    let b = c.before.before in
-    let l = b.before.before.before in
-    laws.puts_full l.before.before.before.before.requires.0 l.before.reduced-form.ensures l.loop.invariant b.before.before.loop-test.true
-    b.has-entry.ensures c.before.if1.true c.if2.false
+    laws.puts_full c.requires.0 c.reduced_form-reduced.ensures c.loop-s.invariant c.loop-s-test.true
+    c.has_entry.ensures c.if-has_entry.true c.if-end-rows.false
 
-loop-again-3 : tie.Need-loop-preserved-3 invariant-loop decreases-loop
+loop-again-3 : tie.Need-loop-s-preserved invariant-loop decreases-loop
 loop-again-3 c =
-    let b = c.before in
-    let l = b.before.before.before in
-    laws.puts_on l.before.before.before.before.requires.0 l.before.reduced-form.ensures l.loop.invariant b.before.before.loop-test.true
-    b.has-entry.ensures c.if1.false
+    laws.puts_on c.requires.0 c.reduced_form-reduced.ensures c.loop-s.invariant c.loop-s-test.true
+    c.has_entry.ensures c.if-has_entry.false
 
 returns : tie.Need-returns invariant-loop decreases-loop
 returns c =
-    let l = c.before.loop in
-    let all : l.s ≡ suc c.before.before.before.before.before.args.n = omega (arith, l.invariant.upto, c.loop-test.false) in
+    let l = c.loop-s in
+    let all : l.s ≡ suc c.args.n = omega (arith, l.invariant.upto, c.loop-s-test.false) in
     (omega (arith, l.invariant.near), rw all at l.invariant.put)
 
-pub put-row-spec : {M : Type 1} → statement M
-put-row-spec =
+pub put_row_spec : {M : Type 1} → statement M
+put_row_spec =
     tie.close
     (tie.spec
     invariant-loop

@@ -9,11 +9,10 @@ use Rattle.rules.proofs.rows.row_of.Tie as tie
 returns : tie.Need-returns
 unfolding at coef_in
 returns c =
-    let h = c.before.before in
-    row_cut _ _ _ _ _ _ _ _ h.start_of_lem.ensures.0 h.before.before.coef-at.ensures h.before.nearer.ensures c.before.nearer2.ensures
+    row_cut _ _ _ _ _ _ _ _ c.start_of.ensures.0 c.coef_at.ensures c.nearer-end.ensures c.nearer-start.ensures
 
-pub row-of-spec : {M : Type 1} → statement M
-row-of-spec =
+pub row_of_spec : {M : Type 1} → statement M
+row_of_spec =
     tie.close
     (tie.spec
     (λ c κs. search rules) (λ c. search rules) (λ c κs. search rules) (λ c κs. search rules) (λ c κs. search rules) (λ c. search rules)

@@ -9,5 +9,5 @@ returns : tie.Need-returns
 unfolding start_of at coef_in
 returns c = search rules
 
-pub start-of-spec : {M : Type 1} → statement M
-start-of-spec = tie.close (tie.spec (λ c κs. search rules) (λ c. search rules) (λ c. search rules) (λ c. search rules) returns)
+pub start_of_spec : {M : Type 1} → statement M
+start_of_spec = tie.close (tie.spec (λ c κs. search rules) (λ c. search rules) (λ c. search rules) (λ c. search rules) returns)

@@ -4,10 +4,10 @@ use mathlib.Core.Path.{refl}
 use Rattle.rules.proofs.standing.bound_after.Statement.{statement}
 use Rattle.rules.proofs.standing.bound_after.Tie as tie
 
-pub bound-after-spec : {M : Type 1} → statement M
-bound-after-spec =
+pub bound_after_spec : {M : Type 1} → statement M
+bound_after_spec =
     tie.close
     (tie.spec
     (λ c. search rules) (λ c. search rules) (λ c κs. search rules)
-    (λ c. rw c.enum_told.given.1 refl)
-    (λ c. rw c.before.before.verdict.given.1 c.lesser.ensures))
+    (λ c. rw c.in-Unmet.is refl)
+    (λ c. rw c.in-AtMost.is c.lesser.ensures))

@@ -6,14 +6,14 @@ use Rattle.rules.proofs.SumLaws.{ceiling_signal}
 use Rattle.rules.proofs.sums.ceiling_on.Statement.{statement}
 use Rattle.rules.proofs.sums.ceiling_on.Tie as tie
 
-returns : tie.Need-returns
+returns : tie.Need-returns-then-i-eq0
 unfolding ceiling
-returns c = rw c.if1.true
+returns c = rw c.if-i-eq0.true
 
-pub ceiling-on-spec : {M : Type 1} → statement M
-ceiling-on-spec =
+pub ceiling_on_spec : {M : Type 1} → statement M
+ceiling_on_spec =
     tie.close
     (tie.spec
     returns
     (λ c κs. search rules)
-    (λ c. c.bound-on.ensures ∙ sym (ceiling_signal _ _ c.before.if1.false)))
+    (λ c. c.bound_on.ensures ∙ sym (ceiling_signal _ _ c.if-i-eq0.false)))

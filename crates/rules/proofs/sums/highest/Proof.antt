@@ -9,61 +9,53 @@ use Rattle.rules.proofs.SumLaws as laws
 use Rattle.rules.proofs.sums.highest.Statement.{statement}
 use Rattle.rules.proofs.sums.highest.Tie as tie
 
-abbrev invariant-loop : tie.invariant-loop
+abbrev invariant-loop : tie.invariant-loop-next
 invariant-loop row bounds p largest count found₀ top₀ next₀ found top next =
     (1 ≤ next) × (found ≤ count) × laws.Seen (coef_on row) (bound_on p bounds row) count next found top
 
-abbrev decreases-loop : tie.decreases-loop
+abbrev decreases-loop : tie.decreases-loop-next
 decreases-loop row bounds p largest count found₀ top₀ next₀ found top next = count - next
-
-abbrev turn : tie.After-bound-on invariant-loop decreases-loop → tie.At-loop invariant-loop decreases-loop
-turn c = c.before.before.before.before
 
 -- an entry with a coefficient
 target :
-    (c : tie.After-bound-on invariant-loop decreases-loop)
-    → let l = turn c in
-    let row = l.before.before.before.before.args.row.now in
-    Target (coef_on row) (entries row) l.loop.next
+    (c : tie.After-bound_on-bound invariant-loop decreases-loop)
+    →
+    let row = c.args.row.now in
+    Target (coef_on row) (entries row) c.loop-next.next
 unfolding coef_on at
-target c = record { least = omega arith; before = omega arith; present = c.before.if2.true }
+target c = record { least = omega arith; before = omega arith; present = c.if-row-i-ne0.true }
 
-loop-again : tie.Need-loop-preserved invariant-loop decreases-loop
+loop-again : tie.Need-loop-next-preserved-then-top-bound invariant-loop decreases-loop
 loop-again c =
-    let b = c.before in
-    (omega arith, omega arith, rw b.bound-on.ensures (laws.seen_new (turn b).loop.invariant.2 (target b) (rw b.bound-on.ensures at c.if3.true)))
+    (omega arith, omega arith, rw c.bound_on-bound.ensures (laws.seen_new c.loop-next.invariant.2 (target c.before) (rw c.bound_on-bound.ensures at c.if-top-bound.true)))
 
 -- the largest bound stands twice
-full : tie.Need-returns-2 invariant-loop decreases-loop
-full c =
-    let b = c.before.before.before in (
-      omega arith,
-      laws.seen_full (turn b).loop.invariant.2 (target b) (sym b.bound-on.ensures ∙ c.before.if4.true) (rw b.bound-on.ensures at c.if5.true),
-    )
+full : tie.Need-returns-then-largest-bound invariant-loop decreases-loop
+full c = (
+  omega arith,
+  laws.seen_full c.loop-next.invariant.2 (target c.before.before.before) (sym c.bound_on-bound.ensures ∙ c.if-bound-top.true) (rw c.bound_on-bound.ensures at c.if-largest-bound.true),
+)
 
-loop-again-2 : tie.Need-loop-preserved-2 invariant-loop decreases-loop
+loop-again-2 : tie.Need-loop-next-preserved-then-bound-top invariant-loop decreases-loop
 loop-again-2 c =
-    let b = c.before.before.before in
-    (omega arith, omega arith, laws.seen_tied (turn b).loop.invariant.2 (target b) (sym b.bound-on.ensures ∙ c.before.if4.true))
+    (omega arith, omega arith, laws.seen_tied c.loop-next.invariant.2 (target c.before.before.before) (sym c.bound_on-bound.ensures ∙ c.if-bound-top.true))
 
-loop-again-3 : tie.Need-loop-preserved-3 invariant-loop decreases-loop
+loop-again-3 : tie.Need-loop-next-preserved-else-bound-top invariant-loop decreases-loop
 loop-again-3 c =
-    let b = c.before.before in
-    (omega arith, (turn b).loop.invariant.1, laws.seen_same (turn b).loop.invariant.2 (λ d. omega (arith, b.bound-on.ensures)))
+    (omega arith, c.loop-next.invariant.1, laws.seen_same c.loop-next.invariant.2 (λ d. omega (arith, c.bound_on-bound.ensures)))
 
-loop-again-4 : tie.Need-loop-preserved-4 invariant-loop decreases-loop
+loop-again-4 : tie.Need-loop-next-preserved invariant-loop decreases-loop
 unfolding coef_on at
 loop-again-4 c =
-    let l = c.before.before.before in
-    (omega arith, l.loop.invariant.1, laws.seen_same l.loop.invariant.2 (λ d. absurd (d c.if2.false)))
+    (omega arith, c.loop-next.invariant.1, laws.seen_same c.loop-next.invariant.2 (λ d. absurd (d c.if-row-i-ne0.false)))
 
-pub highest-spec : {M : Type 1} → statement M
-highest-spec =
+pub highest_spec : {M : Type 1} → statement M
+highest_spec =
     tie.close
     (tie.spec
     invariant-loop
     decreases-loop
-    (λ c. (omega arith, λ e H below. absurd (omega (arith, c.if1.true))))
+    (λ c. (omega arith, λ e H below. absurd (omega (arith, c.if-p-eq0.true))))
     (λ c. search rules)
     (λ c. (omega arith, omega arith, laws.seen_start))
     (λ c. search rules) (λ c. search rules) (λ c. search rules) (λ c. search rules) (λ c. search rules) (λ c κs. search rules) (λ c. search rules)
@@ -75,4 +67,4 @@ highest-spec =
     loop-again-3
     (λ c. search rules)
     loop-again-4
-    (λ c. (c.before.loop.invariant.1, λ e H below. laws.seen_end c.before.loop.invariant.2 c.loop-test.false e H)))
+    (λ c. (c.loop-next.invariant.1, λ e H below. laws.seen_end c.loop-next.invariant.2 c.loop-next-test.false e H)))

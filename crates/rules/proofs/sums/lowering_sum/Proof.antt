@@ -10,29 +10,26 @@ use Rattle.rules.proofs.sums.lowering_sum.Tie as tie
 
 -- the limit, by the signal that stands there
 limited :
-    (c : tie.After-lesser)
-    → let h = c.before.before.before in
-    let a = h.before.before.before.args in
-    c.lesser.result ≡ min (bound_in a.p a.bounds.now (signal_on a.row.now h.highest.result)) a.p
+    (c : tie.After-lesser-limit)
+    →
+    let a = c.args in
+    c.lesser-limit.result ≡ min (bound_in a.p a.bounds.now (signal_on a.row.now c.highest-e.result)) a.p
 unfolding signal_on at coef_in
 limited c =
-    let b = c.before in
-    c.lesser.ensures ∙ rw (b.bound_at.ensures, b.before.coef-at.ensures)
+    c.lesser-limit.ensures ∙ rw (c.bound_at.ensures, c.coef_at-target.ensures)
 
-returns : tie.Need-returns
+returns : tie.Need-returns-then-limit-bound
 returns c =
-    let l = c.before.before in
-    λ n K P L low. laws.lowering_none P L _ low l.before.before.before.highest.ensures.1 c.before.sum_at.ensures (limited l) c.if1.true
+    λ n K P L low. laws.lowering_none P L _ low c.highest-e.ensures.1 c.sum_at-bound.ensures (limited c.before.before) c.if-limit-bound.true
 
-returns-2 : tie.Need-returns-2
+returns-2 : tie.Need-returns
 unfolding signal_on at coef_in
 returns-2 c =
-    let l = c.before.before in
-    λ n K P L low. rw l.before.before.coef-at.ensures
-    (laws.lowering_found P L _ low l.before.before.before.highest.ensures.1 c.before.sum_at.ensures (limited l) c.if1.false)
+    λ n K P L low. rw c.coef_at-target.ensures
+    (laws.lowering_found P L _ low c.highest-e.ensures.1 c.sum_at-bound.ensures (limited c.before.before) c.if-limit-bound.false)
 
-pub lowering-sum-spec : {M : Type 1} → statement M
-lowering-sum-spec =
+pub lowering_sum_spec : {M : Type 1} → statement M
+lowering_sum_spec =
     tie.close
     (tie.spec
     (λ c κs. search rules) (λ c. search rules) (λ c κs. search rules) (λ c. search rules) (λ c κs. search rules) (λ c κs. search rules)

@@ -8,22 +8,22 @@ use Rattle.rules.specs.Rows.{at, signal_on}
 use Rattle.rules.proofs.sums.place_in.Statement.{statement}
 use Rattle.rules.proofs.sums.place_in.Tie as tie
 
-abbrev invariant-loop : tie.invariant-loop
+abbrev invariant-loop : tie.invariant-loop-i
 invariant-loop row t count i₀ i = (1 ≤ i) × ((j : ℕ) → j < i → 1 ≤ j → signal_on row j ≡ t → ⊥)
 
-abbrev decreases-loop : tie.decreases-loop
+abbrev decreases-loop : tie.decreases-loop-i
 decreases-loop row t count i₀ i = count - i
 
-returns : tie.Need-returns invariant-loop decreases-loop
+returns : tie.Need-returns-then-row-i invariant-loop decreases-loop
 unfolding signal_on at
-returns c = record { found = λ h. (search rules, c.if1.true); none = λ e. absurd (omega arith) }
+returns c = record { found = λ h. (search rules, c.if-row-i.true); none = λ e. absurd (omega arith) }
 
-loop-again : tie.Need-loop-preserved invariant-loop decreases-loop
+loop-again : tie.Need-loop-i-preserved invariant-loop decreases-loop
 unfolding signal_on at
-loop-again c = (omega arith, below_more _ _ c.before.before.before.loop.invariant.1 (λ l. c.if1.false))
+loop-again c = (omega arith, below_more _ _ c.loop-i.invariant.1 (λ l. c.if-row-i.false))
 
-pub place-in-spec : {M : Type 1} → statement M
-place-in-spec =
+pub place_in_spec : {M : Type 1} → statement M
+place_in_spec =
     tie.close
     (tie.spec
     invariant-loop
@@ -33,4 +33,4 @@ place-in-spec =
     returns
     (λ c. search rules) (λ c. search rules)
     loop-again
-    (λ c. record { found = λ h. absurd (omega arith); none = λ e j l h. c.before.loop.invariant.1 j (omega arith) l }))
+    (λ c. record { found = λ h. absurd (omega arith); none = λ e j l h. c.loop-i.invariant.1 j (omega arith) l }))

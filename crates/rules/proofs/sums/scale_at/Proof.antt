@@ -8,18 +8,18 @@ use Rattle.rules.proofs.SumLaws as laws
 use Rattle.rules.proofs.sums.scale_at.Statement.{statement}
 use Rattle.rules.proofs.sums.scale_at.Tie as tie
 
-returns-4 : tie.Need-returns-4
+returns-4 : tie.Need-returns-then-coef-eq0
 unfolding coef_on at
 returns-4 c = search rules
 
-returns-5 : tie.Need-returns-5
+returns-5 : tie.Need-returns
 unfolding coef_on at
 returns-5 c =
-    laws.scale_made (omega arith) (record { least = omega arith; before = omega arith; present = c.before.before.if4.false })
-    (c.opposite.ensures ∙ ap (opposite _) c.before.inverse.ensures.0)
+    laws.scale_made (omega arith) (record { least = omega arith; before = omega arith; present = c.if-coef-eq0.false })
+    (c.opposite.ensures ∙ ap (opposite _) c.inverse.ensures.0)
 
-pub scale-at-spec : {M : Type 1} → statement M
-scale-at-spec =
+pub scale_at_spec : {M : Type 1} → statement M
+scale_at_spec =
     tie.close
     (tie.spec
     (λ c. search rules) (λ c. search rules) (λ c. search rules) (λ c. search rules) (λ c. search rules) (λ c. search rules) (λ c. search rules)

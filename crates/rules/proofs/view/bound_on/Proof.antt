@@ -10,11 +10,11 @@ returns : tie.Need-returns
 unfolding bound_on signal_on at
 returns c = c.bound_at.ensures
 
-pub bound-on-spec : {M : Type 1} → statement M
-bound-on-spec =
+pub bound_on_spec : {M : Type 1} → statement M
+bound_on_spec =
     tie.close
     (tie.spec
     (λ c. search rules) (λ c. search rules) (λ c. search rules)
-    (λ c. omega (arith, c.shared-slice-known3.given (2 * c.before.before.before.args.i)))
+    (λ c. omega (arith, c.shared_slice_known-3-1.given (2 * c.args.i)))
     (λ c κs. search rules)
     returns)

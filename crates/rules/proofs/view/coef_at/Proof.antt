@@ -6,9 +6,9 @@ use Rattle.rules.specs.View.{coef_in}
 use Rattle.rules.proofs.view.coef_at.Statement.{statement}
 use Rattle.rules.proofs.view.coef_at.Tie as tie
 
-returns : tie.Need-returns
+returns : tie.Need-returns-then-s-form
 unfolding coef_in
 returns c = refl
 
-pub coef-at-spec : {M : Type 1} → statement M
-coef-at-spec = tie.close (tie.spec (λ c. search rules) (λ c. search rules) returns (λ c. sym (coef_past _ _ c.if1.false)))
+pub coef_at_spec : {M : Type 1} → statement M
+coef_at_spec = tie.close (tie.spec (λ c. search rules) (λ c. search rules) returns (λ c. sym (coef_past _ _ c.if-s-form.false)))

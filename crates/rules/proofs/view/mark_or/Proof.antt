@@ -5,10 +5,10 @@ use Rattle.rules.proofs.ViewLaws.{mark_within, mark_past_lem}
 use Rattle.rules.proofs.view.mark_or.Statement.{statement}
 use Rattle.rules.proofs.view.mark_or.Tie as tie
 
-pub mark-or-spec : {M : Type 1} → statement M
-mark-or-spec =
+pub mark_or_spec : {M : Type 1} → statement M
+mark_or_spec =
     tie.close
     (tie.spec
     (λ c. search rules)
-    (λ c. mark_within _ _ _ c.before.if1.true)
-    (λ c. sym (mark_past_lem _ _ _ c.if1.false)))
+    (λ c. mark_within _ _ _ c.if-s-marks.true)
+    (λ c. sym (mark_past_lem _ _ _ c.if-s-marks.false)))
