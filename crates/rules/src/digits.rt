@@ -21,7 +21,7 @@ use crate::view::{bound_at, mark_at};
 use field::modular::inverse;
 
 // Coefficients and bounds of the unmarked entries with a bound above 0, fewer than 32 of them. With a count of 32 no reference separates.
-#[derive(Drop)]
+#[derive(Clone, Copy)]
 pub struct Few {
     pub coefs: [u32; 32],
     pub bounds: [u32; 32],

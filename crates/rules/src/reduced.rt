@@ -10,7 +10,7 @@ use circuit::bytes::{byte_at, u16_at, u32_at};
 use circuit::reader::after_form;
 
 // By signal: its coefficient in the reduced form, and the forms that name it, 1 for A, 2 for B and 4 for C, added.
-#[derive(Drop)]
+#[derive(Clone, Copy)]
 pub(crate) struct Reduced {
     pub coefs: [u32; 257],
     pub forms: [u8; 257],

@@ -15,14 +15,14 @@ use crate::sums::sum_step;
 use crate::view::bound_at;
 
 // Rule 3.1. Signal 0 is the constant one; bounds and marks of signals above 256 are those of the start.
-#[derive(Drop)]
+#[derive(Clone, Copy)]
 pub struct Standing {
     pub bounds: [u32; 257],
     pub marks: [bool; 257],
 }
 
 // The standing after a step, the same where the rule isn't met; and of a step that meets its rule whether it is idle.
-#[derive(Drop)]
+#[derive(Clone, Copy)]
 pub struct Outcome {
     pub next: Standing,
     pub met: bool,

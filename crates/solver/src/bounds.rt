@@ -19,7 +19,7 @@ use rules::rows::row_of;
 use rules::standing::{Kind, Standing};
 
 // What the bounds phase leaves: the standing, and how many steps were taken.
-#[derive(Drop)]
+#[derive(Clone, Copy)]
 pub(crate) struct Bounded {
     pub standing: Standing,
     pub count: u32,

@@ -89,7 +89,7 @@ fn next_mark<'a>(
 }
 
 // The standing after a phase, and the number of steps up to its end.
-#[derive(Drop)]
+#[derive(Clone, Copy)]
 pub(crate) struct Phase {
     pub standing: Standing,
     pub count: u32,
