@@ -7,13 +7,11 @@ use Rattle.derivation.proofs.kinds.in_range.Tie as tie
 returns : tie.Need-returns
 unfolding in_range
 returns c P e f =
-    let names = c.before in
-    let target = names.before in
-    let E = target.before.entry_of.ensures in
-    rw (target.within.ensures, names.names-within.ensures P f, c.refers-within.ensures P e, E.names, E.refers, e)
+    let E = c.entry_of-entry.ensures in
+    rw (c.within-target.ensures, c.names_within-constraint.ensures P f, c.refers_within-reference.ensures P e, E.names, E.refers, e)
 
-pub in-range-spec : {M : Type 1} → statement M
-in-range-spec =
+pub in_range_spec : {M : Type 1} → statement M
+in_range_spec =
     tie.close
     (tie.spec
     (λ c κs. search rules) (λ c κs. search rules) (λ c κs. search rules) (λ c κs. search rules)

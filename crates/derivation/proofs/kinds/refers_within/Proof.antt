@@ -3,10 +3,10 @@ use borrow.Author.Rules.{rules}
 use Rattle.derivation.proofs.kinds.refers_within.Statement.{statement}
 use Rattle.derivation.proofs.kinds.refers_within.Tie as tie
 
-pub refers-within-spec : {M : Type 1} → statement M
-refers-within-spec =
+pub refers_within_spec : {M : Type 1} → statement M
+refers_within_spec =
     tie.close
     (tie.spec
     (λ c κs. search rules)
-    (λ c P e. rw (c.before.if1.true, e) c.within.ensures)
-    (λ c P e. rw c.if1.false))
+    (λ c P e. rw (c.if-refers.true, e) c.within.ensures)
+    (λ c P e. rw c.if-refers.false))

@@ -8,5 +8,5 @@ returns : tie.Need-returns
 unfolding laws.within
 returns c = search rules
 
-pub within-spec : {M : Type 1} → statement M
-within-spec = tie.close (tie.spec returns)
+pub within_spec : {M : Type 1} → statement M
+within_spec = tie.close (tie.spec returns)

@@ -7,23 +7,19 @@ use Rattle.rules.specs.View.{view_of}
 use Rattle.derivation.proofs.marks.hand_over.Statement.{statement}
 use Rattle.derivation.proofs.marks.hand_over.Tie as tie
 
-write-marks-requires : tie.Need-write-marks-requires
+write-marks-requires : tie.Need-write_marks-count-requires
 write-marks-requires c κs =
-    let e = c.before.before.before.before.before in
-    let long : length e.args.last.marks ≡ 257 = search rules in
-    (omega (arith, long, e.requires.0), e.requires.1)
+    let long : length c.args.last.marks ≡ 257 = search rules in
+    (omega (arith, long, c.requires.0), c.requires.1)
 
 returns : tie.Need-returns
 unfolding view_of
 returns c =
-    let v = c.before.before.before in
-    let m = v.before.before.before.before in
-    let e = m.before.before.before.before.before.before in
-    let long : length e.args.last.bounds ≡ 257 = search rules in
-    (rw (m.write-marks.ensures.0, v.verdict-of.ensures, c.Shown-of.ensures e.requires.2 (omega (arith, long, e.requires.0))), m.write-marks.ensures.1)
+    let long : length c.args.last.bounds ≡ 257 = search rules in
+    (rw (c.write_marks-count.ensures.0, c.verdict_of-verdict.ensures, c.shown_of.ensures c.requires.2 (omega (arith, long, c.requires.0))), c.write_marks-count.ensures.1)
 
-pub hand-over-spec : {M : Type 1} → statement M
-hand-over-spec =
+pub hand_over_spec : {M : Type 1} → statement M
+hand_over_spec =
     tie.close
     (tie.spec
     (λ c. search rules)

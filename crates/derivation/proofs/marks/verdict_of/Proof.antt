@@ -9,24 +9,24 @@ use Rattle.derivation.proofs.MarkLaws as laws
 use Rattle.derivation.proofs.marks.verdict_of.Statement.{statement}
 use Rattle.derivation.proofs.marks.verdict_of.Tie as tie
 
-abbrev invariant-loop : tie.invariant-loop
+abbrev invariant-loop : tie.invariant-loop-j
 invariant-loop marks i o inputs outputs fixed₀ j₀ fixed j = (j ≤ outputs) × (fixed ≡ all j (output_marked (mark_in marks) i))
 
-abbrev decreases-loop : tie.decreases-loop
+abbrev decreases-loop : tie.decreases-loop-j
 decreases-loop marks i o inputs outputs fixed₀ j₀ fixed j = outputs - j
 
-loop-holds : tie.Need-loop-init invariant-loop decreases-loop
+loop-holds : tie.Need-loop-j-init invariant-loop decreases-loop
 unfolding all
 loop-holds c = search rules
 
-pub verdict-of-spec : {M : Type 1} → statement M
-verdict-of-spec =
+pub verdict_of_spec : {M : Type 1} → statement M
+verdict_of_spec =
     tie.close
     (tie.spec
     invariant-loop
     decreases-loop
     loop-holds
     (λ c. search rules) (λ c. search rules) (λ c κs. search rules) (λ c. search rules) (λ c. search rules)
-    (λ c. (search rules, laws.output_more _ _ _ c.before.before.loop.invariant.1 c.mark-at.ensures))
-    (λ c. let l = c.before.before.loop in laws.verdict_told _ _ l.j l.invariant.1 l.invariant.0 c.before.loop-test.false c.if1.true)
-    (λ c. let l = c.before.before.loop in laws.verdict_told _ _ l.j l.invariant.1 l.invariant.0 c.before.loop-test.false c.if1.false))
+    (λ c. (search rules, laws.output_more _ _ _ c.loop-j.invariant.1 c.mark_at-fixed.ensures))
+    (λ c. let l = c.loop-j in laws.verdict_told _ _ l.j l.invariant.1 l.invariant.0 c.loop-j-test.false c.if-fixed.true)
+    (λ c. let l = c.loop-j in laws.verdict_told _ _ l.j l.invariant.1 l.invariant.0 c.loop-j-test.false c.if-fixed.false))

@@ -5,8 +5,8 @@ use Rattle.derivation.proofs.SheetViews.{shown_viewed}
 use Rattle.derivation.proofs.sheets.shown_of.Statement.{statement}
 use Rattle.derivation.proofs.sheets.shown_of.Tie as tie
 
-pub shown-of-spec : {M : Type 1} → statement M
-shown-of-spec =
+pub shown_of_spec : {M : Type 1} → statement M
+shown_of_spec =
     tie.close
     (tie.spec
     (λ c κs. search rules)

@@ -2,9 +2,9 @@
 use Rattle.derivation.proofs.walk.ask.Statement.{statement}
 use Rattle.derivation.proofs.walk.ask.Tie as tie
 
-pub ask-spec : {M : Type 1} → statement M
-ask-spec =
+pub ask_spec : {M : Type 1} → statement M
+ask_spec =
     tie.close
     (tie.spec
-    (λ c x. rw c.if1.true)
-    (λ c x. rw c.if1.false))
+    (λ c x. rw c.if-test.true)
+    (λ c x. rw c.if-test.false))

@@ -5,8 +5,8 @@ use lib.Seq.{set_out}
 use Rattle.derivation.proofs.writer.put_byte.Statement.{statement}
 use Rattle.derivation.proofs.writer.put_byte.Tie as tie
 
-returns-2 : tie.Need-returns-2
-returns-2 c = sym (set_out _ _ _ c.if1.false)
+returns-2 : tie.Need-returns-else-at-output
+returns-2 c = sym (set_out _ _ _ c.if-at-output.false)
 
-pub put-byte-spec : {M : Type 1} → statement M
-put-byte-spec = tie.close (tie.spec (λ c. search rules) (λ c. search rules) (λ c. search rules) returns-2)
+pub put_byte_spec : {M : Type 1} → statement M
+put_byte_spec = tie.close (tie.spec (λ c. search rules) (λ c. search rules) (λ c. search rules) returns-2)

@@ -4,11 +4,11 @@ use Rattle.derivation.specs.Encoded.{step_bytes}
 use Rattle.derivation.proofs.writer.put_step.Statement.{statement}
 use Rattle.derivation.proofs.writer.put_step.Tie as tie
 
-pub put-step-spec : {M : Type 1} → statement M
+pub put_step_spec : {M : Type 1} → statement M
 unfolding step_bytes
-put-step-spec =
+put_step_spec =
     tie.close
     (tie.spec
     (λ c κs. search rules) (λ c. search rules) (λ c. search rules) (λ c. search rules) (λ c. search rules) (λ c. search rules) (λ c. search rules)
     (λ c. search rules) (λ c. search rules) (λ c κs. search rules) (λ c. search rules)
-    (λ c. let put = c.before.before in rw (← put.before.before.entry_of.ensures.number) put.put.ensures))
+    (λ c. rw (← c.entry_of-entry.ensures.number) c.put.ensures))
