@@ -6,17 +6,16 @@ use Rattle.renewal.proofs.CallLaws as laws
 use Rattle.renewal.proofs.call.renew_on.Statement.{statement}
 use Rattle.renewal.proofs.call.renew_on.Tie as tie
 
-pub renew-on-spec : {M : Type 1} → statement M
-renew-on-spec =
+pub renew_on_spec : {M : Type 1} → statement M
+renew_on_spec =
     tie.close
     (tie.spec
     (λ c κs. search rules) (λ c. search rules) (λ c. search rules)
     (λ c κs.
-    let sheet = c.before.before.before in
-    (sheet.before.before.before.before.before.requires, sym sheet.check-sheet.ensures.0 ∙ ap (paper_of _) c.before.enum_told.given.1))
+    let sheet = c in
+    (sheet.requires, sym sheet.check_sheet-tagged.ensures.0 ∙ ap (paper_of _) c.in-Whole.is))
     (λ c.
-    let sheet = c.before.before.before in
-    laws.sheet_refused _ _ _ _ sheet.before.before.before.before.before.requires
-    (sym (ap (paper_of _) c.before.tagged.given.1) ∙ sheet.check-sheet.ensures.0))
+    laws.sheet_refused _ _ _ _ c.requires
+    (sym (ap (paper_of _) c.in-Refused.is) ∙ c.check_sheet-tagged.ensures.0))
     (λ c. search rules)
-    (λ c. c.before.before.renew-steps.ensures))
+    (λ c. c.renew_steps.ensures))

@@ -8,61 +8,54 @@ use Rattle.renewal.proofs.call.renew_steps.Statement.{statement}
 use Rattle.renewal.proofs.call.renew_steps.Tie as tie
 
 checked :
-    (c : tie.After-check-frame)
-    → let a = c.before.before.before.before.before.args in
-    laws.Checked a.circuit.now a.sheet.now a.derivation.now a.output.now a.sizes c.check-frame.result
+    (c : tie.After-check_frame-header)
+    → let a = c.args in
+    laws.Checked a.circuit.now a.sheet.now a.derivation.now a.output.now a.sizes c.check_frame-header.result
 checked c =
-    let pre = c.before.before.before.before.before.requires in
-    record { sized = pre.0; sheeted = pre.1; head = c.check-frame.ensures }
-
-abbrev header : tie.After-walk-all → tie.After-check-frame
-header c = c.before.before.before.before
+    let pre = c.requires in
+    record { sized = pre.0; sheeted = pre.1; head = c.check_frame-header.ensures }
 
 walked :
-    (c : tie.After-walk-all)
-    → let a = (header c).before.before.before.before.before.args in
-    let o = c.walk-all.result in
-    laws.Walked a.circuit.now a.sheet.now a.derivation.now a.output.now a.sizes (header c).check-frame.result o.way
+    (c : tie.After-walk_all-turn)
+    → let a = c.args in
+    let o = c.walk_all-turn.result in
+    laws.Walked a.circuit.now a.sheet.now a.derivation.now a.output.now a.sizes c.check_frame-header.result o.way
     (view a.sizes.p o.next)
 walked c =
     record {
-      checked = checked (header c);
-      fine = c.before.before.enum_told.given.1;
-      walk = c.walk-all.ensures.0 (checked (header c)).sized;
+      checked = checked c.before.before.before;
+      fine = c.in_default.is;
+      walk = c.walk_all-turn.ensures.0 (checked c.before.before.before).sized;
     }
 
-returns-4 : tie.Need-returns-4
+returns-4 : tie.Need-returns
 returns-4 c =
-    let k = c.before.before in
-    let r = k.before.before.before in
-    let on = r.before.enum-told2.given.1 in
-    let w = r.before.before.before.before in
-    laws.renews (walked w) on (omega (arith, r.if1.false)) (w.walk-all.ensures.1 (walked w).checked.sized on)
-    (laws.head_framed (walked w).checked (walked w).fine).few
-    (k.copy-steps.ensures.1 (laws.all_listed (walked w) on))
+    let on = c.in_default-way.is in
+    laws.renews (walked c.before.before.before.before.before.before.before.before) on (omega (arith, c.if-output-derivation.false)) (c.walk_all-turn.ensures.1 (walked c.before.before.before.before.before.before.before.before).checked.sized on)
+    (laws.head_framed (walked c.before.before.before.before.before.before.before.before).checked (walked c.before.before.before.before.before.before.before.before).fine).few
+    (c.copy_steps-count.ensures.1 (laws.all_listed (walked c.before.before.before.before.before.before.before.before) on))
 
 -- no more steps are copied than a derivation may have
-few : (c : tie.After-copy-steps) → c.copy-steps.result ≤ 4096
+few : (c : tie.After-copy_steps-count) → c.copy_steps-count.result ≤ 4096
 few c =
-    let w = walked c.before.before.before.before.before.before.before in
-    omega (arith, c.copy-steps.ensures.0, (laws.head_framed w.checked w.fine).few)
+    let w = walked c.before.before.before.before.before.before in
+    omega (arith, c.copy_steps-count.ensures.0, (laws.head_framed w.checked w.fine).few)
 
-room : tie.Need-copy-steps-requires
+room : tie.Need-copy_steps-count-requires
 room c κs =
-    let r = c.before.before in
-    let w = walked r.before.before.before.before in
-    ((laws.head_framed w.checked w.fine).sized, omega (arith, r.if1.false))
+    let w = walked c.before.before.before.before.before in
+    ((laws.head_framed w.checked w.fine).sized, omega (arith, c.if-output-derivation.false))
 
-pub renew-steps-spec : {M : Type 1} → statement M
-renew-steps-spec =
+pub renew_steps_spec : {M : Type 1} → statement M
+renew_steps_spec =
     tie.close
     (tie.spec
     (λ c κs. search rules) (λ c. search rules)
-    (λ c. laws.head_refused (checked c.before.before.before) _ _ c.before.header.given.1)
+    (λ c. laws.head_refused (checked c.before) _ _ c.in-Stopped.is)
     (λ c. search rules) (λ c. search rules) (λ c κs. search rules) (λ c. search rules)
-    (λ c. laws.walk_refused (walked c.before.before.before.before) _ _ c.before.way.given.1)
+    (λ c. laws.walk_refused (walked c.before.before) _ _ c.in-Stopped-way.is)
     (λ c. search rules)
-    (λ c. laws.room_refused (walked c.before.before.before.before) c.before.enum-told2.given.1 c.if1.true)
+    (λ c. laws.room_refused (walked c.before.before.before) c.in_default-way.is c.if-output-derivation.true)
     (λ c. search rules)
     room
     (λ c. omega (arith, few c.before.before)) (λ c. omega (arith, few c.before.before))

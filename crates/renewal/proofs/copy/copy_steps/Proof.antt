@@ -13,66 +13,61 @@ use Rattle.renewal.proofs.Copies as laws
 use Rattle.renewal.proofs.copy.copy_steps.Statement.{statement}
 use Rattle.renewal.proofs.copy.copy_steps.Tie as tie
 
-abbrev invariant-loop : tie.invariant-loop
+abbrev invariant-loop : tie.invariant-loop-k
 invariant-loop derivation idle output₀ count index₀ k₀ output index k =
     (index ≤ k)
     × (k ≤ count)
     × (length output ≡ length output₀)
     × (length (steps_of derivation) ≡ u16_at derivation 5 → laws.Copying derivation idle output₀ output index k)
 
-abbrev decreases-loop : tie.decreases-loop
+abbrev decreases-loop : tie.decreases-loop-k
 decreases-loop derivation idle output₀ count index₀ k₀ output index k = count - k
 
-noted : tie.Need-loop-preserved invariant-loop decreases-loop
+noted : tie.Need-loop-k-preserved-then-noted invariant-loop decreases-loop
 unfolding mark_past
 noted c =
-    let inv = c.before.before.before.loop.invariant in (
+    let inv = c.loop-k.invariant in (
       omega (arith, inv.0),
-      omega (arith, c.before.before.loop-test.true),
+      omega (arith, c.loop-k-test.true),
       inv.2,
-      λ n. laws.copying_noted (inv.3 n) (sym c.before.mark-at.ensures ∙ c.if1.true),
+      λ n. laws.copying_noted (inv.3 n) (sym c.mark_at-noted.ensures ∙ c.if-noted.true),
     )
 
-copied : tie.Need-loop-preserved-2 invariant-loop decreases-loop
+copied : tie.Need-loop-k-preserved invariant-loop decreases-loop
 unfolding mark_past byte_at
 copied c =
-    let told = c.before.before.before.before.before in
-    let l = told.before.before in
-    let inv = l.loop.invariant in
-    let e = l.before.before.before.before.before in
-    let bytes : Bytes e.args.derivation.now = record { below = λ k h. omega (arith, l.before.before.before.before.shared-slice-known.given k) } in
-    let same : l.loop.k + 1 - 1 ≡ l.loop.k = omega arith in (
+    let inv = c.loop-k.invariant in
+    let bytes : Bytes c.args.derivation.now = record { below = λ k h. omega (arith, c.shared_slice_known-1.given k) } in
+    let same : c.loop-k.k + 1 - 1 ≡ c.loop-k.k = omega arith in (
       omega (arith, inv.0),
-      omega (arith, told.before.loop-test.true),
-      omega (arith, inv.2, c.before.before.copy_step.auto),
+      omega (arith, c.loop-k-test.true),
+      omega (arith, inv.2, c.copy_step.auto),
       λ n.
-          laws.copying_next (inv.3 n) (sym told.mark-at.ensures ∙ c.before.before.before.before.if1.false) bytes n
-          (omega (arith, told.before.loop-test.true, l.before.u16-at.ensures.0)) e.requires.0
-          (c.before.before.copy_step.ensures
-          ∙ ap (λ (j : ℕ). stored l.loop.output (7 + 7 * l.loop.index) (take 7 (drop (step_start j) e.args.derivation.now))) same),
+          laws.copying_next (inv.3 n) (sym c.mark_at-noted.ensures ∙ c.if-noted.false) bytes n
+          (omega (arith, c.loop-k-test.true, c.u16_at-count.ensures.0)) c.requires.0
+          (c.copy_step.ensures
+          ∙ ap (λ (j : ℕ). stored c.loop-k.output (7 + 7 * c.loop-k.index) (take 7 (drop (step_start j) c.args.derivation.now))) same),
     )
 
 returns : tie.Need-returns invariant-loop decreases-loop
 returns c =
-    let l = c.before.before.before.before.before in
-    let inv = l.loop.invariant in
-    let count = l.before.u16-at.ensures.0 in (
+    let inv = c.loop-k.invariant in
+    let count = c.u16_at-count.ensures.0 in (
       omega (arith, inv.0, inv.1, count),
       λ n.
-          laws.copying_ended (inv.3 n) (omega (arith, inv.1, c.before.before.before.before.loop-test.false, count))
-          c.before.before.put-header.ensures,
+          laws.copying_ended (inv.3 n) (omega (arith, inv.1, c.loop-k-test.false, count))
+          c.put_header.ensures,
     )
 
-room : tie.Need-copy-step-requires invariant-loop decreases-loop
+room : tie.Need-copy_step-requires invariant-loop decreases-loop
 room c κs =
-    let l = c.before.before.before.before in
-    let pre = l.before.before.before.before.before.requires in
-    let some_left = c.before.before.before.loop-test.true in
-    let count = l.before.u16-at.ensures.0 in
-    (omega (arith, pre.0, some_left, count), omega (arith, pre.0, pre.1, some_left, count, l.loop.invariant.0, l.loop.invariant.2))
+    let pre = c.requires in
+    let some_left = c.loop-k-test.true in
+    let count = c.u16_at-count.ensures.0 in
+    (omega (arith, pre.0, some_left, count), omega (arith, pre.0, pre.1, some_left, count, c.loop-k.invariant.0, c.loop-k.invariant.2))
 
-pub copy-steps-spec : {M : Type 1} → statement M
-copy-steps-spec =
+pub copy_steps_spec : {M : Type 1} → statement M
+copy_steps_spec =
     tie.close
     (tie.spec
     invariant-loop
@@ -80,12 +75,12 @@ copy-steps-spec =
     (λ c κs. search rules) (λ c. search rules)
     (λ c. (omega arith, omega arith, search rules, λ n. laws.copying_start _ _ _))
     (λ c κs. search rules) (λ c. search rules)
-    (λ c. omega (arith, c.before.before.loop-test.true))
+    (λ c. omega (arith, c.loop-k-test.true))
     noted
     (λ c. omega arith)
     room
     (λ c. search rules)
-    (λ c. omega (arith, c.before.before.before.before.before.before.loop-test.true))
+    (λ c. omega (arith, c.loop-k-test.true))
     copied
     (λ c. search rules) (λ c κs. search rules)
     (λ c. search rules)
