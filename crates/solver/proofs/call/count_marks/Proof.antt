@@ -10,14 +10,14 @@ use Rattle.solver.proofs.SolveLaws as laws
 use Rattle.solver.proofs.call.count_marks.Statement.{statement}
 use Rattle.solver.proofs.call.count_marks.Tie as tie
 
-abbrev invariant-loop : tie.invariant-loop
+abbrev invariant-loop : tie.invariant-loop-s
 invariant-loop marks n count₀ s₀ count s = (s ≤ n) × (count ≤ s) × (count ≡ total (marks_from (mark_in marks) 0 s))
 
-abbrev decreases-loop : tie.decreases-loop
+abbrev decreases-loop : tie.decreases-loop-s
 decreases-loop marks n count₀ s₀ count s = n - s
 
-pub count-marks-spec : {M : Type 1} → statement M
-count-marks-spec =
+pub count_marks_spec : {M : Type 1} → statement M
+count_marks_spec =
     tie.close
     (tie.spec
     invariant-loop
@@ -27,10 +27,9 @@ count-marks-spec =
     (λ c. omega arith)
     (λ c. search rules)
     (λ c.
-    let at-loop = c.before.before.before in
-    (omega arith, omega arith, laws.marked_counted _ _ _ at-loop.loop.invariant.2 (sym c.before.mark-at.ensures ∙ c.if1.true)))
+    let at-loop = c in
+    (omega arith, omega arith, laws.marked_counted _ _ _ at-loop.loop-s.invariant.2 (sym c.mark_at.ensures ∙ c.if-mark_at.true)))
     (λ c. search rules)
     (λ c.
-    let at-loop = c.before.before.before in
-    (omega arith, omega arith, laws.unmarked_counted _ _ _ at-loop.loop.invariant.2 (sym c.before.mark-at.ensures ∙ c.if1.false)))
-    (λ c. let z : c.before.loop.s ≡ c.before.before.before.args.n = omega arith in rw z at c.before.loop.invariant.2))
+    (omega arith, omega arith, laws.unmarked_counted _ _ _ c.loop-s.invariant.2 (sym c.mark_at.ensures ∙ c.if-mark_at.false)))
+    (λ c. let z : c.loop-s.s ≡ c.args.n = omega arith in rw z at c.loop-s.invariant.2))

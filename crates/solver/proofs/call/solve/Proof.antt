@@ -6,13 +6,13 @@ use borrow.Author.Rules.{rules}
 use Rattle.solver.proofs.call.solve.Statement.{statement}
 use Rattle.solver.proofs.call.solve.Tie as tie
 
-pub solve-spec : {M : Type 1} → statement M
-solve-spec =
+pub solve_spec : {M : Type 1} → statement M
+solve_spec =
     tie.close
     (tie.spec
     (λ c κs. search rules) (λ c. search rules) (λ c. search rules)
-    (λ c κs. c.before.before.before.before.check-circuit.ensures.1 _ (ap paper_of c.before.before.answer2.given.1))
+    (λ c κs. c.check_circuit-answer.ensures.1 _ (ap paper_of c.in-Sizes.is))
     (λ c.
-    laws.demanded _ _ _ _ _ (laws.circuit_refused _ _ _ (sym (ap paper_of c.before.answer.given.1) ∙ c.before.before.before.check-circuit.ensures.0)))
+    laws.demanded _ _ _ _ _ (laws.circuit_refused _ _ _ (sym (ap paper_of c.in-Refused.is) ∙ c.check_circuit-answer.ensures.0)))
     (λ c. search rules)
-    (λ c. laws.demanded _ _ _ _ _ c.before.before.solve-on.ensures))
+    (λ c. laws.demanded _ _ _ _ _ c.solve_on.ensures))

@@ -6,17 +6,16 @@ use borrow.Author.Rules.{rules}
 use Rattle.solver.proofs.call.solve_on.Statement.{statement}
 use Rattle.solver.proofs.call.solve_on.Tie as tie
 
-pub solve-on-spec : {M : Type 1} → statement M
-solve-on-spec =
+pub solve_on_spec : {M : Type 1} → statement M
+solve_on_spec =
     tie.close
     (tie.spec
     (λ c κs. search rules) (λ c. search rules) (λ c. search rules)
     (λ c κs.
-    let sheet = c.before.before.before in
-    record { sized = sheet.before.before.before.before.requires; sheeted = sym sheet.check-sheet.ensures.0 ∙ ap (paper_of _) c.before.enum_told.given.1 })
+    let sheet = c in
+    record { sized = sheet.requires; sheeted = sym sheet.check_sheet-tagged.ensures.0 ∙ ap (paper_of _) c.in-Whole.is })
     (λ c.
-    let sheet = c.before.before.before in
-    laws.sheet_refused _ _ _ sheet.before.before.before.before.requires
-    (sym (ap (paper_of _) c.before.tagged.given.1) ∙ sheet.check-sheet.ensures.0))
+    laws.sheet_refused _ _ _ c.requires
+    (sym (ap (paper_of _) c.in-Refused.is) ∙ c.check_sheet-tagged.ensures.0))
     (λ c. search rules)
-    (λ c. c.before.before.solve-tagged.ensures))
+    (λ c. c.solve_tagged.ensures))

@@ -5,20 +5,19 @@ use borrow.Author.Rules.{rules}
 use Rattle.solver.proofs.call.solve_tagged.Statement.{statement}
 use Rattle.solver.proofs.call.solve_tagged.Tie as tie
 
-pub solve-tagged-spec : {M : Type 1} → statement M
-solve-tagged-spec =
+pub solve_tagged_spec : {M : Type 1} → statement M
+solve_tagged_spec =
     tie.close
     (tie.spec
     (λ c. search rules) (λ c. search rules) (λ c. search rules)
-    (λ c. laws.room_short _ _ _ c.before.before.before.before.before.requires _ c.if1.true)
+    (λ c. laws.room_short _ _ _ c.requires _ c.if-output-sizes.true)
     (λ c. search rules) (λ c. search rules) (λ c. search rules) (λ c. search rules) (λ c. search rules) (λ c. search rules)
     (λ c κs.
-    let roomy = c.before.before.before.before.before.before in
-    (roomy.before.before.before.before.before.requires, laws.entries_for 512 c.before.before.before.before.if2.true, roomy.if1.false))
+    let roomy = c in
+    (roomy.requires, laws.entries_for 512 c.if-circuit-sizes-le-FEW_ENTRIES.true, roomy.if-output-sizes.false))
     (λ c. search rules) (λ c. search rules) (λ c. search rules) (λ c. search rules) (λ c. search rules)
     (λ c κs.
-    let roomy = c.before.before.before.before.before.before in
-    let K = roomy.before.before.before.before.before.requires in
+    let K = c.requires in
     let Z = K.sized in
-    (K, laws.entries_for 10513 (omega (arith, Z.most, Z.is_m, Z.formed.m_most)), roomy.if1.false))
+    (K, laws.entries_for 10513 (omega (arith, Z.most, Z.is_m, Z.formed.m_most)), c.if-output-sizes.false))
     (λ c. search rules) (λ c. search rules))

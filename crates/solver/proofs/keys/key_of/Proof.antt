@@ -5,9 +5,9 @@ use Rattle.solver.specs.Bounds.{key_of}
 use Rattle.solver.proofs.keys.key_of.Statement.{statement}
 use Rattle.solver.proofs.keys.key_of.Tie as tie
 
-pub key-of-spec : {M : Type 1} → statement M
+pub key_of_spec : {M : Type 1} → statement M
 unfolding key_of
-key-of-spec =
+key_of_spec =
     tie.close
     (tie.spec
     (λ c. search rules) (λ c. search rules) (λ c. search rules) (λ c. search rules)

@@ -6,11 +6,11 @@ use Rattle.solver.proofs.LinkLaws.{cleared_none, cleared_some}
 use Rattle.solver.proofs.links.clear_at.Statement.{statement}
 use Rattle.solver.proofs.links.clear_at.Tie as tie
 
-pub clear-at-spec : {M : Type 1} → statement M
-clear-at-spec =
+pub clear_at_spec : {M : Type 1} → statement M
+clear_at_spec =
     tie.close
     (tie.spec
-    (λ c. sym (cleared_none _ _ c.if1.true))
+    (λ c. sym (cleared_none _ _ c.if-k-eq0.true))
     (λ c. search rules) (λ c. search rules) (λ c. search rules)
-    (λ c. sym (cleared_some _ _ c.before.if1.false))
-    (λ c. sym (cleared_some _ _ c.before.if1.false ∙ set_out _ _ _ c.if2.false)))
+    (λ c. sym (cleared_some _ _ c.if-k-eq0.false))
+    (λ c. sym (cleared_some _ _ c.if-k-eq0.false ∙ set_out _ _ _ c.if-k-kept.false)))

@@ -5,28 +5,27 @@ use Rattle.solver.proofs.LinkLaws as laws
 use Rattle.solver.proofs.links.link.Statement.{statement}
 use Rattle.solver.proofs.links.link.Tie as tie
 
-abbrev invariant-loop : tie.invariant-loop
+abbrev invariant-loop : tie.invariant-loop-e
 invariant-loop rows lasts₀ befores₀ end e₀ lasts befores e = laws.Linking rows lasts₀ befores₀ end e lasts befores
 
-abbrev decreases-loop : tie.decreases-loop
+abbrev decreases-loop : tie.decreases-loop-e
 decreases-loop rows lasts₀ befores₀ end e₀ lasts befores e = end - e
 
-loop-again : tie.Need-loop-preserved invariant-loop decreases-loop
+loop-again : tie.Need-loop-e-preserved invariant-loop decreases-loop
 loop-again c =
-    let inside = c.before.before.before.before.before.before.before.before in
-    rw (c.before.before.put-at.ensures, c.before.before.before.before.number_at.ensures)
-    (laws.linking_on inside.before.before.before.before.before.requires inside.before.loop.invariant inside.loop-test.true _
-    c.before.before.before.before.before.before.wide.ensures)
+    rw (c.put_at.ensures, c.number_at.ensures)
+    (laws.linking_on c.requires c.loop-e.invariant c.loop-e-test.true _
+    c.wide-s.ensures)
 
-pub link-spec : {M : Type 1} → statement M
-link-spec =
+pub link_spec : {M : Type 1} → statement M
+link_spec =
     tie.close
     (tie.spec
     invariant-loop
     decreases-loop
-    (λ c. laws.linking_start c.before.before.before.requires)
+    (λ c. laws.linking_start c.requires)
     (λ c. search rules) (λ c. search rules) (λ c. search rules) (λ c κs. search rules) (λ c κs. search rules) (λ c. search rules)
     (λ c. search rules) (λ c. search rules) (λ c. search rules) (λ c κs. search rules) (λ c. search rules)
     loop-again
     (λ c. search rules) (λ c. search rules)
-    (λ c. laws.linking_end c.before.before.before.before.before.requires c.before.loop.invariant c.loop-test.false))
+    (λ c. laws.linking_end c.requires c.loop-e.invariant c.loop-e-test.false))

@@ -8,31 +8,25 @@ use Rattle.solver.proofs.MarkChoice as laws
 use Rattle.solver.proofs.marks.next_mark.Statement.{statement}
 use Rattle.solver.proofs.marks.next_mark.Tie as tie
 
-abbrev start : tie.After-lowest-key → tie.Start
-start c = c.before.before.before.before.before.before.before.before.before.before.before
-
-returns : tie.Need-returns
+returns : tie.Need-returns-then-key
 unfolding view_of at
 returns c =
-    let l = c.before.before.before.before.before.before in
-    let swept = l.lowest-key.ensures in
-    (swept.kept, λ f. sym (laws.choice_none (omega (arith, (start l).requires.0.sized.formed.n_most)) _ swept f c.if1.true))
+    let swept = c.lowest_key-k.ensures in
+    (swept.kept, λ f. sym (laws.choice_none (omega (arith, c.requires.0.sized.formed.n_most)) _ swept f c.if-key.true))
 
-returns-2 : tie.Need-returns-2
+returns-2 : tie.Need-returns
 unfolding view_of at
 returns-2 c =
-    let d = c.before.before.before.before in
-    let l = d.before.before.before.before.before.before in
-    let swept = l.lowest-key.ensures in (
+    let swept = c.lowest_key-k.ensures in (
       swept.kept,
       λ f.
           c.taken.ensures
-          ∙ sym (laws.choice_some (omega (arith, (start l).requires.0.sized.formed.n_most)) _ swept f d.if1.false c.before.before.before.kind-in.ensures
-          c.before.before.target-in.ensures refl),
+          ∙ sym (laws.choice_some (omega (arith, c.requires.0.sized.formed.n_most)) _ swept f c.if-key.false c.kind_in.ensures
+          c.target_in.ensures refl),
     )
 
-pub next-mark-spec : {M : Type 1} → statement M
-next-mark-spec =
+pub next_mark_spec : {M : Type 1} → statement M
+next_mark_spec =
     tie.close
     (tie.spec
     (λ c κs. search rules) (λ c. search rules) (λ c. search rules) (λ c. search rules) (λ c. search rules) (λ c. search rules)

@@ -5,66 +5,57 @@ use mathlib.Core.Bool.{false}
 use native.Mathlib.Nat.{pos_of_ne-zero}
 use native.Mathlib.Omega.{arith}
 use borrow.Author.Rules.{rules}
-use borrow.Author.Tests.{not-true, not-false}
 use Rattle.rules.specs.Rows.{entries, at, signal_on, forms_on, mark_on}
 use Rattle.solver.proofs.AloneLaws as laws
 use Rattle.solver.proofs.search.product_target.Statement.{statement}
 use Rattle.solver.proofs.search.product_target.Tie as tie
 
-abbrev invariant-loop : tie.invariant-loop
+abbrev invariant-loop : tie.invariant-loop-next
 invariant-loop row marks count place₀ next₀ place next = (1 ≤ next) × (1 ≤ place → place < count) × laws.Seen marks row next place
 
-abbrev decreases-loop : tie.decreases-loop
+abbrev decreases-loop : tie.decreases-loop-next
 decreases-loop row marks count place₀ next₀ place next = count - next
 
 -- the entry of a turn that isn't marked
-free : (c : tie.Then1 invariant-loop decreases-loop)
-    → let l = c.before.before.before.before in
-    let a = l.before.before.before.args in
-    mark_on a.marks.now a.row.now l.loop.next ≡ false
+free : (c : tie.Then-not-mark_at invariant-loop decreases-loop)
+    →
+    let a = c.args in
+    mark_on a.marks.now a.row.now c.loop-next.next ≡ false
 unfolding mark_on signal_on at
-free c = sym c.before.mark-at.ensures ∙ not-true _ c.if1.true
+free c = sym c.mark_at.ensures ∙ c.if-not-mark_at.true
 
-named : tie.Need-returns invariant-loop decreases-loop
+named : tie.Need-returns-then-row-i-ne-IN_C invariant-loop decreases-loop
 unfolding forms_on at
 named c p n K W R =
-    let b = c.before.before in
-    let l = b.before.before.before.before in
-    laws.alone_named W R _ l.loop.invariant.0 b.before.before.before.loop-test.true (free b) c.if2.true
+    laws.alone_named W R _ c.loop-next.invariant.0 c.loop-next-test.true (free c.before.before) c.if-row-i-ne-IN_C.true
 
-two : tie.Need-returns-2 invariant-loop decreases-loop
+two : tie.Need-returns-then-place-ne0 invariant-loop decreases-loop
 two c p n K W R =
-    let b = c.before.before.before in
-    let l = b.before.before.before.before in
-    laws.alone_two W R _ l.loop.invariant.2 c.if3.true b.before.before.before.loop-test.true (free b)
+    laws.alone_two W R _ c.loop-next.invariant.2 c.if-place-ne0.true c.loop-next-test.true (free c.before.before.before)
 
-loop-again : tie.Need-loop-preserved invariant-loop decreases-loop
+loop-again : tie.Need-loop-next-preserved-then-not-mark_at invariant-loop decreases-loop
 unfolding forms_on at
 loop-again c =
-    let b = c.before.before.before in
-    let l = b.before.before.before.before in
-    let inside = b.before.before.before.loop-test.true in
-    (omega arith, λ h. omega (arith, inside), laws.seen_found l.loop.invariant.2 c.if3.false (free b) c.before.if2.false)
+    let inside = c.loop-next-test.true in
+    (omega arith, λ h. omega (arith, inside), laws.seen_found c.loop-next.invariant.2 c.if-place-ne0.false (free c.before.before.before) c.if-row-i-ne-IN_C.false)
 
-loop-again-2 : tie.Need-loop-preserved-2 invariant-loop decreases-loop
+loop-again-2 : tie.Need-loop-next-preserved invariant-loop decreases-loop
 unfolding mark_on signal_on at
 loop-again-2 c =
-    let l = c.before.before.before.before in
-    (omega arith, l.loop.invariant.1, laws.seen_marked l.loop.invariant.2 (sym c.before.mark-at.ensures ∙ not-false _ c.if1.false))
+    (omega arith, c.loop-next.invariant.1, laws.seen_marked c.loop-next.invariant.2 (sym c.mark_at.ensures ∙ c.if-not-mark_at.false))
 
-inside : (c : tie.Else4 invariant-loop decreases-loop)
-    → let l = c.before.before in
-    l.loop.place < entries l.before.before.before.args.row.now
-inside c = c.before.before.loop.invariant.1 (pos_of_ne-zero c.if4.false)
+inside : (c : tie.Else-place-eq0 invariant-loop decreases-loop)
+    →
+    c.loop-next.place < entries c.args.row.now
+inside c = c.loop-next.invariant.1 (pos_of_ne-zero c.if-place-eq0.false)
 
-found : tie.Need-returns-4 invariant-loop decreases-loop
+found : tie.Need-returns invariant-loop decreases-loop
 unfolding signal_on at
 found c p n K W R =
-    let l = c.before.before.before in
-    laws.alone_found W R _ l.loop.invariant.2 c.before.before.loop-test.false c.before.if4.false (inside c.before)
+    laws.alone_found W R _ c.loop-next.invariant.2 c.loop-next-test.false c.if-place-eq0.false (inside c.before)
 
-pub product-target-spec : {M : Type 1} → statement M
-product-target-spec =
+pub product_target_spec : {M : Type 1} → statement M
+product_target_spec =
     tie.close
     (tie.spec
     invariant-loop
@@ -78,6 +69,6 @@ product-target-spec =
     loop-again
     (λ c. omega arith)
     loop-again-2
-    (λ c p n K W R. laws.alone_none W R _ c.before.before.loop.invariant.2 c.before.loop-test.false c.if4.true)
+    (λ c p n K W R. laws.alone_none W R _ c.loop-next.invariant.2 c.loop-next-test.false c.if-place-eq0.true)
     (λ c. let within = inside c in search rules) (λ c. let within = inside c in search rules) (λ c. let within = inside c.before in search rules)
     found)
