@@ -16,22 +16,18 @@ decreases-loop inverses p q start end i₀ i = end - i
 
 returns-2 : tie.Need-returns-then-at_most-2 invariant-loop decreases-loop
 returns-2 c =
-    let b = c.before.before.before in
-    let a = b.before.before.before in
-    next_found (passed_next a.before.loop-i.invariant (omega arith) (sym b.before.at_most.ensures ∙ b.if-at_most.false))
-    (sym c.before.at_most-in-loop-i.ensures ∙ c.if-at_most-2.true)
+    next_found (passed_next c.loop-i.invariant (omega arith) (sym c.at_most.ensures ∙ c.if-at_most.false))
+    (sym c.at_most-in-loop-i.ensures ∙ c.if-at_most-2.true)
 
 loop-again : tie.Need-loop-i-preserved invariant-loop decreases-loop
 loop-again c =
-    let b = c.before.before.before in
-    let a = b.before.before.before in
-    passed_second a.before.loop-i.invariant a.loop-i-test.true (sym b.before.at_most.ensures ∙ b.if-at_most.false)
-    (sym c.before.at_most-in-loop-i.ensures ∙ c.if-at_most-2.false)
+    passed_second c.loop-i.invariant c.loop-i-test.true (sym c.at_most.ensures ∙ c.if-at_most.false)
+    (sym c.at_most-in-loop-i.ensures ∙ c.if-at_most-2.false)
 
 returns-5 : tie.Need-returns-else-at_most-3 invariant-loop decreases-loop
 returns-5 c =
-    let b = c.before.before.before.before.before.loop-i.invariant in
-    next_end (passed_next b (omega (arith, b.to)) (sym c.before.at_most-2.ensures ∙ c.if-at_most-3.false)) (omega (arith, b.to))
+    let b = c.loop-i.invariant in
+    next_end (passed_next b (omega (arith, b.to)) (sym c.at_most-2.ensures ∙ c.if-at_most-3.false)) (omega (arith, b.to))
 
 pub next_candidate_spec : {M : Type 1} → statement M
 next_candidate_spec =
@@ -41,12 +37,12 @@ next_candidate_spec =
     decreases-loop
     (λ c. passed_start _ _ _ _ _ (omega arith))
     (λ c. omega arith) (λ c. omega arith) (λ c. omega arith) (λ c κs. tt)
-    (λ c. next_found c.before.before.before.before.loop-i.invariant (sym c.before.at_most.ensures ∙ c.if-at_most.true))
+    (λ c. next_found c.loop-i.invariant (sym c.at_most.ensures ∙ c.if-at_most.true))
     (λ c. omega arith) (λ c. omega arith) (λ c. omega arith) (λ c κs. tt) (λ c. omega arith)
     returns-2
     (λ c. omega arith) (λ c. omega arith)
     loop-again
-    (λ c. next_end c.before.before.loop-i.invariant c.if-i-end.true)
+    (λ c. next_end c.loop-i.invariant c.if-i-end.true)
     (λ c. omega arith) (λ c. omega arith) (λ c κs. tt)
-    (λ c. next_found c.before.before.before.before.before.loop-i.invariant (sym c.before.at_most-2.ensures ∙ c.if-at_most-3.true))
+    (λ c. next_found c.loop-i.invariant (sym c.at_most-2.ensures ∙ c.if-at_most-3.true))
     returns-5)

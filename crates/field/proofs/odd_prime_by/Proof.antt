@@ -23,17 +23,16 @@ decreases-loop table inverses p i₀ i = length table - i
 
 loop-holds : tie.Need-loop-i-init invariant-loop decreases-loop
 loop-holds c =
-    let r = c.before.before.before.before.requires in
-    walk_start _ _ _ c.before.if-p-lt3.false r.0 (odd_not_even _ c.if-p-eq0.false) r.1 r.2
+    let r = c.requires in
+    walk_start _ _ _ c.if-p-lt3.false r.0 (odd_not_even _ c.if-p-eq0.false) r.1 r.2
 
 next-candidate-requires : tie.Need-next_candidate-i-requires invariant-loop decreases-loop
 next-candidate-requires c κs =
-    (omega (arith, c.run_end.ensures), omega (arith, c.run_end.ensures, c.before.before.before.before.before.loop-i.invariant.inverses.lengths))
+    (omega (arith, c.run_end.ensures), omega (arith, c.run_end.ensures, c.loop-i.invariant.inverses.lengths))
 
 loop-again : tie.Need-loop-i-preserved invariant-loop decreases-loop
 loop-again c =
-    let b = c.before.before in
-    walk_next b.before.before.before.before.loop-i.invariant b.if-p-d-eq0.false c.before.run_end.ensures.1 c.next_candidate-i.ensures.passed
+    walk_next c.loop-i.invariant c.if-p-d-eq0.false c.run_end.ensures.1 c.next_candidate-i.ensures.passed
 
 pub odd_prime_by_spec : {M : Type 1} → statement M
 odd_prime_by_spec =
@@ -42,19 +41,19 @@ odd_prime_by_spec =
     invariant-loop
     decreases-loop
     (λ c. sym (low_not _ c.if-p-lt3.true))
-    (λ c. sym (even_not _ c.before.if-p-lt3.false c.before.before.before.before.requires.0 c.if-p-eq0.true))
+    (λ c. sym (even_not _ c.if-p-lt3.false c.requires.0 c.if-p-eq0.true))
     loop-holds
     (λ c. omega arith) (λ c. omega arith)
-    (λ c. omega (arith, c.shared_slice_known-in-loop-i-1.given c.before.before.loop-i.i))
-    (λ c. square-fits _ (c.shared_slice_known-in-loop-i-1.given c.before.before.loop-i.i))
-    (λ c. walk_ends c.before.before.before.loop-i.invariant (λ l. c.if-p-d.true))
-    (λ c. omega (arith, walk_above c.before.before.before.loop-i.invariant c.before.before.loop-i-test.true))
-    (λ c. let b = c.before.before.before in
-    sym (divided_not _ _ (walk_above b.before.loop-i.invariant b.loop-i-test.true) c.before.if-p-d.false c.if-p-d-eq0.true))
-    (λ c. let b = c.before.before.before in omega (arith, walk_above b.before.loop-i.invariant b.loop-i-test.true))
+    (λ c. omega (arith, c.shared_slice_known-in-loop-i-1.given c.loop-i.i))
+    (λ c. square-fits _ (c.shared_slice_known-in-loop-i-1.given c.loop-i.i))
+    (λ c. walk_ends c.loop-i.invariant (λ l. c.if-p-d.true))
+    (λ c. omega (arith, walk_above c.loop-i.invariant c.loop-i-test.true))
+    (λ c. let b = c in
+    sym (divided_not _ _ (walk_above b.loop-i.invariant b.loop-i-test.true) c.if-p-d.false c.if-p-d-eq0.true))
+    (λ c. omega (arith, walk_above c.loop-i.invariant c.loop-i-test.true))
     (λ c. omega arith)
-    (λ c κs. c.before.before.before.loop-i-test.true)
+    (λ c κs. c.loop-i-test.true)
     next-candidate-requires
     (λ c. omega (arith, c.next_candidate-i.ensures.passed.from))
     loop-again
-    (λ c. walk_ends c.before.loop-i.invariant (λ l. absurd (omega arith))))
+    (λ c. walk_ends c.loop-i.invariant (λ l. absurd (omega arith))))
