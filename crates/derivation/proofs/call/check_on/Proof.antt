@@ -12,8 +12,7 @@ check_on_spec =
     (tie.spec
     (λ c κs. search rules) (λ c. search rules) (λ c. search rules)
     (λ c κs.
-    let sheet = c in
-    (sheet.requires, sym sheet.check_sheet-tagged.ensures.0 ∙ ap (paper_of _) c.in-Whole.is))
+    (c.requires, sym c.check_sheet-tagged.ensures.0 ∙ ap (paper_of _) c.in-Whole.is))
     (λ c.
     laws.sheet_refused _ _ _ _ c.requires
     (sym (ap (paper_of _) c.in-Refused.is) ∙ c.check_sheet-tagged.ensures.0))

@@ -35,12 +35,9 @@ next_key_spec =
     known-key-requires
     (λ c. search rules)
     (λ c.
-    let found = c in
-    let l = found in
-    laws.finding_new l.loop-k.invariant l.requires.0.sized.is_m found.loop-k-test.true found.known_key-key.ensures c.if-key-lowest.true)
+    laws.finding_new c.loop-k.invariant c.requires.0.sized.is_m c.loop-k-test.true c.known_key-key.ensures c.if-key-lowest.true)
     (λ c. search rules)
     (λ c.
-    let l = c in
-    laws.finding_on l.loop-k.invariant l.requires.0.sized.is_m c.loop-k-test.true c.known_key-key.ensures c.if-key-lowest.false)
+    laws.finding_on c.loop-k.invariant c.requires.0.sized.is_m c.loop-k-test.true c.known_key-key.ensures c.if-key-lowest.false)
     (λ c. search rules)
     (λ c. laws.finding_end c.loop-k.invariant c.requires.0.sized.is_m c.loop-k-test.false))

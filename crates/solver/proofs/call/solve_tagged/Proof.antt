@@ -13,8 +13,7 @@ solve_tagged_spec =
     (λ c. laws.room_short _ _ _ c.requires _ c.if-output-sizes.true)
     (λ c. search rules) (λ c. search rules) (λ c. search rules) (λ c. search rules) (λ c. search rules) (λ c. search rules)
     (λ c κs.
-    let roomy = c in
-    (roomy.requires, laws.entries_for 512 c.if-circuit-sizes-le-FEW_ENTRIES.true, roomy.if-output-sizes.false))
+    (c.requires, laws.entries_for 512 c.if-circuit-sizes-le-FEW_ENTRIES.true, c.if-output-sizes.false))
     (λ c. search rules) (λ c. search rules) (λ c. search rules) (λ c. search rules) (λ c. search rules)
     (λ c κs.
     let K = c.requires in

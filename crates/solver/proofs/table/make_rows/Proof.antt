@@ -54,9 +54,8 @@ make_rows_spec =
     (λ c. laws.making_start c.requires)
     (λ c. search rules) (λ c κs. search rules) (λ c κs. search rules) (λ c. search rules) (λ c. search rules)
     (λ c.
-    let turn = c in
-    let B = turn.requires in
-    omega (arith, turn.loop-k.invariant.ends_kept, B.roomy.ends_room, turn.loop-k-test.true))
+    let B = c.requires in
+    omega (arith, c.loop-k.invariant.ends_kept, B.roomy.ends_room, c.loop-k-test.true))
     (λ c κs. search rules)
     (λ c.
     let sized = c.requires.sized in

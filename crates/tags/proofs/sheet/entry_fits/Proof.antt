@@ -18,8 +18,7 @@ entry_fits_spec =
     (tie.spec
     (λ c κs. search rules) (λ c κs. search rules)
     (λ c.
-    let u = c in
-    laws.entry_outside _ _ _ _ u.start_of-at.ensures.0 u.u16_at-signal.ensures.0 (laws.below_signals _ _ c.if-signal-lt1.true))
+    laws.entry_outside _ _ _ _ c.start_of-at.ensures.0 c.u16_at-signal.ensures.0 (laws.below_signals _ _ c.if-signal-lt1.true))
     (λ c.
     laws.entry_outside _ _ _ _ c.start_of-at.ensures.0 c.u16_at-signal.ensures.0 (laws.above_signals _ _ c.if-signal-lt1.false c.if-n-signal.true))
     (λ c. search rules) (λ c κs. search rules) (λ c κs. search rules) (λ c. search rules) (λ c κs. search rules) (λ c κs. search rules)
