@@ -11,24 +11,24 @@ use Rattle.runs.proofs.CountLaws.{fits_yes, fits_no}
 use Rattle.runs.proofs.candidates.first_unfit.Statement.{statement}
 use Rattle.runs.proofs.candidates.first_unfit.Tie as tie
 
-abbrev invariant-loop : tie.invariant-loop
+abbrev invariant-loop : tie.invariant-loop-s
 invariant-loop run p s₀ s = (s ≤ length run) × (first_from (fits p run) 1 (length run) ≡ first_from (fits p run) (s + 1) (length run - s))
 
-abbrev decreases-loop : tie.decreases-loop
+abbrev decreases-loop : tie.decreases-loop-s
 decreases-loop run p s₀ s = length run - s
 
-returns : tie.Need-returns invariant-loop decreases-loop
+returns : tie.Need-returns-then-p-value invariant-loop decreases-loop
 returns c =
-    let l = c.before.before.before.loop in
-    first_found _ _ _ _ l.invariant.1 c.before.before.loop-test.true (fits_no _ _ l.s c.if1.true)
+    let l = c.loop-s in
+    first_found _ _ _ _ l.invariant.1 c.loop-s-test.true (fits_no _ _ l.s c.if-p-value.true)
 
-loop-again : tie.Need-loop-preserved invariant-loop decreases-loop
+loop-again : tie.Need-loop-s-preserved invariant-loop decreases-loop
 loop-again c =
-    let l = c.before.before.before.loop in
-    (omega arith, first_again _ _ _ _ l.invariant.1 c.before.before.loop-test.true (fits_yes _ _ l.s c.if1.false))
+    let l = c.loop-s in
+    (omega arith, first_again _ _ _ _ l.invariant.1 c.loop-s-test.true (fits_yes _ _ l.s c.if-p-value.false))
 
-pub first-unfit-spec : {M : Type 1} → statement M
-first-unfit-spec =
+pub first_unfit_spec : {M : Type 1} → statement M
+first_unfit_spec =
     tie.close
     (tie.spec
     invariant-loop
@@ -38,4 +38,4 @@ first-unfit-spec =
     returns
     (λ c. search rules)
     loop-again
-    (λ c. first_none _ _ _ _ c.before.loop.invariant.1 c.loop-test.false))
+    (λ c. first_none _ _ _ _ c.loop-s.invariant.1 c.loop-s-test.false))

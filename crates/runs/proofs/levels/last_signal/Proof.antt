@@ -7,11 +7,11 @@ use Rattle.runs.proofs.LevelLaws as laws
 use Rattle.runs.proofs.levels.last_signal.Statement.{statement}
 use Rattle.runs.proofs.levels.last_signal.Tie as tie
 
-pub last-signal-spec : {M : Type 1} → statement M
-last-signal-spec =
+pub last_signal_spec : {M : Type 1} → statement M
+last_signal_spec =
     tie.close
     (tie.spec
     (λ c κs. search rules) (λ c. search rules)
-    (λ c. laws.last_none _ c.before.byte_at.ensures.0 c.if1.true)
+    (λ c. laws.last_none _ c.byte_at-count.ensures.0 c.if-count-eq0.true)
     (λ c. search rules) (λ c. search rules) (λ c κs. search rules)
-    (λ c. c.u16-at.ensures.0 ∙ laws.last_some _ c.before.before.byte_at.ensures.0 c.before.if1.false))
+    (λ c. c.u16_at.ensures.0 ∙ laws.last_some _ c.byte_at-count.ensures.0 c.if-count-eq0.false))

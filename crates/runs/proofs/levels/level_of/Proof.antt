@@ -6,21 +6,16 @@ use Rattle.runs.proofs.levels.level_of.Statement.{statement}
 use Rattle.runs.proofs.levels.level_of.Tie as tie
 
 -- the largest of the three
-largest : (c : tie.After-larger2) → c.larger2.result ≡ laws.largest_in c.before.before.before.before.before.before.before.before.args.part.now
+largest : (c : tie.After-larger-level) → c.larger-level.result ≡ laws.largest_in c.args.part.now
 largest c =
-    let m = c.before in
-    let third = m.before in
-    let second = third.before in
-    let first = second.before in
-    let after = first.before in
-    laws.largest_is _ after.before.after-form.ensures after.after-form2.ensures first.last-signal.ensures second.last-signal2.ensures
-    third.last-signal3.ensures m.larger.ensures c.larger2.ensures
+    laws.largest_is _ c.after_form-b.ensures c.after_form-c.ensures c.last_signal.ensures c.last_signal-2.ensures
+    c.last_signal-3.ensures c.larger.ensures c.larger-level.ensures
 
-pub level-of-spec : {M : Type 1} → statement M
-level-of-spec =
+pub level_of_spec : {M : Type 1} → statement M
+level_of_spec =
     tie.close
     (tie.spec
     (λ c κs. search rules) (λ c κs. search rules) (λ c κs. search rules) (λ c κs. search rules) (λ c κs. search rules) (λ c κs. search rules)
     (λ c κs. search rules)
-    (λ c. laws.level_low _ _ (largest c.before) c.if1.true)
-    (λ c. laws.level_high _ _ (largest c.before) c.if1.false))
+    (λ c. laws.level_low _ _ (largest c.before) c.if-level-n.true)
+    (λ c. laws.level_high _ _ (largest c.before) c.if-level-n.false))

@@ -9,44 +9,41 @@ use Rattle.runs.proofs.LevelLaws as laws
 use Rattle.runs.proofs.levels.link.Statement.{statement}
 use Rattle.runs.proofs.levels.link.Tie as tie
 
-abbrev invariant-loop : tie.invariant-loop
+abbrev invariant-loop : tie.invariant-loop-k
 invariant-loop circuit table heads₀ nexts₀ n m k₀ heads nexts k = laws.Linking (level_at circuit table n) m (length heads₀) (length nexts₀) heads nexts k
 
-abbrev decreases-loop : tie.decreases-loop
+abbrev decreases-loop : tie.decreases-loop-k
 decreases-loop circuit table heads₀ nexts₀ n m k₀ heads nexts k = m - k
 
 -- the level of the constraint
-is_level : (c : tie.After-slice-known3 invariant-loop decreases-loop) → let b = c.before.before.before.before in
-    let a = b.before.before.before.before.before.args in
-    c.before.level-of.result ≡ level_at a.circuit.now a.table.now a.n (b.loop.k + 1)
-is_level c = laws.level_is _ _ _ _ c.before.before.part_of.ensures c.before.level-of.ensures
+is_level : (c : tie.After-slice_known-in-loop-k-1 invariant-loop decreases-loop) →
+    let a = c.args in
+    c.level_of-level.result ≡ level_at a.circuit.now a.table.now a.n (c.loop-k.k + 1)
+is_level c = laws.level_is _ _ _ _ c.part_of.ensures c.level_of-level.ensures
 
-inside : (c : tie.After-slice-known3 invariant-loop decreases-loop) → c.before.level-of.result < length c.before.before.before.before.loop.heads
+inside : (c : tie.After-slice_known-in-loop-k-1 invariant-loop decreases-loop) → c.level_of-level.result < length c.loop-k.heads
 inside c =
-    let b = c.before.before.before.before in
-    let start = b.before.before.before.before.before in
-    omega (arith, laws.level_inside _ _ _ _ (is_level c) start.requires.heads_long, b.loop.invariant.heads_kept)
+    omega (arith, laws.level_inside _ _ _ _ (is_level c) c.requires.heads_long, c.loop-k.invariant.heads_kept)
 
-place : (c : tie.After-slice-known3 invariant-loop decreases-loop) → let l = c.before.before.before.before.loop in l.k + 1 < length l.nexts
+place : (c : tie.After-slice_known-in-loop-k-1 invariant-loop decreases-loop) → let l = c.loop-k in l.k + 1 < length l.nexts
 place c =
-    let b = c.before.before.before.before in
-    omega (arith, b.before.before.before.before.before.requires.nexts_long, b.loop.invariant.nexts_kept, c.before.before.before.loop-test.true)
+    omega (arith, c.requires.nexts_long, c.loop-k.invariant.nexts_kept, c.loop-k-test.true)
 
-loop-again : tie.Need-loop-preserved invariant-loop decreases-loop
+loop-again : tie.Need-loop-k-preserved invariant-loop decreases-loop
 loop-again c =
-    laws.linking_again c.before.before.before.before.loop.invariant c.before.before.before.loop-test.true _ (is_level c) (inside c) (place c)
+    laws.linking_again c.loop-k.invariant c.loop-k-test.true _ (is_level c) (inside c) (place c)
 
 returns : tie.Need-returns invariant-loop decreases-loop
 returns c =
-    let L = c.before.loop.invariant in (laws.linking_end L c.loop-test.false, (L.heads_kept, L.nexts_kept))
+    let L = c.loop-k.invariant in (laws.linking_end L c.loop-k-test.false, (L.heads_kept, L.nexts_kept))
 
-pub link-spec : {M : Type 1} → statement M
-link-spec =
+pub link_spec : {M : Type 1} → statement M
+link_spec =
     tie.close
     (tie.spec
     invariant-loop
     decreases-loop
-    (λ c. laws.linking_start _ c.before.before.before.before.requires)
+    (λ c. laws.linking_start _ c.requires)
     (λ c. search rules) (λ c κs. search rules) (λ c κs. search rules) (λ c. search rules) (λ c. search rules)
     inside
     (λ c. search rules) (λ c. search rules)
@@ -55,6 +52,6 @@ link-spec =
     inside
     (λ c. search rules)
     loop-again
-    (λ c. c.before.loop.invariant.heads_kept)
-    (λ c. c.before.loop.invariant.nexts_kept)
+    (λ c. c.loop-k.invariant.heads_kept)
+    (λ c. c.loop-k.invariant.nexts_kept)
     returns)

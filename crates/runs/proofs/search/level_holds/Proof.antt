@@ -11,51 +11,43 @@ use Rattle.runs.proofs.SearchLaws as laws
 use Rattle.runs.proofs.search.level_holds.Statement.{statement}
 use Rattle.runs.proofs.search.level_holds.Tie as tie
 
-abbrev invariant-loop : tie.invariant-loop
+abbrev invariant-loop : tie.invariant-loop-k
 invariant-loop circuit table heads nexts values sizes level k₀ k =
     laws.Walked (circuit_of circuit) (level_at circuit table sizes.n) (values_in values) level k
 
-abbrev decreases-loop : tie.decreases-loop
+abbrev decreases-loop : tie.decreases-loop-k
 decreases-loop circuit table heads nexts values sizes level k₀ k = k
 
-abbrev start : tie.At-loop invariant-loop decreases-loop → tie.Start invariant-loop decreases-loop
-start l = l.before.before.before.before.before.before.before
-
 -- whether the constraint holds
-held : (c : tie.After-satisfied invariant-loop decreases-loop) → let l = c.before.before.before in
-    let a = (start l).args in
-    held_at (circuit_of a.circuit.now) (values_in a.values.now) l.loop.k ≡ c.satisfied.result
+held : (c : tie.After-satisfied invariant-loop decreases-loop) →
+    let a = c.args in
+    held_at (circuit_of a.circuit.now) (values_in a.values.now) c.loop-k.k ≡ c.satisfied.result
 held c =
-    let l = c.before.before.before in
-    laws.held_by (start l).requires.0 l.loop.invariant c.before.before.loop-test.true c.before.part_of.ensures c.satisfied.ensures
+    laws.held_by c.requires.0 c.loop-k.invariant c.loop-k-test.true c.part_of.ensures c.satisfied.ensures
 
-returns : tie.Need-returns invariant-loop decreases-loop
+returns : tie.Need-returns-then-not-satisfied invariant-loop decreases-loop
 returns c =
-    let l = c.before.before.before.before in
-    laws.walk_broken (start l).requires.0 _ _ _ l.loop.invariant c.before.before.before.loop-test.true
-    (held c.before ∙ not-true _ c.if1.true)
+    laws.walk_broken c.requires.0 _ _ _ c.loop-k.invariant c.loop-k-test.true
+    (held c.before ∙ c.if-not-satisfied.true)
 
-abbrev turn : tie.After-shared-slice-known7 invariant-loop decreases-loop → tie.At-loop invariant-loop decreases-loop
-turn c = c.before.before.before.before.before
-
-loop-again : tie.Need-loop-preserved invariant-loop decreases-loop
+loop-again : tie.Need-loop-k-preserved invariant-loop decreases-loop
 loop-again c =
-    laws.walk_again (start (turn c)).pre.0 _ _ _ (turn c).loop.invariant c.before.before.before.before.loop-test.true
-    (held c.before.before ∙ not-false _ c.before.if1.false)
+    laws.walk_again c.requires.0 _ _ _ c.loop-k.invariant c.loop-k-test.true
+    (held c.before.before ∙ c.if-not-satisfied.false)
 
-pub level-holds-spec : {M : Type 1} → statement M
-level-holds-spec =
+pub level_holds_spec : {M : Type 1} → statement M
+level_holds_spec =
     tie.close
     (tie.spec
     invariant-loop
     decreases-loop
     (λ c. search rules)
-    (λ c. let pre = c.before.before.before.before.before.before.requires in omega (arith, pre.1, pre.0.heads_long))
-    (λ c. let pre = c.before.before.before.before.before.before.requires in laws.walk_start pre.0 _ _ pre.1)
+    (λ c. let pre = c.requires in omega (arith, pre.1, pre.0.heads_long))
+    (λ c. let pre = c.requires in laws.walk_start pre.0 _ _ pre.1)
     (λ c κs. search rules) (λ c κs. search rules)
     returns
     (λ c. search rules) (λ c. search rules)
-    (λ c. laws.walk_inside (start (turn c)).pre.0 (turn c).loop.invariant)
-    (λ c. laws.walk_less (start (turn c)).pre.0 (turn c).loop.invariant c.before.before.before.before.loop-test.true)
+    (λ c. laws.walk_inside c.requires.0 c.loop-k.invariant)
+    (λ c. laws.walk_less c.requires.0 c.loop-k.invariant c.loop-k-test.true)
     loop-again
-    (λ c. let l = c.before in laws.walk_end (start l).requires.0 _ _ _ l.loop.invariant c.loop-test.false))
+    (λ c. laws.walk_end c.requires.0 _ _ _ c.loop-k.invariant c.loop-k-test.false))
