@@ -249,7 +249,7 @@ module _ {p n h : ℕ} {v : ℕ → ℕ} {values : List ℕ} {s : ℕ} (T : Turn
   pub turn_risen : s ≤ h → get_or values s 0 + 1 < p → Rose p n h v (values_in (set values s (get_or values s 0 + 1))) s
   turn_risen = count_risen values T.counting T.long T.some
 
-  pub turn_again : (ltb (get_or values s 0 + 1) p ≡ false) ⊎ (h < s) → Counting p n h v (values_in (set values s 0)) (s - 1)
+  pub turn_again : (p ≤ get_or values s 0 + 1) ⊎ (h < s) → Counting p n h v (values_in (set values s 0)) (s - 1)
   turn_again high =
       count_again values T.counting T.long T.some
-      (λ low. ⊎_elim (λ e. ltb-false (get_or values s 0 + 1) p e) (λ (l : h < s). absurd (omega arith)) high)
+      (λ low. ⊎_elim (λ e. e) (λ (l : h < s). absurd (omega arith)) high)

@@ -3,7 +3,6 @@ use mathlib.Core.Path.{◌≡◌, refl, ◌∙◌}
 use mathlib.Core.Logic.{inl, inr, ⊎_elim}
 use native.Mathlib.Omega.{arith}
 use borrow.Author.Rules.{rules}
-use borrow.Author.Tests.{ltb-true}
 use lib.ListN.{length, length-set}
 use Rattle.circuit.specs.Run.{values_in}
 use Rattle.runs.proofs.CountLaws as laws
@@ -28,12 +27,12 @@ turn c =
 returns : tie.Need-returns-then-value-p invariant-loop decreases-loop
 returns c =
     let l = c.loop-s in
-    (laws.turn_risen (turn c.before.before.before) c.else-s-h.true (ltb-true _ _ c.if-value-p.true), length-set l.values l.s _ ∙ l.invariant.0)
+    (laws.turn_risen (turn c.before.before.before) c.if-s-h.true c.if-value-p.true, length-set l.values l.s _ ∙ l.invariant.0)
 
 loop-again : tie.Need-loop-s-preserved invariant-loop decreases-loop
 loop-again c =
     let l = c.loop-s in
-    (length-set l.values l.s 0 ∙ l.invariant.0, laws.turn_again (turn c.before.before) (⊎_elim (λ w. inl w.1.left) (λ w. inr w.left) c.else-s-h.branch))
+    (length-set l.values l.s 0 ∙ l.invariant.0, laws.turn_again (turn c.before.before) (⊎_elim (λ w. inl w.1) inr c.else-s-h.either))
 
 pub advance_spec : {M : Type 1} → statement M
 advance_spec =

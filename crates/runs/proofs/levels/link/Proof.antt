@@ -16,22 +16,22 @@ abbrev decreases-loop : tie.decreases-loop-k
 decreases-loop circuit table heads₀ nexts₀ n m k₀ heads nexts k = m - k
 
 -- the level of the constraint
-is_level : (c : tie.After-slice_known-in-loop-k-1 invariant-loop decreases-loop) →
+is_level : (c : tie.After-level_of-level invariant-loop decreases-loop) →
     let a = c.args in
     c.level_of-level.result ≡ level_at a.circuit.now a.table.now a.n (c.loop-k.k + 1)
 is_level c = laws.level_is _ _ _ _ c.part_of.ensures c.level_of-level.ensures
 
-inside : (c : tie.After-slice_known-in-loop-k-1 invariant-loop decreases-loop) → c.level_of-level.result < length c.loop-k.heads
+inside : (c : tie.After-level_of-level invariant-loop decreases-loop) → c.level_of-level.result < length c.loop-k.heads
 inside c =
     omega (arith, laws.level_inside _ _ _ _ (is_level c) c.requires.heads_long, c.loop-k.invariant.heads_kept)
 
-place : (c : tie.After-slice_known-in-loop-k-1 invariant-loop decreases-loop) → let l = c.loop-k in l.k + 1 < length l.nexts
+place : (c : tie.After-level_of-level invariant-loop decreases-loop) → let l = c.loop-k in l.k + 1 < length l.nexts
 place c =
     omega (arith, c.requires.nexts_long, c.loop-k.invariant.nexts_kept, c.loop-k-test.true)
 
 loop-again : tie.Need-loop-k-preserved invariant-loop decreases-loop
 loop-again c =
-    laws.linking_again c.loop-k.invariant c.loop-k-test.true _ (is_level c) (inside c) (place c)
+    laws.linking_again c.loop-k.invariant c.loop-k-test.true _ (is_level c.before) (inside c.before) (place c.before)
 
 returns : tie.Need-returns invariant-loop decreases-loop
 returns c =
@@ -45,11 +45,11 @@ link_spec =
     decreases-loop
     (λ c. laws.linking_start _ c.requires)
     (λ c. search rules) (λ c κs. search rules) (λ c κs. search rules) (λ c. search rules) (λ c. search rules)
-    inside
+    (λ c. inside c.before)
     (λ c. search rules) (λ c. search rules)
-    place
+    (λ c. place c.before)
     (λ c. search rules)
-    inside
+    (λ c. inside c.before)
     (λ c. search rules)
     loop-again
     (λ c. c.loop-k.invariant.heads_kept)

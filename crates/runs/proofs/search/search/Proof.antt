@@ -23,7 +23,7 @@ advance-requires c κs =
     let pre = c.requires in
     (omega (arith, c.loop-level.invariant.0, pre.1), laws.search_candidate pre.0 _ c.loop-level.invariant.1)
 
-kept : (c : tie.After-advance-risen invariant-loop decreases-loop) → length c.advance-risen.new.0 ≡ length c.args.values-1.now
+kept : (c : tie.After-advance-risen invariant-loop decreases-loop) → length c.advance-risen.new.values ≡ length c.args.values.now
 kept c = c.advance-risen.ensures.1 ∙ c.loop-level.invariant.0
 
 returns : tie.Need-returns-then-risen-eq0 invariant-loop decreases-loop
