@@ -1,17 +1,16 @@
 -- Laws of levels: a constraint holds or not by the signals up to its level, and how the constraints of each level are linked.
-use Prim.Native.Nat.{ℕ, zero, suc, ◌+◌, ◌*◌, ◌-◌, ◌≤◌, ◌<◌, min, max}
+use Prim.Native.Nat.{ℕ, zero, suc, ◌+◌, ◌*◌, ◌-◌, ◌≤◌, ◌<◌, max}
 use mathlib.Core.Path.{◌≡◌, refl, sym, ap, ap₂, ◌∙◌}
-use mathlib.Core.Bool.{Bool, true, false, cond, ◌&&◌}
+use mathlib.Core.Bool.{Bool, true, false}
 use mathlib.Core.List.{List}
 use native.Mathlib.Decide.{ℕ_discrete}
-use native.Mathlib.Nat.{add-zero, zero-add}
 use native.Mathlib.Omega.{arith}
-use borrow.Author.Tests.{eq-eqb, ne_eqb, leb-true, leb-false}
+use borrow.Author.Tests.{ne_eqb, leb-true, leb-false}
 use lib.Dec.{leb, eqb}
 use lib.ListN.{length, drop, get_or, set, length-set}
 use lib.Seq.{get_or-set_same, get_or-set_other}
-use Rattle.circuit.specs.Bytes.{byte_at, u16_at, u32_at}
-use Rattle.circuit.specs.Circuit.{Term, Form, Constraint, constraint_at, eval, Rises, no_more, more, WellFormedConstraint}
+use Rattle.circuit.specs.Bytes.{byte_at, u16_at}
+use Rattle.circuit.specs.Circuit.{Term, Form, eval, Rises, more, WellFormedConstraint}
 use Rattle.circuit.specs.Reader.{term_at, term_kept, terms_in, form_in, after_form, constraint_in}
 use Rattle.circuit.specs.Run.{holds}
 use Rattle.circuit.specs.Call.{circuit_of, Sized}
@@ -210,7 +209,8 @@ module _ (level : ℕ → ℕ) where
         record {
           head_most = λ h. head_most h (ℕ_discrete h (level (k + 1)));
           head_level = λ h. head_level h (ℕ_discrete h (level (k + 1)));
-          head_last = λ h j inside. head_last h j (ℕ_discrete h (level (k + 1))) (ℕ_discrete j (k + 1)) (omega (arith, length-set heads (level (k + 1)) (k + 1)));
+          head_last = λ h j inside.
+              head_last h j (ℕ_discrete h (level (k + 1))) (ℕ_discrete j (k + 1)) (omega (arith, length-set heads (level (k + 1)) (k + 1)));
           next_less = λ j. next_less j (ℕ_discrete j (k + 1));
           next_level = λ j. next_level j (ℕ_discrete j (k + 1));
           next_last = λ j i. next_last j i (ℕ_discrete j (k + 1));

@@ -4,3 +4,5 @@ pub mod Listed
 pub mod LevelLaws
 pub mod CountLaws
 pub mod SearchLaws
+pub mod SeekLaws
+pub mod CallLaws

@@ -6,7 +6,6 @@ use mathlib.Core.Bool.{Bool, true, false}
 use mathlib.Core.List.{List}
 use native.Mathlib.Decide.{dec_le, dec_lt, ℕ_discrete}
 use native.Mathlib.Nat.{mul-le-mul_right, pow-zero, pow-suc}
-use native.Mathlib.Numerals.{add-one}
 use native.Mathlib.Omega.{arith}
 use lib.ListN.{length, get_or}
 use Rattle.circuit.specs.Circuit.{Circuit, constraint_at}
@@ -18,9 +17,9 @@ use Rattle.circuit.specs.declared.reader.Sizes.{Sizes}
 use Rattle.circuit.proofs.OffsetLaws.{sized_part}
 use Rattle.laws.proofs.Sum.{true_or_false}
 use Rattle.runs.specs.Order.{Before}
-use Rattle.runs.specs.Inner.{level_at, Searchable, Candidate, Rose, held_at, Breaks, Judged, Checked, Solution, Reached, Sought}
+use Rattle.runs.specs.Inner.{level_at, Searchable, Candidate, Rose, held_at, Judged, Checked, Solution, Sought}
 use Rattle.runs.proofs.Orders.{before_trans}
-use Rattle.runs.proofs.LevelLaws.{AgreeTo, held_agree, level_most}
+use Rattle.runs.proofs.LevelLaws.{held_agree, level_most}
 
 -- ---- one step
 

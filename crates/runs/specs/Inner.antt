@@ -1,4 +1,5 @@
--- How the functions inside the calls run: what they promise one another, not what the calls mean. Values are functions of the signal, as forms are evaluated on.
+-- How the functions inside the calls run: what they promise one another, not what the calls mean.
+-- Values are functions of the signal, as forms are evaluated on.
 use Rattle.std.specs.Prelude.{ℕ, ◌+◌, ◌-◌, ◌≤◌, ◌<◌, min, max, ◌≡◌, Bool, true, false, cond, List, ◌⊎◌, eqb, length, get_or}
 use Rattle.std.proofs.Math.Option.{none, some}
 use Rattle.circuit.specs.Bytes.{byte_at, u16_at}
@@ -6,7 +7,7 @@ use Rattle.circuit.specs.Circuit.{Circuit, constraint_at, value_of}
 use Rattle.circuit.specs.Reader.{form_size, term_size, after_form}
 use Rattle.circuit.specs.Run.{values_in, holds}
 use Rattle.circuit.specs.Answer.{Answer, given}
-use Rattle.circuit.specs.Call.{circuit_of, Sized}
+use Rattle.circuit.specs.Call.{Sized}
 use Rattle.circuit.specs.Offsets.{Offsets, part_of}
 use Rattle.circuit.specs.declared.reader.Sizes.{Sizes}
 use Rattle.runs.specs.Order.{Before}

@@ -1,7 +1,5 @@
 -- `runs::levels::last_signal`: no term, or the last one by the count.
-use Prim.Native.Nat.{◌*◌, ◌-◌}
-use mathlib.Core.Path.{◌≡◌, sym, ap, ◌∙◌}
-use native.Mathlib.Omega.{arith}
+use mathlib.Core.Path.{◌∙◌}
 use borrow.Author.Rules.{rules}
 use Rattle.runs.proofs.LevelLaws as laws
 use Rattle.runs.proofs.levels.last_signal.Statement.{statement}

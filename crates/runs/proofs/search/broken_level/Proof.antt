@@ -1,11 +1,9 @@
 -- `runs::search::broken_level`: level by level, up to one with a constraint that is broken.
 use Prim.Native.Nat.{◌+◌, ◌-◌}
-use mathlib.Core.Path.{◌≡◌}
 use borrow.Author.Rules.{rules}
-use borrow.Author.Tests.{not-true, not-false}
 use Rattle.circuit.specs.Run.{values_in}
 use Rattle.circuit.specs.Call.{circuit_of}
-use Rattle.runs.specs.Inner.{level_at, Judged}
+use Rattle.runs.specs.Inner.{level_at}
 use Rattle.runs.proofs.SearchLaws as laws
 use Rattle.runs.proofs.search.broken_level.Statement.{statement}
 use Rattle.runs.proofs.search.broken_level.Tie as tie

@@ -1,9 +1,7 @@
 -- `runs::search::level_holds`: the constraints of the level, from the last to the first, up to one that is broken.
-use mathlib.Core.Path.{◌≡◌, sym, ◌∙◌}
-use mathlib.Core.Bool.{Bool}
+use mathlib.Core.Path.{◌≡◌, ◌∙◌}
 use native.Mathlib.Omega.{arith}
 use borrow.Author.Rules.{rules}
-use borrow.Author.Tests.{not-true, not-false}
 use Rattle.circuit.specs.Run.{values_in}
 use Rattle.circuit.specs.Call.{circuit_of}
 use Rattle.runs.specs.Inner.{level_at, held_at}

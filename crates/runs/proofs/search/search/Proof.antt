@@ -1,7 +1,6 @@
 -- `runs::search::search`: candidate by candidate, each step past all that break the same constraint.
 use mathlib.Core.Path.{◌≡◌, refl, ◌∙◌}
 use native.Mathlib.Omega.{arith}
-use borrow.Author.Rules.{rules}
 use lib.ListN.{length}
 use Rattle.circuit.specs.Run.{values_in}
 use Rattle.circuit.specs.Call.{circuit_of}
