@@ -1,5 +1,5 @@
-// The seven public calls for callers in other languages. A slice passes as a pointer and a length, a lent array as a pointer. The returned value holds a
-// refusal's number and place, or q, or a length, or whether a run was written; lent memory is written only on a result that has something to hand over.
+// The seven public calls for callers in other languages, which exports_c hands to C. The returned value holds a refusal's number and place, or q, or a length,
+// or whether a run was written; lent memory is written only on a result that has something to hand over.
 
 #![tactic(auto)]
 
@@ -34,8 +34,7 @@ fn returned(number: u32, low: usize) -> u64
 }
 
 // Reads a circuit. `answer`: p, n, i, o and m.
-#[unsafe(no_mangle)]
-pub extern "C" fn yolqushek_read(circuit: &[u8], answer: &mut [u64; 5]) -> u64
+pub fn yolqushek_read(circuit: &[u8], answer: &mut [u64; 5]) -> u64
     ensures returned { result ≡ read_returned (circuit_call circuit.now) }
     ensures answered { answer.new ≡ read_answer (circuit_call circuit.now) answer.old }
 {
@@ -50,8 +49,7 @@ pub extern "C" fn yolqushek_read(circuit: &[u8], answer: &mut [u64; 5]) -> u64
 }
 
 // Judges a pair of runs with a sheet, and returns the signal q.
-#[unsafe(no_mangle)]
-pub extern "C" fn yolqushek_pair(circuit: &[u8], sheet: &[u8], pair: &[u8]) -> u64
+pub fn yolqushek_pair(circuit: &[u8], sheet: &[u8], pair: &[u8]) -> u64
     ensures { result ≡ pair_returned (pair_call circuit.now sheet.now pair.now) }
 {
     let result = check_pair(circuit, sheet, pair);
@@ -72,8 +70,7 @@ fn number_of(verdict: Verdict) -> u64
 
 // Judges a derivation with a sheet. `answer`: how many signals are marked, 1 for fixed and 0 for open, how many tags are shown, and the first that isn't.
 // The marks go to `marks`.
-#[unsafe(no_mangle)]
-pub extern "C" fn yolqushek_mark(
+pub fn yolqushek_mark(
     circuit: &[u8],
     sheet: &[u8],
     derivation: &[u8],
@@ -107,8 +104,7 @@ pub extern "C" fn yolqushek_mark(
 }
 
 // Solves a circuit with a sheet. `answer`: the same four numbers as of a derivation, and the derivation's length. The derivation goes to `output`.
-#[unsafe(no_mangle)]
-pub extern "C" fn yolqushek_solve(
+pub fn yolqushek_solve(
     circuit: &[u8],
     sheet: &[u8],
     output: &mut [u8],
@@ -141,13 +137,7 @@ pub extern "C" fn yolqushek_solve(
 }
 
 // Renews a derivation with a sheet, and returns its new length. The renewed derivation goes to `output`.
-#[unsafe(no_mangle)]
-pub extern "C" fn yolqushek_renew(
-    circuit: &[u8],
-    sheet: &[u8],
-    derivation: &[u8],
-    output: &mut [u8],
-) -> u64
+pub fn yolqushek_renew(circuit: &[u8], sheet: &[u8], derivation: &[u8], output: &mut [u8]) -> u64
     ensures returned { result
         ≡ renew_returned (renewal_call circuit.now sheet.now derivation.now (length output.old)) }
     ensures written { output.new
@@ -172,8 +162,7 @@ fn returned_run(res: RunAnswer) -> u64
 }
 
 // Writes the first satisfying run of a small circuit to `answer`, and returns 1; 0 where there is none.
-#[unsafe(no_mangle)]
-pub extern "C" fn yolqushek_first_run(circuit: &[u8], answer: &mut [u32]) -> u64
+pub fn yolqushek_first_run(circuit: &[u8], answer: &mut [u32]) -> u64
     ensures returned { result ≡ run_returned (first_call circuit.now (length answer.old)) }
     ensures written { answer.new ≡ left_by (first_call circuit.now (length answer.old)) answer.old }
 {
@@ -182,8 +171,7 @@ pub extern "C" fn yolqushek_first_run(circuit: &[u8], answer: &mut [u32]) -> u64
 }
 
 // The same of the satisfying runs that the one in `given` comes before.
-#[unsafe(no_mangle)]
-pub extern "C" fn yolqushek_next_run(circuit: &[u8], given: &[u32], answer: &mut [u32]) -> u64
+pub fn yolqushek_next_run(circuit: &[u8], given: &[u32], answer: &mut [u32]) -> u64
     ensures returned { result ≡ run_returned (next_call circuit.now given.now (length answer.old)) }
     ensures written { answer.new
         ≡ left_by (next_call circuit.now given.now (length answer.old)) answer.old }
