@@ -1,4 +1,4 @@
-/* The seven calls of the proved library. Link target/staticlib/libexports.a, which `rt staticlib exports` makes.
+/* The seven calls of the proved library. Link target/staticlib/libexports.a, which `bin/build library` makes.
  *
  * Every call ends on all bytes and lengths. It returns a refusal's number in the high half of the value, 0 where nothing is refused, and in the low half
  * the refusal's place; yolqushek_number and yolqushek_place take the value apart. On a result the low half is 0, but for an accepted pair, where it is

@@ -1,6 +1,7 @@
 //! The safe calls on document 01's cases a and f, with tags and without.
 
-use yolqushek::{check_derivation, check_pair, first_run, next_run, read_circuit, renew, runs, solve, Marked, Refusal, NO_TAGS};
+use yolqushek::{check_derivation, check_pair, read_circuit, renew, solve, Marked, Refusal, NO_TAGS};
+use yolqushek::{first_run, next_run, runs};
 
 /// Case a: p = 7, input 1, output 2, A = B = signal 1, C = signal 2.
 const A: &[u8] = &[67, 81, 84, 1, 0, 7, 0, 0, 0, 2, 0, 1, 0, 1, 0, 1, 0, 1, 1, 0, 1, 0, 0, 0, 1, 1, 0, 1, 0, 0, 0, 1, 2, 0, 1, 0, 0, 0];
