@@ -1,7 +1,7 @@
 //! First and next runs: against all candidates of thousands of random circuits; and each way in which the calls could be read wrongly gives another answer than
 //! at least three of the calls that `compose_runs` makes, which are called stored here.
 
-use std::collections::BTreeMap;
+use std::collections::{BTreeMap, BTreeSet};
 use std::rc::Rc;
 
 use second::brute::satisfying_runs;
@@ -409,5 +409,20 @@ fn no_limit_of_runs_hangs_on_one_vector() {
     for kind in LISTING {
         several("no more", 10, &|r| r.kind == kind && r.answer.number == 0 && r.answer.values[0] == 0);
         several("written", 60, &|r| r.kind == kind && r.answer.number == 0 && r.answer.values[0] == 1);
+    }
+}
+
+#[test]
+fn every_refusal_of_listings_occurs_at_several_places() {
+    for seed in [1, 2, 3] {
+        let made = compose_runs(seed, &compose(seed, USUAL_SIZE));
+        for number in [0, 30, 31] {
+            let places: Vec<u32> = made.iter().filter(|record| record.answer.number == number).map(|record| record.answer.place).collect();
+            assert!(places.len() >= 5, "refusal {number}: {places:?}");
+            assert!(number < 31 || places.iter().collect::<BTreeSet<_>>().len() >= 5, "refusal {number}: {places:?}");
+        }
+        for kind in LISTING {
+            assert!(made.iter().filter(|record| record.kind == kind && record.answer.number == 0).count() >= 80);
+        }
     }
 }
