@@ -12,8 +12,8 @@
  * any other signal is shown if the bound that is reached is at most its limit, and else it isn't. No tags are the 7 bytes of yolqushek_no_tags; no bytes at
  * all are Refusal 26.
  *
- * There is no heap. What each call needs of the stack is said below, as measured on x86-64 in steps of 4 kB with what a thread itself takes; it hardly
- * depends on the circuit, unless that is refused. A thread with 256 kB of stack is enough for every call. */
+ * There is no heap. What each call needs of the stack is said below, as measured on x86-64 in steps of 4 kB with what a thread itself takes, from 16 kB on,
+ * which is the least that a thread has; it hardly depends on the circuit, unless that is refused. A thread with 256 kB of stack is enough for every call. */
 #ifndef YOLQUSHEK_H
 #define YOLQUSHEK_H
 
@@ -42,37 +42,37 @@ static inline uint32_t yolqushek_length(uint64_t returned) { return (uint32_t)re
 /* Of a result: 1 if a run was written, 0 if there are no more. */
 static inline uint32_t yolqushek_written(uint64_t returned) { return (uint32_t)returned; }
 
-/* Reads a circuit: refusals 1 to 10. answer: p, n, i, o, m. Stack: 36 kB. */
+/* Reads a circuit: refusals 1 to 10. answer: p, n, i, o, m. Stack: 16 kB. */
 uint64_t yolqushek_read(const uint8_t *circuit, size_t circuit_length, uint64_t answer[5]);
 
 /* Judges a derivation: refusals 1 to 10, 26, 27, 11 to 14, and then step by step 15, 16, 17 and 29, in this order; 29 meets an idle step, which lowers no
  * bound and marks nothing. Writes n bytes to marks, 1 for marked and 0 for not. answer: how many signals are marked, 1 for fixed and 0 for open, how many
- * tags on signals other than inputs are shown, and the sheet's entry number of the first that isn't, or 0. Stack: 112 kB. */
+ * tags on signals other than inputs are shown, and the sheet's entry number of the first that isn't, or 0. Stack: 116 kB. */
 uint64_t yolqushek_mark(const uint8_t *circuit, size_t circuit_length, const uint8_t *sheet, size_t sheet_length, const uint8_t *derivation,
                         size_t derivation_length, uint8_t *marks, size_t marks_length, uint64_t answer[4]);
 
-/* Judges a pair of runs: refusals 1 to 10, 26, 27, 18 to 23, 28 and 24, in this order. Writes nothing. Stack: 40 kB. */
+/* Judges a pair of runs: refusals 1 to 10, 26, 27, 18 to 23, 28 and 24, in this order. Writes nothing. Stack: 16 kB. */
 uint64_t yolqushek_pair(const uint8_t *circuit, size_t circuit_length, const uint8_t *sheet, size_t sheet_length, const uint8_t *pair,
                         size_t pair_length);
 
 /* Solves a circuit: refusals 1 to 10, 26, 27 and 25, in this order. Writes its derivation to output, which has 7 + 14 * n bytes at least. answer: the four
- * numbers of yolqushek_mark, and the derivation's length. Stack: 164 kB, for refused circuits too. */
+ * numbers of yolqushek_mark, and the derivation's length. Stack: 160 kB, and for refused circuits 136. */
 uint64_t yolqushek_solve(const uint8_t *circuit, size_t circuit_length, const uint8_t *sheet, size_t sheet_length, uint8_t *output,
                          size_t output_length, uint64_t answer[5]);
 
 /* Renews a derivation that may have idle steps: refusals 1 to 10, 26, 27, 11 to 13, then step by step 15, 16 and 17, and last 25, in this order. Writes the
  * derivation without its idle steps to output, which has as many bytes as the derivation given at least, even if fewer are written; the value has the new
- * length. What is written is accepted by yolqushek_mark with the same sheet and reaches the same bounds and marks. Stack: 116 kB. */
+ * length. What is written is accepted by yolqushek_mark with the same sheet and reaches the same bounds and marks. Stack: 120 kB. */
 uint64_t yolqushek_renew(const uint8_t *circuit, size_t circuit_length, const uint8_t *sheet, size_t sheet_length, const uint8_t *derivation,
                          size_t derivation_length, uint8_t *output, size_t output_length);
 
 /* Writes the first satisfying run of a small circuit to answer, which has exactly n values (its length counts values, not bytes): that of signal s at
  * answer[s - 1]. Runs are ordered by the value of signal 1, then by that of signal 2, and so on. Refusals 1 to 10, 30 and 31, in this order; 30 meets a circuit
- * with more than 65,536 candidates, p to the power n, and 31 a length other than n. Where no run satisfies nothing is written. Stack: STACK_FIRST kB. */
+ * with more than 65,536 candidates, p to the power n, and 31 a length other than n. Where no run satisfies nothing is written. Stack: 16 kB. */
 uint64_t yolqushek_first_run(const uint8_t *circuit, size_t circuit_length, uint32_t *answer, size_t answer_length);
 
 /* The same of the satisfying runs that come after the given one, which has n values too, each below p (31, with the lowest signal whose value isn't), and need
- * not satisfy anything. With what was written given each time, until there are no more, every satisfying run comes once, in order. Stack: STACK_NEXT kB. */
+ * not satisfy anything. With what was written given each time, until there are no more, every satisfying run comes once, in order. Stack: 16 kB. */
 uint64_t yolqushek_next_run(const uint8_t *circuit, size_t circuit_length, const uint32_t *given, size_t given_length, uint32_t *answer,
                             size_t answer_length);
 

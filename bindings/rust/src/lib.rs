@@ -1,6 +1,6 @@
 //! Safe calls of the proved solver and marker. The library behind them has no precondition: every call ends on all bytes and lengths, and a refusal
 //! writes into no buffer. Nothing checks the declarations here against the proved source, so they are few and on bytes and numbers alone. There is no heap;
-//! the stack that a call needs was measured (tests/stack.rs), and 256 kB are enough for every call.
+//! the stack that a call needs was measured from 16 kB on, the least that a thread has (tests/stack.rs), and 256 kB are enough for every call.
 //!
 //! Marking, judging pairs, solving and renewing take a tag sheet right after the circuit: upper limits of signals, which are assumed of inputs and shown, or
 //! not, of others. Where there are none it is [`NO_TAGS`]; an empty slice is refused.
@@ -98,7 +98,7 @@ fn taken(returned: u64) -> Result<u32, Refusal> {
     }
 }
 
-/// Reads a circuit: refusals 1 to 10. Needs 36 kB of stack.
+/// Reads a circuit: refusals 1 to 10. Needs 16 kB of stack.
 pub fn read_circuit(circuit: &[u8]) -> Result<Sizes, Refusal> {
     let mut answer = [0; 5];
     taken(unsafe { yolqushek_read(circuit.as_ptr(), circuit.len(), &mut answer) })?;
@@ -107,7 +107,7 @@ pub fn read_circuit(circuit: &[u8]) -> Result<Sizes, Refusal> {
 }
 
 /// Judges a derivation and writes a byte for each signal to `marks`: refusals 1 to 10, 26, 27, 11 to 14, and step by step 15, 16, 17 and 29, which meets an
-/// idle step. Needs 112 kB of stack.
+/// idle step. Needs 116 kB of stack.
 pub fn check_derivation(circuit: &[u8], sheet: &[u8], derivation: &[u8], marks: &mut [u8]) -> Result<Marked, Refusal> {
     let mut answer = [0; 4];
     taken(unsafe {
@@ -127,13 +127,13 @@ pub fn check_derivation(circuit: &[u8], sheet: &[u8], derivation: &[u8], marks: 
     Ok(Marked::of(count, fixed, shown, unshown))
 }
 
-/// Judges a pair of runs and answers its signal: refusals 1 to 10, 26, 27, 18 to 23, 28 and 24. Needs 40 kB of stack.
+/// Judges a pair of runs and answers its signal: refusals 1 to 10, 26, 27, 18 to 23, 28 and 24. Needs 16 kB of stack.
 pub fn check_pair(circuit: &[u8], sheet: &[u8], pair: &[u8]) -> Result<u32, Refusal> {
     taken(unsafe { yolqushek_pair(circuit.as_ptr(), circuit.len(), sheet.as_ptr(), sheet.len(), pair.as_ptr(), pair.len()) })
 }
 
-/// Solves a circuit, writes its derivation to `output`, and answers the derivation's length too: refusals 1 to 10, 26, 27 and 25. Needs 164 kB of stack,
-/// for refused circuits too.
+/// Solves a circuit, writes its derivation to `output`, and answers the derivation's length too: refusals 1 to 10, 26, 27 and 25. Needs 160 kB of stack,
+/// and 136 for refused circuits.
 pub fn solve(circuit: &[u8], sheet: &[u8], output: &mut [u8]) -> Result<(Marked, usize), Refusal> {
     let mut answer = [0; 5];
     taken(unsafe { yolqushek_solve(circuit.as_ptr(), circuit.len(), sheet.as_ptr(), sheet.len(), output.as_mut_ptr(), output.len(), &mut answer) })?;
@@ -143,7 +143,7 @@ pub fn solve(circuit: &[u8], sheet: &[u8], output: &mut [u8]) -> Result<(Marked,
 
 /// Renews a derivation that may have idle steps, writes it without them to `output`, which is no shorter than the derivation given, and answers the new length:
 /// refusals 1 to 10, 26, 27, 11 to 13, step by step 15 to 17, and 25. What is written is accepted with the same sheet and reaches the same bounds and marks.
-/// Needs 116 kB of stack.
+/// Needs 120 kB of stack.
 pub fn renew(circuit: &[u8], sheet: &[u8], derivation: &[u8], output: &mut [u8]) -> Result<usize, Refusal> {
     let length = taken(unsafe {
         yolqushek_renew(
@@ -161,14 +161,14 @@ pub fn renew(circuit: &[u8], sheet: &[u8], derivation: &[u8], output: &mut [u8])
 }
 
 /// Writes the first satisfying run of a small circuit to `answer`, a value for each signal: refusals 1 to 10, 30 where p to the power n is above 65,536, and 31
-/// where `answer` hasn't exactly n values. False if no run satisfies; then nothing is written. Needs STACK_FIRST kB of stack.
+/// where `answer` hasn't exactly n values. False if no run satisfies; then nothing is written. Needs 16 kB of stack.
 pub fn first_run(circuit: &[u8], answer: &mut [u32]) -> Result<bool, Refusal> {
     let written = taken(unsafe { yolqushek_first_run(circuit.as_ptr(), circuit.len(), answer.as_mut_ptr(), answer.len()) })?;
     Ok(written == 1)
 }
 
 /// The same of the satisfying runs that come after the given one in lexicographic order: refusals 1 to 10, 30 and 31, which also meets a given run that hasn't
-/// exactly n values, or has one that isn't below p; it needn't satisfy anything. Needs STACK_NEXT kB of stack.
+/// exactly n values, or has one that isn't below p; it needn't satisfy anything. Needs 16 kB of stack.
 pub fn next_run(circuit: &[u8], given: &[u32], answer: &mut [u32]) -> Result<bool, Refusal> {
     let written =
         taken(unsafe { yolqushek_next_run(circuit.as_ptr(), circuit.len(), given.as_ptr(), given.len(), answer.as_mut_ptr(), answer.len()) })?;
