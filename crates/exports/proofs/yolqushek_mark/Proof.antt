@@ -8,31 +8,28 @@ use Rattle.exports.specs.Answers.{mark_returned}
 use Rattle.exports.proofs.yolqushek_mark.Statement.{statement}
 use Rattle.exports.proofs.yolqushek_mark.Tie as tie
 
-returns : tie.Need-returns
+returns : tie.Need-returns-in-Refused
 returns c =
-    let h = c.before.before in
-    let call = h.before.before.before.before.check-derivation in
-    let is = sym (ap paper_of h.result.given.1) ∙ call.ensures.0 in (
+    let call = c.check_derivation-result in
+    let is = sym (ap paper_of c.in-Refused.is) ∙ call.ensures.0 in (
       c.returned.ensures ∙ ap mark_returned is,
       (rw (← is), call.ensures.1.0),
     )
 
-returns-2 : tie.Need-returns-2
+returns-2 : tie.Need-returns-in-Accepted
 returns-2 c =
-    let n = c.before.before.before.before in
-    let h = n.before.before in
-    let call = h.before.before.before.before.check-derivation in
-    let is = sym (ap paper_of h.result2.given.1) ∙ call.ensures.0 in (
-      c.returned2.ensures ∙ ap mark_returned is,
+    let call = c.check_derivation-result in
+    let is = sym (ap paper_of c.in-Accepted.is) ∙ call.ensures.0 in (
+      c.returned-in-Accepted.ensures ∙ ap mark_returned is,
       (
-        ap (λ (v : ℕ). h.result2.given.0.0 ∷ v ∷ h.result2.given.0.1.1.0.count ∷ h.result2.given.0.1.1.0.missed ∷ []) n.number_of_lem.ensures
+        ap (λ (v : ℕ). c.in-Accepted.count ∷ v ∷ c.in-Accepted.shown.count ∷ c.in-Accepted.shown.missed ∷ []) c.number_of.ensures
             ∙ rw (← is),
         call.ensures.1.0,
       ),
     )
 
-pub yolqushek-mark-spec : {M : Type 1} → statement M
-yolqushek-mark-spec =
+pub yolqushek_mark_spec : {M : Type 1} → statement M
+yolqushek_mark_spec =
     tie.close
     (tie.spec
     (λ c κs. search rules) (λ c. search rules) (λ c κs. search rules) (λ c. search rules) (λ c. search rules) (λ c κs. search rules)

@@ -6,26 +6,24 @@ use Rattle.exports.specs.Answers.{renew_returned}
 use Rattle.exports.proofs.yolqushek_renew.Statement.{statement}
 use Rattle.exports.proofs.yolqushek_renew.Tie as tie
 
-returns : tie.Need-returns
+returns : tie.Need-returns-in-Refused
 returns c =
-    let h = c.before.before in
-    let call = h.before.before.before.before.renew in
-    let is = sym (ap paper_of h.result.given.1) ∙ call.ensures.0 in (
+    let call = c.renew-result in
+    let is = sym (ap paper_of c.in-Refused.is) ∙ call.ensures.0 in (
       c.returned.ensures ∙ ap renew_returned is,
       call.ensures.1.0,
     )
 
-returns-2 : tie.Need-returns-2
+returns-2 : tie.Need-returns-in-Renewed
 returns-2 c =
-    let h = c.before.before in
-    let call = h.before.before.before.before.renew in
-    let is = sym (ap paper_of h.result2.given.1) ∙ call.ensures.0 in (
-      c.returned2.ensures ∙ ap renew_returned is,
+    let call = c.renew-result in
+    let is = sym (ap paper_of c.in-Renewed.is) ∙ call.ensures.0 in (
+      c.returned-in-Renewed.ensures ∙ ap renew_returned is,
       call.ensures.1.0,
     )
 
-pub yolqushek-renew-spec : {M : Type 1} → statement M
-yolqushek-renew-spec =
+pub yolqushek_renew_spec : {M : Type 1} → statement M
+yolqushek_renew_spec =
     tie.close
     (tie.spec
     (λ c κs. search rules) (λ c. search rules) (λ c κs. search rules) (λ c. search rules) (λ c κs. search rules) (λ c. search rules)
