@@ -20,7 +20,7 @@ use Rattle.circuit.specs.declared.reader.Sizes.{Sizes}
 use Rattle.circuit.specs.Call.{circuit_of, Sized}
 use Rattle.circuit.proofs.ReaderLaws.{part_drop}
 use Rattle.circuit.proofs.OffsetLaws.{sized_part}
-use Rattle.laws.specs.Problem.{Problem, Names, nothing, aConstraint, equation_at}
+use Rattle.laws.specs.Problem.{Problem, Names, nothing, a_constraint, equation_at}
 use Rattle.laws.specs.Standing.{Standing}
 use Rattle.laws.specs.Step.{Kind, names_of, Step, within, inside, named, constraints, references}
 use Rattle.laws.specs.Step.{in_range, rule, rule_of, met, change, is_idle, after, unless, less_idle}
@@ -75,7 +75,7 @@ no_constraint_lem = refl
 module _ {c : List ℕ} {z : Sizes} {table : List ℕ} (Z : Sized c z) (O : Offsets c z.m table) (first : ℕ → ℕ) where
   equation_is : (f : Names) (k : ℕ) → inside (named f (problem_of c first)) k ≡ true → constraint_in (part_named f c table k) ≡ equation_at f (problem_of c first) k
   equation_is nothing k e = no_constraint_lem
-  equation_is aConstraint k e = sized_part Z O k (within_least _ _ e) (omega (arith, within_most _ _ e, Z.is_m))
+  equation_is a_constraint k e = sized_part Z O k (within_least _ _ e) (omega (arith, within_most _ _ e, Z.is_m))
 
   module _ (x : Step) (ranged : in_range (problem_of c first) x ≡ true) where
     fields : Ranged (problem_of c first) x
@@ -90,7 +90,7 @@ module _ {c : List ℕ} {z : Sizes} {table : List ℕ} (Z : Sized c z) (O : Offs
         }
 
     -- the constraint that a step names is one of the circuit's
-    pub constraint_named : names_of x.kind ≡ aConstraint → (1 ≤ x.constraint) × (x.constraint ≤ z.m)
+    pub constraint_named : names_of x.kind ≡ a_constraint → (1 ≤ x.constraint) × (x.constraint ≤ z.m)
     constraint_named e =
         let k : within (circuit_of c).m x.constraint ≡ true = rw e at fields.constraint in
         (within_least _ _ k, omega (arith, within_most _ _ k, Z.is_m))
@@ -101,7 +101,7 @@ module _ {c : List ℕ} {z : Sizes} {table : List ℕ} (Z : Sized c z) (O : Offs
     rule_is S = rw (Z.is_p, Z.is_n, equation_is (names_of x.kind) x.constraint fields.constraint)
 
     pub step_asked : {row : List ℕ}
-        → (names_of x.kind ≡ aConstraint → reduces x.kind ≡ true
+        → (names_of x.kind ≡ a_constraint → reduces x.kind ≡ true
         → Row (circuit_of c).p (circuit_of c).n (constraint_at (circuit_of c) x.constraint) row)
         → Asked x.kind z.p z.n (part_named (names_of x.kind) c table x.constraint) row x.target x.reference
     step_asked known =
@@ -142,7 +142,7 @@ row_ready {k = k} K e f h M =
 -- a row at which no step of this kind looks need not be there, since it names nothing or its rule looks at no row
 pub row_unnamed : {q : Kind} {k : ℕ} {c : List ℕ} {z : Sizes} {table ends rows : List ℕ} → Kept c z table ends rows → nothing ≡ names_of q
     → Ready q k c z table ends rows
-row_unnamed K n = record { kept = K; row = λ e f. let none : nothing ≡ aConstraint = n ∙ e in let z : ◌≡◌ {A = ℕ} 0 1 = cc in absurd (omega arith) }
+row_unnamed K n = record { kept = K; row = λ e f. let none : nothing ≡ a_constraint = n ∙ e in let z : ◌≡◌ {A = ℕ} 0 1 = cc in absurd (omega arith) }
 
 pub row_idle : {q : Kind} {k : ℕ} {c : List ℕ} {z : Sizes} {table ends rows : List ℕ} → Kept c z table ends rows → reduces q ≡ false
     → Ready q k c z table ends rows
@@ -223,7 +223,7 @@ module _ {padded : Bool} {c d table : List ℕ} {z : Sizes} {ends rows : List �
 
       -- a step that was read, its row kept, the part and the row that its rule is asked by, and what it gives
       module _ {x : code.Step} (e : r ≡ Fine x) {ends' rows' part row : List ℕ} {b same : Bool} {S' : Standing}
-          (keeps : Kept c z table ends rows → (names_of (step_in x).kind ≡ aConstraint → (1 ≤ x.constraint) × (x.constraint ≤ z.m))
+          (keeps : Kept c z table ends rows → (names_of (step_in x).kind ≡ a_constraint → (1 ≤ x.constraint) × (x.constraint ≤ z.m))
           → Ready (step_in x).kind x.constraint c z table ends' rows')
           (is-part : part ≡ part_named (names_of (step_in x).kind) c table x.constraint) (is_row : row ≡ row_of table ends' rows' x.constraint)
           (gives : (n : ℕ) → Asked (step_in x).kind z.p n part row x.target x.reference

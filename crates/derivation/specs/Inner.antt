@@ -43,7 +43,7 @@ kind_found Unknown = none
 
 abbrev pub names_in : Names → laws.Names
 names_in Nothing = laws.nothing
-names_in AConstraint = laws.aConstraint
+names_in AConstraint = laws.a_constraint
 
 -- a kind's row of the table
 pub record EntryOf (kind : Kind) (e : Entry) : Type 0 where
@@ -104,7 +104,7 @@ first_view p i h = record { bound = first_bound p (min i signals_most) (sheet_of
 -- the part of the circuit bytes that a step looks at, by what its constraint field names
 abbrev pub part_named : laws.Names → List ℕ → List ℕ → ℕ → List ℕ
 part_named laws.nothing c table k = []
-part_named laws.aConstraint c table k = part_of c table k
+part_named laws.a_constraint c table k = part_of c table k
 
 -- a step's rule, over that part
 unfoldable pub rule_in : ℕ → ℕ → List ℕ → List ℕ → standing.Standing → step.Step → step.Rule
@@ -121,5 +121,5 @@ pub record Kept (c : List ℕ) (z : Sizes) (table ends rows : List ℕ) : Type 0
 -- and row k is one of them, if a step of this kind names constraint k and looks at its row
 pub record Ready (q : step.Kind) (k : ℕ) (c : List ℕ) (z : Sizes) (table ends rows : List ℕ) : Type 0 where
   pub kept : Kept c z table ends rows
-  pub row : step.names_of q ≡ laws.aConstraint → reduces q ≡ true
+  pub row : step.names_of q ≡ laws.a_constraint → reduces q ≡ true
       → Row (circuit_of c).p (circuit_of c).n (constraint_at (circuit_of c) k) (row_of table ends rows k)

@@ -1,7 +1,7 @@
 // One step of a derivation: read from its bytes and its range tested, and what it looks at of the circuit: a part of the bytes and a row.
 
 ghost use Rattle.std.specs.Prelude.{◌≡◌, ◌≤◌, ◌<◌};
-ghost use Rattle.laws.specs.Problem.{Problem, aConstraint};
+ghost use Rattle.laws.specs.Problem.{Problem, a_constraint};
 ghost use Rattle.laws.specs.Step.{names_of};
 ghost use Rattle.rules.specs.Promise.{kind_of};
 ghost use Rattle.derivation.specs.Inner.{Reads, Kept, Ready, part_named};
@@ -68,7 +68,7 @@ pub(crate) fn keep_row(
     k: u32,
 )
     ensures { Kept circuit.now sizes table.now ends.old rows.old
-        → (names_of (kind_of kind) ≡ aConstraint → (1 ≤ k) × (k ≤ sizes.m))
+        → (names_of (kind_of kind) ≡ a_constraint → (1 ≤ k) × (k ≤ sizes.m))
         → Ready (kind_of kind) k circuit.now sizes table.now ends.new rows.new }
 {
     let entry = entry_of(kind);

@@ -33,11 +33,11 @@ pub record Subject : Type 0 where
 
 -- what the constraint field of a step names
 pub data Names : Type 0 where
-  nothing aConstraint : Names
+  nothing a_constraint : Names
 
 abbrev pub equation_at : Names → Problem → ℕ → Constraint
 equation_at nothing P k = no_constraint
-equation_at aConstraint P k = P.constraint k
+equation_at a_constraint P k = P.constraint k
 
 abbrev pub subject : Names → Problem → ℕ → Subject
 subject f P k = record { p = P.p; n = P.n; equation = equation_at f P k }

@@ -1,6 +1,6 @@
 -- Steps: the one table of kinds, what a step gives, and a derivation as steps taken one after the other.
 use Rattle.std.specs.Prelude.{ℕ, Bool, true, false, not, ◌&&◌, List, [], ◌∷◌, leb, eqb}
-use Rattle.laws.specs.Problem.{Problem, Subject, subject, Names, nothing, aConstraint}
+use Rattle.laws.specs.Problem.{Problem, Subject, subject, Names, nothing, a_constraint}
 use Rattle.laws.specs.Standing.{Standing, Change, at_most, fixed, apply, idle}
 use Rattle.laws.specs.Rules.{reduced, root_met, root_bound, sum_met, sum_bound, zero_met, product_met, digits_met}
 
@@ -23,11 +23,11 @@ kind_number Digits = 5
 
 -- Rule 2.3: what the constraint field names ..
 abbrev pub names_of : Kind → Names
-names_of Root = aConstraint
-names_of Sum = aConstraint
+names_of Root = a_constraint
+names_of Sum = a_constraint
 names_of Zero = nothing
-names_of Product = aConstraint
-names_of Digits = aConstraint
+names_of Product = a_constraint
+names_of Digits = a_constraint
 
 -- .. and whether the reference field names a signal
 abbrev pub refers : Kind → Bool
@@ -77,7 +77,7 @@ inside (from_one n) k = within n k
 
 abbrev pub named : Names → Problem → Range
 named nothing P = only_zero
-named aConstraint P = from_one P.m
+named a_constraint P = from_one P.m
 
 abbrev pub referred : Bool → Problem → Range
 referred false P = only_zero

@@ -2,7 +2,7 @@
 use Rattle.std.specs.Prelude.{ℕ, ◌≤◌, min, ◌≡◌, Bool, true, false, cond, List}
 use Rattle.field.specs.Prime.{Prime}
 use Rattle.circuit.specs.Reader.{signals_most, constraint_in}
-use Rattle.laws.specs.Problem.{Subject, aConstraint}
+use Rattle.laws.specs.Problem.{Subject, a_constraint}
 use Rattle.laws.specs.Standing as laws
 use Rattle.laws.specs.Step as step
 use Rattle.rules.specs.View.{view_of}
@@ -64,4 +64,4 @@ pub record Asked (q : step.Kind) (p n : ℕ) (part row : List ℕ) (t r : ℕ) :
   pub least : 1 ≤ t
   pub most : t ≤ n
   pub reference : step.refers q ≡ true → (1 ≤ r) × (r ≤ n)
-  pub by_row : step.names_of q ≡ aConstraint → reduces q ≡ true → Row p n (constraint_in part) row
+  pub by_row : step.names_of q ≡ a_constraint → reduces q ≡ true → Row p n (constraint_in part) row

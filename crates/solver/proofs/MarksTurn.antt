@@ -8,7 +8,7 @@ use native.Mathlib.Omega.{arith}
 use borrow.Author.Rules.{rules}
 use lib.ListN.{length, replicate, length-replicate}
 use borrow.Author.Tests.{eqb-true}
-use Rattle.laws.specs.Problem.{Problem, Names, nothing, aConstraint, given}
+use Rattle.laws.specs.Problem.{Problem, Names, nothing, a_constraint, given}
 use Rattle.laws.specs.Standing as laws
 use Rattle.laws.specs.Standing.{Change, at_most, fixed, apply, add, mark}
 use Rattle.laws.specs.Step.{Step, names_of, refers, inside, named, referred, change, after, rule}
@@ -62,7 +62,7 @@ marked {base = base} E =
 
 names_most : (q : Names) (P : Problem) (k : ℕ) → inside (named q P) k ≡ true → k ≤ P.m
 names_most nothing P k e = omega (arith, eqb-true k 0 e)
-names_most aConstraint P k e = (within_says P.m k e).1
+names_most a_constraint P k e = (within_says P.m k e).1
 
 refers_most : (b : Bool) (P : Problem) (r : ℕ) → inside (referred b P) r ≡ true → r ≤ P.n
 refers_most false P r e = omega (arith, eqb-true r 0 e)
