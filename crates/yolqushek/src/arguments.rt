@@ -1,6 +1,13 @@
 // The program's arguments: a command, then its operands. An option, `--NAME VALUE` anywhere after the command, has a field in `Request`, a name in `Awaited`
 // and a case in each of `option`, which knows its word, `taking`, which takes its value, and `is_taken`, which knows the commands that it goes with.
 
+ghost use Rattle.io.specs.Counts.{IsPrefixLen};
+
+use std::env::{Env, FillError};
+
+// Room for a word that is an option.
+const WORD: usize = 4096;
+
 // What is asked; `Wrong` where the arguments are no command with its operands.
 #[derive(Clone, Copy)]
 pub enum Command {
@@ -31,19 +38,19 @@ pub struct Request {
 
 // The command that a word names.
 fn command_of(word: &[u8]) -> Command {
-    if check::same(word, b"--help") {
+    if word == b"--help".as_slice() {
         return Command::Help;
     }
-    if check::same(word, b"solve") {
+    if word == b"solve".as_slice() {
         return Command::Solve;
     }
-    if check::same(word, b"mark") {
+    if word == b"mark".as_slice() {
         return Command::Mark;
     }
-    if check::same(word, b"renew") {
+    if word == b"renew".as_slice() {
         return Command::Renew;
     }
-    if check::same(word, b"runs") {
+    if word == b"runs".as_slice() {
         return Command::Runs;
     }
     Command::Wrong
@@ -124,10 +131,10 @@ impl Request {
         if self.is_open() {
             return self.asking(Command::Wrong);
         }
-        if check::same(word, b"--help") {
+        if word == b"--help".as_slice() {
             return self.asking(Command::Help);
         }
-        if check::same(word, b"--tags") {
+        if word == b"--tags".as_slice() {
             return self.naming(Awaited::Tags, self.tags);
         }
         self.asking(Command::Wrong)
@@ -161,9 +168,9 @@ impl Request {
     }
 
     // With one argument more. A word that doesn't fit the buffer is no option, and told as a name when it is opened.
-    fn with(self, k: usize) -> Request {
-        let mut word = io::buffer();
-        let n = os::arg(k, &mut word);
+    fn with(self, rt: HostRuntime, k: usize) -> Request {
+        let mut word = [0u8; WORD];
+        let n = argument(rt, k, &mut word);
         if is_option(&word[..n]) {
             return self.option(&word[..n]);
         }
@@ -195,10 +202,28 @@ impl Request {
     }
 }
 
+// Whether there is an argument k.
+pub(crate) fn is_given(rt: HostRuntime, k: usize) -> bool {
+    match rt.arg(k, &mut []) {
+        Err(FillError::NotPresent) => false,
+        _ => true,
+    }
+}
+
+// Puts argument k at the start of a text and answers its length, 0 where it doesn't fit or isn't given.
+pub(crate) fn argument(rt: HostRuntime, k: usize, text: &mut [u8]) -> usize
+    ensures { IsPrefixLen result text.new }
+{
+    match rt.arg(k, text) {
+        Ok(n) => n,
+        Err(_) => 0,
+    }
+}
+
 // What the program's arguments ask.
-pub(crate) fn asked() -> Request {
-    let mut word = io::buffer();
-    let n = os::arg(1, &mut word);
+pub(crate) fn asked(rt: HostRuntime) -> Request {
+    let mut word = [0u8; WORD];
+    let n = argument(rt, 1, &mut word);
     let mut request = Request {
         command: command_of(&word[..n]),
         awaited: Awaited::Operand,
@@ -206,11 +231,11 @@ pub(crate) fn asked() -> Request {
         count: 0,
         tags: 0,
     };
-    let count = os::arg_count();
-    let mut k = 2;
-    while k < count {
-        request = request.with(k);
-        k += 1;
+    for k in 2..usize::MAX {
+        if !is_given(rt, k) {
+            break;
+        }
+        request = request.with(rt, k);
     }
     request.checked()
 }

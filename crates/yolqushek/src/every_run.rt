@@ -3,7 +3,7 @@
 ghost use Rattle.std.specs.Prelude.{◌≤◌};
 
 use crate::listing;
-use crate::text::{Page, least};
+use crate::text::{PAGE, Page, least};
 use circuit::bytes::u16_at;
 use runs::answer::RunAnswer;
 use runs::call::{first_run, next_run};
@@ -16,16 +16,16 @@ const CANDIDATES: u64 = 65536;
 
 // Prints every run and how many there are, or the refusal. The call is lent as many values as the circuit has signals; where that is more than there is room
 // for, it refuses before it looks at the length.
-pub(crate) fn print_runs(circuit: &[u8]) {
+pub(crate) fn print_runs(rt: HostRuntime, circuit: &[u8]) {
     let n = least(u16_at(circuit, 9) as usize, VALUES);
     let mut run = [0u32; VALUES];
     let first = first_run(circuit, &mut run[..n]);
     let RunAnswer::Refused { number, place } = first else {
-        let mut text = io::buffer();
-        run_lines(&mut text, circuit, is_written(first), run, n).write(&mut text);
+        let mut text = [0u8; PAGE];
+        run_lines(rt, &mut text, circuit, is_written(first), run, n).write(&mut text);
         return;
     };
-    listing::print_refusal(number, place);
+    listing::print_refusal(rt, number, place);
 }
 
 fn is_written(answer: RunAnswer) -> bool {
@@ -36,10 +36,17 @@ fn is_written(answer: RunAnswer) -> bool {
 }
 
 // The runs from the first on, which stands in n values of `run` if one was written, and their count.
-fn run_lines(text: &mut [u8], circuit: &[u8], found: bool, run: [u32; VALUES], n: usize) -> Page
+fn run_lines(
+    rt: HostRuntime,
+    text: &mut [u8],
+    circuit: &[u8],
+    found: bool,
+    run: [u32; VALUES],
+    n: usize,
+) -> Page
     requires { n ≤ 10 }
 {
-    let mut page = Page::empty();
+    let mut page = Page::empty(rt);
     let mut written = found;
     let mut run = run;
     let mut count: u64 = 0;

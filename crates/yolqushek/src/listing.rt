@@ -2,25 +2,25 @@
 
 ghost use Rattle.std.specs.Prelude.{◌<◌};
 
-use crate::text::Page;
+use crate::text::{PAGE, Page};
 use circuit::bytes::{byte_at, u16_at};
 use circuit::reader::{CircuitAnswer, check_circuit};
 use derivation::answer::Verdict;
 use solver::answer::SolverAnswer;
 use tags::shown::Shown;
 
-pub(crate) fn print_refusal(refusal: u32, place: usize) {
-    let mut text = io::buffer();
-    let page = Page::empty()
+pub(crate) fn print_refusal(rt: HostRuntime, refusal: u32, place: usize) {
+    let mut text = [0u8; PAGE];
+    let page = Page::empty(rt)
         .word(&mut text, b"refused")
         .number(&mut text, refusal as u64)
         .number(&mut text, place as u64);
     page.line(&mut text).write(&mut text);
 }
 
-pub(crate) fn print_pair(q: u32) {
-    let mut text = io::buffer();
-    Page::empty()
+pub(crate) fn print_pair(rt: HostRuntime, q: u32) {
+    let mut text = [0u8; PAGE];
+    Page::empty(rt)
         .word(&mut text, b"pair")
         .number(&mut text, q as u64)
         .line(&mut text)
@@ -28,9 +28,16 @@ pub(crate) fn print_pair(q: u32) {
 }
 
 // A derivation's verdict and count, the signals whose byte is 1, and what is shown where a sheet was given.
-pub(crate) fn print_judged(verdict: Verdict, count: u32, marks: &[u8], shown: Shown, tagged: bool) {
-    let mut text = io::buffer();
-    let page = verdict_line(Page::empty(), &mut text, verdict, count);
+pub(crate) fn print_judged(
+    rt: HostRuntime,
+    verdict: Verdict,
+    count: u32,
+    marks: &[u8],
+    shown: Shown,
+    tagged: bool,
+) {
+    let mut text = [0u8; PAGE];
+    let page = verdict_line(Page::empty(rt), &mut text, verdict, count);
     let page = marks_line(page, &mut text, marks);
     shown_line(page, &mut text, shown, tagged).write(&mut text);
 }
@@ -78,7 +85,13 @@ fn mark_number(page: Page, text: &mut [u8], mark: u8, signal: u64) -> Page {
 }
 
 // The listing of what the solver wrote; nothing where it refused.
-pub(crate) fn print_solved(circuit: &[u8], derivation: &[u8], answer: SolverAnswer, tagged: bool) {
+pub(crate) fn print_solved(
+    rt: HostRuntime,
+    circuit: &[u8],
+    derivation: &[u8],
+    answer: SolverAnswer,
+    tagged: bool,
+) {
     let SolverAnswer::Solved {
         count,
         verdict,
@@ -88,11 +101,12 @@ pub(crate) fn print_solved(circuit: &[u8], derivation: &[u8], answer: SolverAnsw
     else {
         return;
     };
-    print_listing(circuit, derivation, verdict, count, shown, tagged);
+    print_listing(rt, circuit, derivation, verdict, count, shown, tagged);
 }
 
 // The circuit's numbers, the derivation's steps, verdict and count, and what is shown where a sheet was given.
 pub(crate) fn print_listing(
+    rt: HostRuntime,
     circuit: &[u8],
     derivation: &[u8],
     verdict: Verdict,
@@ -100,8 +114,8 @@ pub(crate) fn print_listing(
     shown: Shown,
     tagged: bool,
 ) {
-    let mut text = io::buffer();
-    let page = circuit_line(Page::empty(), &mut text, circuit);
+    let mut text = [0u8; PAGE];
+    let page = circuit_line(Page::empty(rt), &mut text, circuit);
     let page = step_lines(page, &mut text, derivation);
     let page = verdict_line(page, &mut text, verdict, count);
     shown_line(page, &mut text, shown, tagged).write(&mut text);

@@ -11,38 +11,32 @@ mod listing;
 mod text;
 
 use arguments::Command;
-use libc::{STDERR_FILENO, STDOUT_FILENO};
 
-fn main() {
-    if os::arg_count() <= 1 {
-        commands::solve_input();
+fn main(rt: HostRuntime) {
+    if !arguments::is_given(rt, 1) {
+        commands::solve_input(rt);
         return;
     }
-    let request = arguments::asked();
+    let request = arguments::asked(rt);
     let command = request.command;
     match command {
-        Command::Help => usage(STDOUT_FILENO),
-        Command::Solve => commands::solve_file(request),
-        Command::Mark => commands::take_hand_in(request),
-        Command::Renew => commands::take_hand_in(request),
-        Command::Runs => commands::list_runs(request),
-        Command::Wrong => usage(STDERR_FILENO),
+        Command::Help => {
+            text::print(rt, USAGE);
+        }
+        Command::Solve => commands::solve_file(rt, request),
+        Command::Mark => commands::take_hand_in(rt, request),
+        Command::Renew => commands::take_hand_in(rt, request),
+        Command::Runs => commands::list_runs(rt, request),
+        Command::Wrong => text::tell(rt, USAGE),
     }
 }
 
-fn usage(fd: i32) {
-    let written = io::write_all(
-        fd,
-        b"usage: yolqushek < CIRCUIT                      solve the circuit and list the derivation
+const USAGE: &[u8] =
+    b"usage: yolqushek < CIRCUIT                      solve the circuit and list the derivation
        yolqushek solve CIRCUIT OUT              the same, and write the derivation to OUT
        yolqushek mark CIRCUIT HANDIN            judge a derivation or a pair of runs
        yolqushek renew CIRCUIT DERIVATION OUT   write the derivation without its idle steps to OUT, and list it
        yolqushek runs CIRCUIT                   list every satisfying run of a small circuit, and how many there are
        yolqushek --help
 solve, mark and renew also take --tags SHEET    with the tags of a sheet; tells how many are shown, and the first that isn't
-",
-    );
-    if !written {
-        os::fail(b"standard output");
-    }
-}
+";
