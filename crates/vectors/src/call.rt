@@ -1,12 +1,9 @@
 // One call of a record, and whether its answer and its buffer are what the record says.
 
-use crate::listed;
-use crate::record::Part;
-use crate::record::Record;
-use crate::record::bytes_of;
-use circuit::bytes::u16_at;
-use circuit::bytes::u32_at;
 ghost use Rattle.std.specs.Prelude.{◌+◌, ◌≤◌, length};
+
+use crate::record::{Part, Record, bytes_of};
+use circuit::bytes::{u16_at, u32_at};
 
 // What buffers and lent numbers are filled with before a call.
 const FILLING: u8 = 165;
@@ -14,29 +11,20 @@ const FILLING: u8 = 165;
 const UNTOUCHED: u64 = 11936128518282651045;
 
 pub(crate) fn agrees(file: &[u8], record: Record) -> bool {
+    let mut buffer = [FILLING; 32768];
+    agrees_on(file, record, &mut buffer)
+}
+
+fn agrees_on(file: &[u8], record: Record, buffer: &mut [u8]) -> bool {
+    let lent = record.lent;
     let at = record.answer_at;
+    if buffer.len() < lent {
+        return false;
+    }
     if file.len() < 30 {
         return false;
     }
     if file.len() - 30 < at {
-        return false;
-    }
-    let kind = record.kind;
-    match kind {
-        6 | 7 => listed::agrees(file, record),
-        _ => {
-            let mut buffer = [FILLING; 32768];
-            agrees_on(file, record, &mut buffer)
-        }
-    }
-}
-
-fn agrees_on(file: &[u8], record: Record, buffer: &mut [u8]) -> bool
-    requires { (record).answer_at + 30 ≤ length file.now }
-{
-    let lent = record.lent;
-    let at = record.answer_at;
-    if buffer.len() < lent {
         return false;
     }
     let circuit = bytes_of(file, record.circuit);
@@ -98,9 +86,8 @@ fn solve(circuit: &[u8], sheet: &[u8], buffer: &mut [u8]) -> Told {
     Told { returned, numbers }
 }
 
-// The value that the call must return: the record's number and place, or 0 and an accepted pair's signal, the length of what a renewal wrote, or whether a run
-// was written.
-pub(crate) fn returned(file: &[u8], at: usize, kind: u32) -> u64
+// The value that the call must return: the record's number and place, or 0 and an accepted pair's signal or the length of what a renewal wrote.
+fn returned(file: &[u8], at: usize, kind: u32) -> u64
     requires { at + 30 ≤ length file.now }
 {
     let number = u16_at(file, at);
@@ -108,8 +95,8 @@ pub(crate) fn returned(file: &[u8], at: usize, kind: u32) -> u64
         return number as u64 * 4294967296 + u32_at(file, at + 2) as u64;
     }
     match kind {
-        1 | 2 | 4 => 0,
-        _ => u32_at(file, at + 6) as u64,
+        3 | 5 => u32_at(file, at + 6) as u64,
+        _ => 0,
     }
 }
 

@@ -3,28 +3,50 @@
 
 #![tactic(auto)]
 
+ghost use Rattle.io.specs.Counts.{IsPrefixLen};
+
 mod call;
-mod listed;
 mod record;
 mod tally;
 
-fn main() {
-    report(b"vectors-1.bin");
-    report(b"vectors-2.bin");
-    report(b"vectors-3.bin");
-    report(b"vectors-4.bin");
+use std::fs::File;
+use std::io::{Error, Read};
+
+fn main(rt: HostRuntime) {
+    report(rt, "vectors-1.bin");
+    report(rt, "vectors-2.bin");
+    report(rt, "vectors-3.bin");
 }
 
 // Makes the calls of a file and prints what was found.
-fn report(path: &[u8]) {
-    let fd = os::open_read(path);
-    if fd < 0 {
-        os::fail(path);
-        return;
+fn report(rt: HostRuntime, path: &str) {
+    match File::open(&rt, path) {
+        Err(error) => fail(rt, path, error),
+        Ok(mut reader) => {
+            let mut file = [0u8; 524288];
+            let n = read_full(&mut reader, &mut file);
+            let found = tally::run(&file[..n]);
+            tally::print(rt, path, found);
+        }
     }
-    let mut file = [0u8; 524288];
-    let n = io::read_full(fd, &mut file);
-    libc::close(fd);
-    let found = tally::run(&file[..n]);
-    tally::print(path, found);
+}
+
+// Says on standard error what failed.
+fn fail(rt: HostRuntime, path: &str, error: Error) {
+    let _ = eprintln!(rt; "{path}: {error}");
+}
+
+// Reads until the buffer is full, the input ends or a read fails, and answers how many bytes were read.
+fn read_full<R: Read>(reader: &mut R, buffer: &mut [u8]) -> usize
+    ensures { IsPrefixLen result buffer.new }
+{
+    let mut done = 0;
+    for _ in 0..buffer.len() {
+        match reader.read(&mut buffer[done..]) {
+            Ok(0) => break,
+            Ok(got) => done += got,
+            Err(_) => break,
+        }
+    }
+    done
 }

@@ -3,13 +3,12 @@
 use crate::call::agrees;
 use crate::record::{header, read_record};
 use circuit::bytes::u32_at;
-use libc::STDOUT_FILENO;
 
-// Counts by kind, 1 to 7, and the number of the first record that doesn't agree, 0 where all do.
+// Counts by kind, 1 to 5, and the number of the first record that doesn't agree, 0 where all do.
 #[derive(Clone, Copy)]
 pub struct Tally {
-    pub calls: [u32; 8],
-    pub agreeing: [u32; 8],
+    pub calls: [u32; 6],
+    pub agreeing: [u32; 6],
     pub first: u32,
 }
 
@@ -20,7 +19,7 @@ fn more(x: u32) -> u32 {
 impl Tally {
     // With one call more; a kind that there isn't counts as one that differs.
     fn with(self, kind: u32, agrees: bool, number: u32) -> Tally {
-        if 7 < kind {
+        if 5 < kind {
             return self.differing(number);
         }
         let k = kind as usize;
@@ -45,8 +44,8 @@ impl Tally {
 pub(crate) fn run(file: &[u8]) -> Tally {
     let count = u32_at(file, 5);
     let mut tally = Tally {
-        calls: [0; 8],
-        agreeing: [0; 8],
+        calls: [0; 6],
+        agreeing: [0; 6],
         first: 0,
     };
     let mut last = header();
@@ -65,36 +64,25 @@ pub(crate) fn run(file: &[u8]) -> Tally {
     tally
 }
 
-fn word(text: &[u8]) {
-    io::write_all(STDOUT_FILENO, text);
-}
-
-fn line(name: &[u8], agreeing: u32, calls: u32) {
-    word(name);
-    io::print_decimal(STDOUT_FILENO, agreeing as u64);
-    word(b" of ");
-    io::print_decimal(STDOUT_FILENO, calls as u64);
-    word(b" agree\n");
+// The counts of one kind. A failed write is passed over.
+fn line(rt: HostRuntime, name: &str, agreeing: u32, calls: u32) {
+    let _ = println!(rt; "{name}: {agreeing} of {calls} agree");
 }
 
 // The file's name, then the counts.
-pub(crate) fn print(path: &[u8], tally: Tally) {
-    word(path);
-    word(b"\n");
+pub(crate) fn print(rt: HostRuntime, path: &str, tally: Tally) {
+    let _ = println!(rt; "{path}");
     let calls = tally.calls;
     let agreeing = tally.agreeing;
-    line(b"read: ", agreeing[1], calls[1]);
-    line(b"derivation: ", agreeing[2], calls[2]);
-    line(b"pair: ", agreeing[3], calls[3]);
-    line(b"solve: ", agreeing[4], calls[4]);
-    line(b"renew: ", agreeing[5], calls[5]);
-    line(b"first run: ", agreeing[6], calls[6]);
-    line(b"next run: ", agreeing[7], calls[7]);
-    if tally.first == 0 {
-        word(b"all agree\n");
+    line(rt, "read", agreeing[1], calls[1]);
+    line(rt, "derivation", agreeing[2], calls[2]);
+    line(rt, "pair", agreeing[3], calls[3]);
+    line(rt, "solve", agreeing[4], calls[4]);
+    line(rt, "renew", agreeing[5], calls[5]);
+    let first = tally.first;
+    let _ = if first == 0 {
+        println!(rt; "all agree")
     } else {
-        word(b"the first that differs: record ");
-        io::print_decimal(STDOUT_FILENO, tally.first as u64);
-        word(b"\n");
-    }
+        println!(rt; "the first that differs: record {first}")
+    };
 }
