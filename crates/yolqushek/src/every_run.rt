@@ -65,10 +65,8 @@ fn run_lines(
 // The values of a run, a space between them.
 fn run_line(page: Page, text: &mut [u8], run: &[u32]) -> Page {
     let mut page = page;
-    let mut s = 0;
-    while s < run.len() {
+    for s in 0..run.len() {
         page = value(page, text, s, run[s] as u64);
-        s += 1;
     }
     page.line(text)
 }
