@@ -11,6 +11,7 @@ mod tally;
 
 use std::fs::File;
 use std::io::{Error, Read};
+use tally::Tally;
 
 fn main(rt: HostRuntime) {
     report(rt, "vectors-1.bin");
@@ -24,11 +25,16 @@ fn report(rt: HostRuntime, path: &str) {
         Err(error) => fail(rt, path, error),
         Ok(mut reader) => {
             let mut file = [0u8; 524288];
-            let n = read_full(&mut reader, &mut file);
-            let found = tally::run(&file[..n]);
+            let found = tally_of(&mut reader, &mut file);
             tally::print(rt, path, found);
         }
     }
+}
+
+// What is found in a file, which has room in the buffer.
+fn tally_of<R: Read>(reader: &mut R, buffer: &mut [u8]) -> Tally {
+    let n = read_full(reader, buffer);
+    tally::run(&buffer[..n])
 }
 
 // Says on standard error what failed.
