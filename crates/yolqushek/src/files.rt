@@ -1,6 +1,6 @@
 // Files by name: all of one into a buffer, and bytes into another, which is written whole or not at all. What fails is said on standard error by its name.
 
-ghost use Rattle.std.specs.Prelude.{◌≤◌, length};
+ghost use Rattle.std.specs.Prelude.{◌≡◌};
 ghost use Rattle.io.specs.Counts.{IsPrefixLen};
 
 use crate::arguments::argument;
@@ -53,7 +53,7 @@ pub(crate) fn read_argument(rt: HostRuntime, k: usize, out: usize, buffer: &mut 
 
 // What is got of a file that can't be read.
 fn nothing() -> Got
-    ensures { result.count ≤ 0 }
+    ensures { result.count ≡ 0 }
 {
     Got {
         whole: false,

@@ -144,13 +144,12 @@ pub(crate) fn fail(rt: HostRuntime, name: &[u8], error: Error) {
 }
 
 // Puts an error's words at the start of a text, and answers where they end: before the number in brackets that follows those of the system.
-fn words(error: Error, text: &mut [u8; 512]) -> usize
+fn words(error: Error, text: &mut [u8]) -> usize
     ensures { IsPrefixLen result text.new }
 {
-    let mut cursor = Cursor::new(*text);
+    let mut cursor = Cursor::new(&mut text[..]);
     let _ = write!(cursor, "{error}");
     let end = cursor.position();
-    *text = cursor.into_inner();
     let n = least(end as usize, text.len());
     if error.raw_os_error().is_some() {
         bracket(&text[..n])
