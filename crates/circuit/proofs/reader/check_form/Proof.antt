@@ -13,37 +13,6 @@ invariant-loop part n p count left₀ at₀ least₀ left at least = laws.Terms 
 abbrev decreases-loop : tie.decreases-loop-left
 decreases-loop part n p count left₀ at₀ least₀ left at least = left
 
-returns-2 : tie.Need-returns-then-count-gt-TERMS_MOST invariant-loop decreases-loop
-returns-2 c =
-    sym (laws.form_start _ _ _ ∙ rw (le-leb _ _ c.if-part-lt1.false, ← c.byte_at-count.ensures.0, lt-leb _ _ c.if-count-gt-TERMS_MOST.true))
-
-returns-4 : tie.Need-returns-then-n-signal invariant-loop decreases-loop
-returns-4 c =
-    sym (laws.term_turn c.loop-left.invariant c.loop-left-test.true
-    ∙ rw (le-leb _ _ c.if-part-at-lt-TERM_SIZE.false, ← c.u16_at-signal.ensures.0, lt-leb _ _ c.if-n-signal.true))
-
-returns-5 : tie.Need-returns-then-signal-least invariant-loop decreases-loop
-returns-5 c =
-    sym (laws.term_turn c.loop-left.invariant c.loop-left-test.true
-    ∙ rw (le-leb _ _ c.if-part-at-lt-TERM_SIZE.false, ← c.u16_at-signal.ensures.0, le-leb _ _ c.if-n-signal.false, lt-leb _ _ c.if-signal-least.true))
-
-returns-6 : tie.Need-returns-then-coefficient-eq0 invariant-loop decreases-loop
-returns-6 c =
-    sym (laws.term_signal c.loop-left.invariant c.loop-left-test.true c.if-part-at-lt-TERM_SIZE.false c.u16_at-signal.ensures.0
-    c.if-n-signal.false c.if-signal-least.false
-    ∙ rw (← c.u32_at-coefficient.ensures, c.if-coefficient-eq0.true))
-
-returns-7 : tie.Need-returns-then-p-coefficient invariant-loop decreases-loop
-returns-7 c =
-    sym (laws.term_signal c.loop-left.invariant c.loop-left-test.true c.if-part-at-lt-TERM_SIZE.false c.u16_at-signal.ensures.0
-    c.if-n-signal.false c.if-signal-least.false
-    ∙ rw (← c.u32_at-coefficient.ensures, lt-ltb 0 c.u32_at-coefficient.result (omega arith), le-ltb _ _ c.if-p-coefficient.true))
-
-loop-again : tie.Need-loop-left-preserved invariant-loop decreases-loop
-loop-again c =
-    laws.term_again c.loop-left.invariant c.loop-left-test.true c.if-part-at-lt-TERM_SIZE.false c.u16_at-signal.ensures.0
-    c.if-n-signal.false c.if-signal-least.false c.u32_at-coefficient.ensures c.if-coefficient-eq0.false c.if-p-coefficient.false
-
 pub check_form_spec : {M : Type 1} → statement M
 check_form_spec =
     tie.close
@@ -52,16 +21,28 @@ check_form_spec =
     decreases-loop
     (λ c. sym (laws.form_start _ _ _ ∙ rw (lt-leb _ _ c.if-part-lt1.true)))
     (λ c κs. search rules)
-    returns-2
+    (λ c. sym (laws.form_start _ _ _ ∙ rw (le-leb _ _ c.if-part-lt1.false, ← c.byte_at-count.ensures.0, lt-leb _ _ c.if-count-gt-TERMS_MOST.true)))
     (λ c. laws.terms_start _ _ _ c.byte_at-count.ensures.0 c.if-part-lt1.false c.if-count-gt-TERMS_MOST.false)
     (λ c. search rules)
     (λ c. sym (laws.term_turn c.loop-left.invariant c.loop-left-test.true ∙ rw (lt-leb _ _ c.if-part-at-lt-TERM_SIZE.true)))
     (λ c κs. search rules)
-    returns-4
-    returns-5
+    (λ c.
+    sym (laws.term_turn c.loop-left.invariant c.loop-left-test.true
+    ∙ rw (le-leb _ _ c.if-part-at-lt-TERM_SIZE.false, ← c.u16_at-signal.ensures.0, lt-leb _ _ c.if-n-signal.true)))
+    (λ c.
+    sym (laws.term_turn c.loop-left.invariant c.loop-left-test.true
+    ∙ rw (le-leb _ _ c.if-part-at-lt-TERM_SIZE.false, ← c.u16_at-signal.ensures.0, le-leb _ _ c.if-n-signal.false, lt-leb _ _ c.if-signal-least.true)))
     (λ c. search rules) (λ c κs. search rules)
-    returns-6
-    returns-7
+    (λ c.
+    sym (laws.term_signal c.loop-left.invariant c.loop-left-test.true c.if-part-at-lt-TERM_SIZE.false c.u16_at-signal.ensures.0
+    c.if-n-signal.false c.if-signal-least.false
+    ∙ rw (← c.u32_at-coefficient.ensures, c.if-coefficient-eq0.true)))
+    (λ c.
+    sym (laws.term_signal c.loop-left.invariant c.loop-left-test.true c.if-part-at-lt-TERM_SIZE.false c.u16_at-signal.ensures.0
+    c.if-n-signal.false c.if-signal-least.false
+    ∙ rw (← c.u32_at-coefficient.ensures, lt-ltb 0 c.u32_at-coefficient.result (omega arith), le-ltb _ _ c.if-p-coefficient.true)))
     (λ c. search rules) (λ c. search rules) (λ c. search rules) (λ c. search rules)
-    loop-again
+    (λ c.
+    laws.term_again c.loop-left.invariant c.loop-left-test.true c.if-part-at-lt-TERM_SIZE.false c.u16_at-signal.ensures.0
+    c.if-n-signal.false c.if-signal-least.false c.u32_at-coefficient.ensures c.if-coefficient-eq0.false c.if-p-coefficient.false)
     (λ c. sym (laws.terms_end c.loop-left.invariant c.loop-left-test.false)))

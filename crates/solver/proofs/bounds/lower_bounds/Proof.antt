@@ -27,35 +27,6 @@ decreases-loop circuit table ends rows lasts befores owners output₀ sizes stan
 few : (k : tie.After-next_key-k invariant-loop decreases-loop) → k.next_key-k.result ≤ 512
 few k = omega (arith, k.requires.0.sized.formed.m_most, k.next_key-k.ensures.1.within)
 
-next-key-requires : tie.Need-next_key-k-requires invariant-loop decreases-loop
-unfolding view_of
-next-key-requires c κs =
-    let D = c.requires.0 in
-    let inv = c.loop-count.invariant in
-    (D, inv.1.keyed, omega (arith, D.sized.formed.m_most, D.sized.is_m, inv.0))
-
-returns : tie.Need-returns-then-k-eq0 invariant-loop decreases-loop
-unfolding view_of
-returns c =
-    let found = c.next_key-k.ensures in
-    laws.turning_none c.requires.0.sized.formed c.loop-count.invariant.1 found.0 found.1 c.if-k-eq0.true
-
--- the target of the step that was chosen
-target : (c : tie.After-step-outcome invariant-loop decreases-loop)
-    → let t = c.target_in-target.result in
-    (1 ≤ t) × (t ≤ (circuit_of c.args.circuit.now).n)
-unfolding view_of
-target c =
-    let found = c.next_key-k.ensures in
-    laws.target_within c.requires.0.sized.formed c.loop-count.invariant.1 found.0 found.1 c.if-k-eq0.false
-    c.target_in-target.ensures
-
-forget-requires : tie.Need-forget-requires invariant-loop decreases-loop
-forget-requires c κs =
-    let pre = c.requires in
-    let t = target c.before.before in
-    walkable pre.0.made pre.1 t.0 t.1
-
 -- the turn is one of the first n, which are few
 counted : (c : tie.After-step-outcome invariant-loop decreases-loop)
     →
@@ -64,28 +35,8 @@ counted c =
     let sized = c.requires.0.sized in
     (c.loop-count-test.true, omega (arith, sized.is_n, sized.formed.n_most))
 
-loop-again : tie.Need-loop-count-preserved invariant-loop decreases-loop
-unfolding view_of
-loop-again c =
-    let pre = c.requires in
-    let sized = pre.0.sized in
-    let T = c.loop-count.invariant.1 in
-    let found = c.next_key-k.ensures in
-    let aimed = c.target_in-target.ensures in
-    let kind = c.kind_in-kind.ensures in
-    let t = target c.before.before.before.before in
-    let row = c.row_of-row.ensures in
-    let part = c.part_named-part.ensures in (
-      search rules,
-      laws.turning_next sized.formed T found.0 found.1 c.if-k-eq0.false kind aimed
-          (λ f. step_taken pre.0 _ part row (c.step-outcome.ensures _) bounds f
-          (laws.lowering sized.formed T found.0 found.1 c.if-k-eq0.false kind aimed f))
-          (omega (arith, sized.is_n, (counted c.before.before.before.before).0))
-          c.put_step.ensures
-          (c.forget.ensures _ _ _ _ pre.0.made pre.1 (omega (arith, sized.formed.m_most, found.1.within)) t.0 t.1),
-    )
-
 pub lower_bounds_spec : {M : Type 1} → statement M
+unfolding view_of
 lower_bounds_spec =
     tie.close
     (tie.spec
@@ -96,18 +47,44 @@ lower_bounds_spec =
     let pre = c.requires in
     (search rules, laws.turning_start _ _ _ _ (no_keys _ _ 512 (λ s. omega (arith, pre.2 s, pre.0.sized.is_p)))))
     (λ c. search rules)
-    next-key-requires
+    (λ c κs.
+    let D = c.requires.0 in
+    let inv = c.loop-count.invariant in
+    (D, inv.1.keyed, omega (arith, D.sized.formed.m_most, D.sized.is_m, inv.0)))
     (λ c. laws.turning_room c.requires.0.sized.formed c.loop-count.invariant.1)
-    returns
+    (λ c.
+    let found = c.next_key-k.ensures in
+    laws.turning_none c.requires.0.sized.formed c.loop-count.invariant.1 found.0 found.1 c.if-k-eq0.true)
     (λ c. search rules) (λ c. search rules)
     (λ c. omega (arith, few c.before.before))
     (λ c κs. search rules) (λ c κs. search rules)
     (λ c. record { fits = omega (arith, few c.before.before.before.before.before) })
     (λ c κs. search rules) (λ c κs. search rules) (λ c κs. search rules) (λ c. search rules) (λ c κs. search rules) (λ c. search rules) (λ c. search rules)
-    forget-requires
+    (λ c κs.
+    let pre = c.requires in
+    let found = c.next_key-k.ensures in
+    let t = laws.target_within pre.0.sized.formed c.loop-count.invariant.1 found.0 found.1 c.if-k-eq0.false c.target_in-target.ensures in
+    walkable pre.0.made pre.1 t.0 t.1)
     (λ c. let few = counted c.before.before.before.before in record { fits = omega (arith, few.0, few.1) })
     (λ c. omega (arith, (counted c.before.before.before.before).0))
-    loop-again
+    (λ c.
+    let pre = c.requires in
+    let sized = pre.0.sized in
+    let T = c.loop-count.invariant.1 in
+    let found = c.next_key-k.ensures in
+    let aimed = c.target_in-target.ensures in
+    let kind = c.kind_in-kind.ensures in
+    let t = laws.target_within sized.formed T found.0 found.1 c.if-k-eq0.false aimed in
+    let row = c.row_of-row.ensures in
+    let part = c.part_named-part.ensures in (
+      search rules,
+      laws.turning_next sized.formed T found.0 found.1 c.if-k-eq0.false kind aimed
+          (λ f. step_taken pre.0 _ part row (c.step-outcome.ensures _) bounds f
+          (laws.lowering sized.formed T found.0 found.1 c.if-k-eq0.false kind aimed f))
+          (omega (arith, sized.is_n, (counted c.before.before.before.before).0))
+          c.put_step.ensures
+          (c.forget.ensures _ _ _ _ pre.0.made pre.1 (omega (arith, sized.formed.m_most, found.1.within)) t.0 t.1),
+    ))
     (λ c. laws.turning_room c.requires.0.sized.formed c.loop-count.invariant.1)
     (λ c.
     let sized = c.requires.0.sized in

@@ -24,37 +24,13 @@ free : (c : tie.Then-not-mark_at invariant-loop decreases-loop)
 unfolding mark_on signal_on at
 free c = sym c.mark_at.ensures ∙ c.if-not-mark_at.true
 
-named : tie.Need-returns-then-row-i-ne-IN_C invariant-loop decreases-loop
-unfolding forms_on at
-named c p n K W R =
-    laws.alone_named W R _ c.loop-next.invariant.0 c.loop-next-test.true (free c.before.before) c.if-row-i-ne-IN_C.true
-
-two : tie.Need-returns-then-place-ne0 invariant-loop decreases-loop
-two c p n K W R =
-    laws.alone_two W R _ c.loop-next.invariant.2 c.if-place-ne0.true c.loop-next-test.true (free c.before.before.before)
-
-loop-again : tie.Need-loop-next-preserved-then-not-mark_at invariant-loop decreases-loop
-unfolding forms_on at
-loop-again c =
-    let inside = c.loop-next-test.true in
-    (omega arith, λ h. omega (arith, inside), laws.seen_found c.loop-next.invariant.2 c.if-place-ne0.false (free c.before.before.before) c.if-row-i-ne-IN_C.false)
-
-loop-again-2 : tie.Need-loop-next-preserved invariant-loop decreases-loop
-unfolding mark_on signal_on at
-loop-again-2 c =
-    (omega arith, c.loop-next.invariant.1, laws.seen_marked c.loop-next.invariant.2 (sym c.mark_at.ensures ∙ c.if-not-mark_at.false))
-
 inside : (c : tie.Else-place-eq0 invariant-loop decreases-loop)
     →
     c.loop-next.place < entries c.args.row.now
 inside c = c.loop-next.invariant.1 (pos_of_ne-zero c.if-place-eq0.false)
 
-found : tie.Need-returns invariant-loop decreases-loop
-unfolding signal_on at
-found c p n K W R =
-    laws.alone_found W R _ c.loop-next.invariant.2 c.loop-next-test.false c.if-place-eq0.false (inside c.before)
-
 pub product_target_spec : {M : Type 1} → statement M
+unfolding at forms_on mark_on signal_on
 product_target_spec =
     tie.close
     (tie.spec
@@ -63,12 +39,14 @@ product_target_spec =
     (λ c. (omega arith, λ h. absurd (omega arith), laws.seen_start _ _))
     (λ c. search rules) (λ c. search rules) (λ c. search rules) (λ c. search rules) (λ c. search rules) (λ c κs. search rules)
     (λ c. search rules) (λ c. search rules) (λ c. search rules)
-    named
-    two
+    (λ c p n K W R. laws.alone_named W R _ c.loop-next.invariant.0 c.loop-next-test.true (free c.before.before) c.if-row-i-ne-IN_C.true)
+    (λ c p n K W R. laws.alone_two W R _ c.loop-next.invariant.2 c.if-place-ne0.true c.loop-next-test.true (free c.before.before.before))
     (λ c. omega arith)
-    loop-again
+    (λ c.
+    let inside = c.loop-next-test.true in
+    (omega arith, λ h. omega (arith, inside), laws.seen_found c.loop-next.invariant.2 c.if-place-ne0.false (free c.before.before.before) c.if-row-i-ne-IN_C.false))
     (λ c. omega arith)
-    loop-again-2
+    (λ c. (omega arith, c.loop-next.invariant.1, laws.seen_marked c.loop-next.invariant.2 (sym c.mark_at.ensures ∙ c.if-not-mark_at.false)))
     (λ c p n K W R. laws.alone_none W R _ c.loop-next.invariant.2 c.loop-next-test.false c.if-place-eq0.true)
     (λ c. let within = inside c in search rules) (λ c. let within = inside c in search rules) (λ c. let within = inside c.before in search rules)
-    found)
+    (λ c p n K W R. laws.alone_found W R _ c.loop-next.invariant.2 c.loop-next-test.false c.if-place-eq0.false (inside c.before)))
