@@ -13,7 +13,7 @@ ghost use Rattle.runs.specs.Answer.{paper_of};
 ghost use Rattle.runs.specs.Call.{first_call, next_call, left_by};
 ghost use Rattle.solver.specs.Call.{solver_call, solver_output};
 ghost use Rattle.exports.specs.Answers.{read_returned, read_answer, pair_returned, verdict_number, mark_returned, mark_answer, solve_returned, solve_answer};
-ghost use Rattle.exports.specs.Answers.{renew_returned, run_returned, returned as Answers·returned};
+ghost use Rattle.exports.specs.Answers.{renew_returned, run_returned, returned as returned_value};
 
 use circuit::reader::{CircuitAnswer, check_circuit};
 use derivation::answer::{DerivationAnswer, Verdict};
@@ -28,7 +28,7 @@ use solver::call::solve;
 
 // The returned value: the number in the high half, in the low half the place, q, a length, or 1 for a run.
 fn returned(number: u32, low: usize) -> u64
-    ensures { result ≡ Answers·returned number low }
+    ensures { result ≡ returned_value number low }
 {
     number as u64 * 4294967296 + low as u64 % 4294967296
 }

@@ -80,7 +80,7 @@ fn odd_prime_by(table: &[u16], inverses: &[u32], p: u32) -> bool
     true
 }
 
-// The test by the long tables. It stands apart because a call lays the tables that it names on the stack first, 29 KB here.
+// The test by the long tables. It stands apart, so that a test by the short ones names no others.
 fn large_odd_prime(p: u32) -> bool
     requires { p ≤ 2147483647 }
     ensures { result ≡ odd_prime p }

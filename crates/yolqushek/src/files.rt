@@ -9,6 +9,7 @@ use std::fs;
 use std::fs::{File, OpenFile, OpenOptions};
 use std::io::{Error, ErrorKind, Read, Seek, SeekFrom, Write};
 use std::os::fd::AsRawFd;
+use std::os::unix::fs::MetadataExt;
 use std::random::RandomSource;
 
 // The longest argument that Linux passes, so that every name is told whole.
@@ -124,17 +125,31 @@ fn open_update(rt: HostRuntime, path: &[u8]) -> Result<File, Error> {
     open(rt, path, OpenOptions::new().read(true).write(true))
 }
 
-// Whether two open files have one name, by what the system calls them; where it doesn't say, they count as one, so that nothing is lost.
+// Whether two open files have one name, by what the system calls them. Where std can't tell either name, they are told apart by the system's numbers for them;
+// where these are missing too, they count as one, so that nothing is lost.
 fn are_same(rt: HostRuntime, one: &File, other: &File) -> bool {
     let mut name = [0u8; NAME];
     let n = name_of(rt, one, &mut name);
     let mut other_name = [0u8; NAME];
     let k = name_of(rt, other, &mut other_name);
+    if n + k == 0 {
+        return are_one(one, other);
+    }
     name[..n] == other_name[..k]
 }
 
-// The name of an open file, with all links on the way to it followed. std reads a link into memory that it allocates; where there is none, the name is empty,
-// as where the system doesn't say it.
+fn are_one(one: &File, other: &File) -> bool {
+    let Ok(found) = one.metadata() else {
+        return true;
+    };
+    let Ok(other_found) = other.metadata() else {
+        return true;
+    };
+    found.dev() == other_found.dev() && found.ino() == other_found.ino()
+}
+
+// The name of an open file, with all links on the way to it followed. std reads a link into memory that it allocates, and only a name in UTF-8; where it can't,
+// the name is empty, as where the system doesn't say it.
 fn name_of(rt: HostRuntime, file: &File, name: &mut [u8]) -> usize
     ensures { IsPrefixLen result name.new }
 {
