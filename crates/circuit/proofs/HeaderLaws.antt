@@ -1,19 +1,18 @@
 -- Laws of the check of a whole file: its tests in the order of the code, each of which leads out or on.
 use Prim.Native.Nat.{ℕ, ◌≤◌}
-use mathlib.Core.Path.{◌≡◌, refl, ◌∙◌}
+use mathlib.Core.Path.{◌≡◌, refl, sym, ◌∙◌}
 use mathlib.Core.Bool.{Bool, true, false}
 use mathlib.Core.List.{List}
-use borrow.Author.Tests.{le-leb, eq-eqb}
-use lib.Dec.{leb, eqb}
+use borrow.Author.Tests.{leb-true}
+use lib.Dec.{leb}
 use lib.ListN.{length}
-use Rattle.field.specs.Prime.{odd_prime}
-use Rattle.circuit.specs.Bytes.{u16_at}
 use Rattle.circuit.specs.Circuit.{Circuit, Constraint}
 use Rattle.circuit.specs.Reading.{Reading, whole, fault, require, mapped, Size, sized, faulty, size_of}
-use Rattle.circuit.specs.Reader.{header_size, file_most, circuit_letter, has_mark, read_body, read_circuit, sizes_fit}
-use Rattle.circuit.specs.Answer.{Answer, refused, given, ask}
-use Rattle.circuit.specs.Call.{sizes_of, header_of, on_circuit, circuit_call}
+use Rattle.circuit.specs.Reader.{header_size, read_body, read_circuit}
+use Rattle.circuit.specs.Answer.{Answer, refused, given, ask, and_then}
+use Rattle.circuit.specs.Call.{sizes_of, header_call, on_circuit, circuit_call}
 use Rattle.circuit.specs.declared.reader.Sizes.{Sizes}
+use Rattle.circuit.proofs.AnswerLaws.{ask_given}
 
 abbrev header_answer : Reading Circuit → Answer Sizes
 header_answer r = on_circuit r (λ C. given (sizes_of C))
@@ -36,32 +35,25 @@ pub same_sizes : {p n i o m p' n' i' o' m' : ℕ} → p ≡ p' → n ≡ n' → 
     → ◌≡◌ {A = Sizes} (record { p = p; n = n; i = i; o = o; m = m }) (record { p = p'; n = n'; i = i'; o = o'; m = m' })
 same_sizes a b c d e = rw (a, b, c, d, e)
 
--- the call with the header's numbers z
-unfoldable pub chain : List ℕ → Sizes → Answer Sizes
-chain s z =
-    ask (leb header_size (length s)) 1 0
-    (ask (leb (length s) file_most) 1 0
-    (ask (has_mark circuit_letter s) 2 0
-    (ask (eqb (u16_at s 3) 1) 3 0
-    (ask (odd_prime z.p) 4 0
-    (ask (sizes_fit z.n z.i z.o z.m) 5 0
-    (body_answer z (size_of (read_body z.n z.p z.m s))))))))
+-- the call: the header, then the body
+then_ask : {A B : Type 0} (b : Bool) (number place : ℕ) (r : Answer A) (f : A → Answer B) → and_then (ask b number place r) f ≡ ask b number place (and_then r f)
+then_ask true number place r f = refl
+then_ask false number place r f = refl
 
-pub call_chain : (s : List ℕ) (z : Sizes) → z ≡ header_of s → circuit_call s ≡ chain s z
-unfolding circuit_call read_circuit chain
-call_chain s z e = rw e (simp (header_require, header_body))
+unfoldable pub body_call : List ℕ → Sizes → Answer Sizes
+body_call s z = body_answer z (size_of (read_body z.n z.p z.m s))
 
--- the tests before those of the numbers
-pub record Versioned (s : List ℕ) : Type 0 where
-  pub long : 17 ≤ length s
-  pub short : length s ≤ 60000
-  pub mark : has_mark circuit_letter s ≡ true
-  pub version : u16_at s 3 ≡ 1
+pub call_header : (s : List ℕ) → circuit_call s ≡ and_then (header_call s) (body_call s)
+unfolding circuit_call read_circuit header_call body_call
+call_header s = simp (header_require, header_body, then_ask)
 
-pub call_numbers : {s : List ℕ} → Versioned s → (z : Sizes) → z ≡ header_of s → circuit_call s
-    ≡ ask (odd_prime z.p) 4 0
-    (ask (sizes_fit z.n z.i z.o z.m) 5 0 (body_answer z (size_of (read_body z.n z.p z.m s))))
-unfolding chain
-call_numbers {s} F z read =
-    call_chain s z read
-    ∙ rw (le-leb 17 (length s) F.long, le-leb (length s) 60000 F.short, F.mark, eq-eqb (u16_at s 3) 1 F.version)
+pub header_out : (s : List ℕ) {number place : ℕ} → refused number place ≡ header_call s → refused number place ≡ circuit_call s
+header_out s e = sym (call_header s ∙ rw (sym e))
+
+pub header_on : (s : List ℕ) {z : Sizes} {x : Size} → given z ≡ header_call s → x ≡ size_of (read_body z.n z.p z.m s) → body_answer z x ≡ circuit_call s
+unfolding body_call
+header_on s {z} e f = rw f (sym (call_header s ∙ rw (sym e)))
+
+pub header_long : (s : List ℕ) {z : Sizes} → given z ≡ header_call s → header_size ≤ length s
+unfolding header_call
+header_long s e = leb-true header_size (length s) (ask_given (leb header_size (length s)) 1 0 _ (sym e)).0

@@ -7,13 +7,14 @@ use native.Mathlib.Numerals.{add-one}
 use native.Mathlib.Omega.{arith}
 use native.Mathlib.Decide.{ℕ_discrete}
 use mathlib.Core.List.{List}
+use Rattle.std.specs.Prelude.{None, Some}
 use borrow.Author.Tests.{lt-ltb, le-ltb, ltb-true, eq-eqb, ne_eqb, eqb-true}
 use Rattle.circuit.specs.Circuit.{Circuit, constraint_at, value_of, IsRun, Satisfying}
 use Rattle.circuit.specs.Reader.{constraint_in, constraint_of, after_constraint, part_from}
 use Rattle.circuit.specs.Run.{holds}
 use Rattle.circuit.proofs.RunLaws.{holds_satisfies, satisfies_holds}
 use Rattle.circuit.proofs.Stored.{part_next}
-use Rattle.circuit.specs.Runs.{first_from, value_at, below, satisfied_by, unsatisfied, agree}
+use Rattle.circuit.specs.Runs.{first_from, found, value_at, below, satisfied_by, unsatisfied, agree}
 
 module _ (test : ℕ → Bool) where
   first_pass : (k left : ℕ) → test k ≡ true → first_from test k (suc left) ≡ first_from test (suc k) left
@@ -43,6 +44,34 @@ module _ (test : ℕ → Bool) where
     pub first_none : count ≤ j → 0 ≡ z
     unfolding first_from
     first_none h = let z : count - j ≡ 0 = omega arith in sym (inv ∙ ap (first_from test (j + 1)) z)
+
+  pub search_start : (count : ℕ) → first_from test 1 count ≡ first_from test 1 (suc count - 1)
+  search_start count = ap (first_from test 1) (omega arith)
+
+  -- a `for` over the numbers from 1 to count: z is what is found from number k on
+  module _ (count z k : ℕ) (inv : z ≡ first_from test k (suc count - k)) where
+    turn : k ≤ count → z ≡ first_from test k (suc (count - k))
+    turn h = inv ∙ ap (first_from test k) (omega arith)
+
+    pub search_next : k ≤ count → test k ≡ true → z ≡ first_from test (k + 1) (suc count - (k + 1))
+    search_next h e =
+        let one : suc k ≡ k + 1 = omega arith in
+        let less : count - k ≡ suc count - (k + 1) = omega arith in
+        turn h ∙ first_pass k (count - k) e ∙ rw (one, less)
+
+    pub search_found : 1 ≤ k → k ≤ count → test k ≡ false → Some k ≡ found z
+    search_found l h e =
+        let same : suc (k - 1) ≡ k = omega arith in
+        let is : z ≡ suc (k - 1) = turn h ∙ first_fail k (count - k) e ∙ sym same in
+        rw is (ap Some (sym same))
+
+    pub search_none : count < k → None ≡ found z
+    unfolding first_from
+    search_none h = let none : suc count - k ≡ 0 = omega arith in let is : z ≡ 0 = inv ∙ ap (first_from test k) none in rw is
+
+  -- and its last turn
+  pub search_end : (count z k : ℕ) → z ≡ first_from test k (suc count - k) → k ≤ count → count ≤ k → test k ≡ true → None ≡ found z
+  search_end count z k inv h l e = search_none count z (k + 1) (search_next count z k inv h e) (omega arith)
 
   -- nothing found: every number passes
   passed_from : (k left : ℕ) → 1 ≤ k → first_from test k left ≡ 0 → (j : ℕ) → k ≤ j → j < k + left → test j ≡ true
@@ -94,19 +123,20 @@ pub below_is : (p : ℕ) (t : List ℕ) (j : ℕ) → below p t j ≡ true → v
 unfolding below
 below_is p t j e = ltb-true (value_at t j) p e
 
--- constraint k + 1 by its part, the rest after k constraints
-pub satisfied_part : (p : ℕ) (s : List ℕ) (v : ℕ → ℕ) (k : ℕ) (rest : List ℕ) (b : Bool) → rest ≡ part_from k s
-    → b ≡ holds p (constraint_in rest) v → satisfied_by p (constraint_of s) v (k + 1) ≡ b
+-- constraint k by its part, the rest after those before it
+pub satisfied_part : (p : ℕ) (s : List ℕ) (v : ℕ → ℕ) (k : ℕ) (rest : List ℕ) (b : Bool) → 1 ≤ k → rest ≡ part_from (k - 1) s
+    → b ≡ holds p (constraint_in rest) v → satisfied_by p (constraint_of s) v k ≡ b
 unfolding satisfied_by constraint_of
-satisfied_part p s v k rest b e f =
-    let z : k + 1 - 1 ≡ k = omega arith in sym (f ∙ rw (e, z))
+satisfied_part p s v k rest b h e f = sym (f ∙ rw e)
 
 pub part_zero : (s : List ℕ) → s ≡ part_from 0 s
 unfolding part_from
 part_zero s = refl
 
-pub rest_next : (s : List ℕ) (k : ℕ) (rest next : List ℕ) → rest ≡ part_from k s → next ≡ after_constraint rest → next ≡ part_from (k + 1) s
-rest_next s k rest next e f = f ∙ ap after_constraint e ∙ sym (part_next k s) ∙ ap (λ (j : ℕ). part_from j s) (sym (add-one k))
+pub rest_next : (s : List ℕ) (k : ℕ) (rest next : List ℕ) → 1 ≤ k → rest ≡ part_from (k - 1) s → next ≡ after_constraint rest
+    → next ≡ part_from (k + 1 - 1) s
+rest_next s k rest next h e f =
+    let one : suc (k - 1) ≡ k + 1 - 1 = omega arith in f ∙ ap after_constraint e ∙ sym (part_next (k - 1) s) ∙ ap (λ (j : ℕ). part_from j s) one
 
 pub agree_yes : (v w : ℕ → ℕ) (s : ℕ) → v s ≡ w s → agree v w s ≡ true
 unfolding agree

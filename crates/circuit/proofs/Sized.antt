@@ -1,17 +1,15 @@
 -- What the circuit call says of the bytes: a circuit that isn't refused is well-formed and has the sizes answered.
 use Prim.Native.Nat.{ℕ, suc, ◌-◌, ◌≤◌}
-use mathlib.Core.Path.{◌≡◌, refl, sym, ap, ◌∙◌}
+use mathlib.Core.Path.{◌≡◌, refl, ap, ◌∙◌}
 use mathlib.Core.List.{List}
 use native.Mathlib.Omega.{arith}
 use lib.ListN.{length, drop}
 use Rattle.circuit.specs.Circuit.{Circuit, constraint_at}
 use Rattle.circuit.specs.Reading.{Reading, whole, fault}
 use Rattle.circuit.specs.Reader.{read_circuit, constraint_of}
-use Rattle.circuit.specs.Answer.{Answer, refused, given, paper_of}
+use Rattle.circuit.specs.Answer.{Answer, refused, given}
 use Rattle.circuit.specs.Call.{sizes_of, on_circuit, circuit_call, circuit_of, Sized, SizedAnswer}
 use Rattle.circuit.specs.declared.reader.Sizes.{Sizes}
-use Rattle.circuit.specs.declared.reader.CircuitAnswer.{CircuitAnswer}
-use Rattle.circuit.specs.declared.reader.CircuitAnswer.TheVariants.{Refused}
 use Rattle.circuit.proofs.WellFormed.{circuit_whole, read_well_formed}
 use Rattle.circuit.proofs.Stored.{read_part}
 use Rattle.circuit.proofs.HeaderLaws.{same_sizes}
@@ -59,6 +57,10 @@ sized_answer s z e = go (read_circuit s) refl e
     go (whole C size) h e = let is : z ≡ sizes_of C = cc in rw is (read_sized s C size h)
     go (fault number place) h e = let z : ◌≡◌ {A = ℕ} 0 1 = cc in absurd (omega arith)
 
+-- a circuit's file that isn't refused: all of rule 1.7
+pub call_sized : {s : List ℕ} {z : Sizes} → circuit_call s ≡ given z → Sized s z
+call_sized {s} {z} e = sized_answer s z e
+
 -- every call on bytes that the circuit call refuses is refused alike
 pub on_refused : {A : Type 0} (s : List ℕ) {number place : ℕ} (f : Circuit → Answer A) → refused number place ≡ circuit_call s
     → refused number place ≡ on_circuit (read_circuit s) f
@@ -71,11 +73,3 @@ on_refused {A} s {number} {place} f e = go (read_circuit s) e
         let same_number : number ≡ x = cc in
         let same_place : place ≡ y = cc in
         rw (same_number, same_place)
-
--- an answer that is the call's, and a refusal at the start of the file
-pub answered : (s : List ℕ) (r : Answer Sizes) → circuit_call s ≡ r → (r ≡ circuit_call s) × SizedAnswer s r
-answered s r e = (sym e, rw e at (sized_answer s))
-
-pub refusing : (s : List ℕ) {number : ℕ} {r : CircuitAnswer} → r ≡ Refused number 0 → circuit_call s ≡ refused number 0
-    → (paper_of r ≡ circuit_call s) × SizedAnswer s (paper_of r)
-refusing s f e = rw f (answered s _ e)

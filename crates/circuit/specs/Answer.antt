@@ -1,9 +1,12 @@
 -- Rule 6.1: what a call answers, and the tests that lead to it in checking order.
-use Rattle.std.specs.Prelude.{ℕ, zero, suc, ◌+◌, Bool, true, false}
+use Rattle.std.specs.Prelude.{ℕ, zero, suc, ◌+◌, Bool, true, false, Result, Ok, Err}
 use Rattle.circuit.specs.Reading.{Size, sized, faulty}
 use Rattle.circuit.specs.declared.reader.Sizes.{Sizes}
 use Rattle.circuit.specs.declared.reader.CircuitAnswer.{CircuitAnswer}
 use Rattle.circuit.specs.declared.reader.CircuitAnswer.TheVariants as variants
+use Rattle.circuit.specs.declared.refusal.Reason.{Reason}
+use Rattle.circuit.specs.declared.refusal.Reason.TheVariants as reason
+use Rattle.circuit.specs.declared.refusal.Refusal.{Refusal}
 use Rattle.circuit.specs.declared.reader.Found.{Found}
 use Rattle.circuit.specs.declared.reader.Found.TheVariants.{Whole, Fault}
 
@@ -27,11 +30,54 @@ abbrev pub and_then : {A B : Type 0} → Answer A → (A → Answer B) → Answe
 and_then (refused number place) f = refused number place
 and_then (given x) f = f x
 
+-- the paper's number of a reason to refuse
+abbrev pub number_of : Reason → ℕ
+number_of reason.CircuitLength = 1
+number_of reason.CircuitMark = 2
+number_of reason.CircuitVersion = 3
+number_of reason.NotPrime = 4
+number_of reason.SizesOut = 5
+number_of reason.EndsEarly = 6
+number_of reason.TermCount = 7
+number_of reason.SignalNumber = 8
+number_of reason.Coefficient = 9
+number_of reason.BytesLeft = 10
+number_of reason.DerivationMark = 11
+number_of reason.DerivationVersion = 12
+number_of reason.DerivationLength = 13
+number_of reason.MarksRoom = 14
+number_of reason.StepKind = 15
+number_of reason.StepField = 16
+number_of reason.RuleUnmet = 17
+number_of reason.PairMark = 18
+number_of reason.PairVersion = 19
+number_of reason.PairFrame = 20
+number_of reason.PairValue = 21
+number_of reason.Unsatisfied = 22
+number_of reason.InputsDiffer = 23
+number_of reason.OutputAgrees = 24
+number_of reason.OutputRoom = 25
+number_of reason.SheetFrame = 26
+number_of reason.SheetEntry = 27
+number_of reason.TagBroken = 28
+number_of reason.IdleStep = 29
+number_of reason.Candidates = 30
+number_of reason.RunBuffers = 31
+
+-- a result of the code as an answer, and one whose value stands for another
+abbrev pub answer_of : {A : Type 0} → Result A Refusal → Answer A
+answer_of (Ok x) = given x
+answer_of (Err r) = refused (number_of r.reason) r.place
+
+abbrev pub answer_by : {A B : Type 0} → (A → B) → Result A Refusal → Answer B
+answer_by f (Ok x) = given (f x)
+answer_by f (Err r) = refused (number_of r.reason) r.place
+
 -- the enum of the circuit call as an answer
 abbrev pub paper_of : CircuitAnswer → Answer Sizes
 paper_of (variants.Refused number place) = refused number place
-paper_of (variants.Sizes p n i o m) = given (record { p = p; n = n; i = i; o = o; m = m })
+paper_of (variants.Sizes z) = given z
 
 abbrev pub found_of : Found → Size
 found_of (Whole size) = sized size
-found_of (Fault number offset) = faulty number offset
+found_of (Fault reason offset) = faulty (number_of reason) offset

@@ -1,10 +1,11 @@
 -- The circuit call (rule 6.5), on all bytes, and what it says of a circuit that isn't refused.
-use Rattle.std.specs.Prelude.{ℕ, ◌≤◌, ◌≡◌, List, [], length}
+use Rattle.std.specs.Prelude.{ℕ, ◌≤◌, ◌≡◌, List, [], length, leb, eqb}
+use Rattle.field.specs.Prime.{odd_prime}
 use Rattle.circuit.specs.Bytes.{u16_at, u32_at}
 use Rattle.circuit.specs.Circuit.{Circuit, WellFormed}
 use Rattle.circuit.specs.Reading.{Reading, whole, fault}
-use Rattle.circuit.specs.Reader.{header_size, file_most, read_circuit}
-use Rattle.circuit.specs.Answer.{Answer, refused, given}
+use Rattle.circuit.specs.Reader.{header_size, file_most, circuit_letter, has_mark, sizes_fit, read_circuit}
+use Rattle.circuit.specs.Answer.{Answer, refused, given, ask}
 use Rattle.circuit.specs.declared.reader.Sizes.{Sizes}
 
 -- the header's numbers of a circuit
@@ -14,6 +15,17 @@ sizes_of C = record { p = C.p; n = C.n; i = C.i; o = C.o; m = C.m }
 -- Rule 1.1: those in the bytes of a file
 abbrev pub header_of : List ℕ → Sizes
 header_of s = record { p = u32_at s 5; n = u16_at s 9; i = u16_at s 11; o = u16_at s 13; m = u16_at s 15 }
+
+-- the header alone: refusals 1 to 5, or its numbers
+unfoldable pub header_call : List ℕ → Answer Sizes
+header_call s =
+    ask (leb header_size (length s)) 1 0
+    (ask (leb (length s) file_most) 1 0
+    (ask (has_mark circuit_letter s) 2 0
+    (ask (eqb (u16_at s 3) 1) 3 0
+    (ask (odd_prime (u32_at s 5)) 4 0
+    (ask (sizes_fit (u16_at s 9) (u16_at s 11) (u16_at s 13) (u16_at s 15)) 5 0
+    (given (header_of s)))))))
 
 -- every call on a circuit: refusals 1 to 10, or what is answered for the circuit that was read
 abbrev pub on_circuit : {A : Type 0} → Reading Circuit → (Circuit → Answer A) → Answer A

@@ -1,5 +1,5 @@
 -- Runs (witnesses) in bytes, 32 bits a value, and searches for the first number that fails a test.
-use Rattle.std.specs.Prelude.{ℕ, zero, suc, ◌*◌, ◌-◌, Bool, cond, List, [], ◌∷◌, ltb, eqb, drop}
+use Rattle.std.specs.Prelude.{ℕ, zero, suc, ◌*◌, ◌-◌, Bool, cond, List, [], ◌∷◌, ltb, eqb, drop, Option, None, Some}
 use Rattle.circuit.specs.Bytes.{u32_at}
 use Rattle.circuit.specs.Circuit.{Constraint, Circuit, constraint_at, value_of}
 use Rattle.circuit.specs.Run.{holds}
@@ -20,6 +20,11 @@ run_in s (suc n) = u32_at s 0 ∷ run_in (drop value_size s) n
 unfoldable pub first_from : (ℕ → Bool) → ℕ → ℕ → ℕ
 first_from test k zero = 0
 first_from test k (suc left) = let later = first_from test (suc k) left in cond (test k) later k
+
+-- what is found by number, counted from 1; nothing where that is 0
+abbrev pub found : ℕ → Option ℕ
+found zero = None
+found (suc k) = Some (suc k)
 
 -- the value with a number is below p
 unfoldable pub below : ℕ → List ℕ → ℕ → Bool

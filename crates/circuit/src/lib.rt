@@ -4,7 +4,9 @@
 #![tactic(auto)]
 
 pub mod bytes;
+pub mod file;
 pub mod offsets;
 pub mod reader;
+pub mod refusal;
 pub mod run;
 pub mod runs;

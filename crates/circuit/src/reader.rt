@@ -3,10 +3,11 @@
 ghost use Rattle.std.specs.Prelude.{◌≡◌, ◌+◌, ◌^◌, ◌≤◌, ◌<◌, length};
 ghost use Rattle.circuit.specs.Reading.{size_of, further, extent};
 ghost use Rattle.circuit.specs.Reader.{header_size, read_form, form_from, read_constraint, read_body, after_form, after_constraint, has_mark, sizes_fit};
-ghost use Rattle.circuit.specs.Answer.{found_of, paper_of};
-ghost use Rattle.circuit.specs.Call.{header_of, circuit_call, SizedAnswer};
+ghost use Rattle.circuit.specs.Answer.{answer_of, found_of, paper_of};
+ghost use Rattle.circuit.specs.Call.{header_of, header_call, circuit_call, SizedAnswer};
 
 use crate::bytes::{byte_at, u16_at, u32_at};
+use crate::refusal::{Reason, Refusal};
 use field::is_odd_prime;
 
 // The sizes of rule 1.7, and those of the header and of a term.
@@ -33,7 +34,7 @@ const LETTER_T: u32 = 84;
 #[derive(Clone, Copy)]
 pub(crate) enum Found {
     Whole { size: usize },
-    Fault { number: u32, offset: usize },
+    Fault { reason: Reason, offset: usize },
 }
 
 // The header's numbers: the prime, how many signals, inputs, outputs and constraints there are.
@@ -49,17 +50,8 @@ pub struct Sizes {
 // The call's answer: a refusal's number and place, or the header's numbers.
 #[derive(Clone, Copy)]
 pub enum CircuitAnswer {
-    Refused {
-        number: u32,
-        place: usize,
-    },
-    Sizes {
-        p: u32,
-        n: u32,
-        i: u32,
-        o: u32,
-        m: u32,
-    },
+    Refused { number: u32, place: usize },
+    Sizes(Sizes),
 }
 
 // The term reader: a form from its own part of the circuit bytes, the count byte and then that many terms.
@@ -68,14 +60,14 @@ pub(crate) fn check_form(part: &[u8], n: u32, p: u32) -> Found
 {
     if part.len() < 1 {
         return Found::Fault {
-            number: 6,
+            reason: Reason::EndsEarly,
             offset: 0,
         };
     }
     let count = byte_at(part, 0);
     if TERMS_MOST < count {
         return Found::Fault {
-            number: 7,
+            reason: Reason::TermCount,
             offset: 0,
         };
     }
@@ -85,33 +77,33 @@ pub(crate) fn check_form(part: &[u8], n: u32, p: u32) -> Found
     while 0 < left {
         if part.len() - at < TERM_SIZE {
             return Found::Fault {
-                number: 6,
+                reason: Reason::EndsEarly,
                 offset: at,
             };
         }
         let signal = u16_at(part, at);
         if n < signal {
             return Found::Fault {
-                number: 8,
+                reason: Reason::SignalNumber,
                 offset: at,
             };
         }
         if signal < least {
             return Found::Fault {
-                number: 8,
+                reason: Reason::SignalNumber,
                 offset: at,
             };
         }
         let coefficient = u32_at(part, at + 2);
         if coefficient == 0 {
             return Found::Fault {
-                number: 9,
+                reason: Reason::Coefficient,
                 offset: at,
             };
         }
         if p <= coefficient {
             return Found::Fault {
-                number: 9,
+                reason: Reason::Coefficient,
                 offset: at,
             };
         }
@@ -129,8 +121,8 @@ fn shifted(found: Found, at: usize) -> Found
 {
     match found {
         Found::Whole { size } => Found::Whole { size: at + size },
-        Found::Fault { number, offset } => Found::Fault {
-            number,
+        Found::Fault { reason, offset } => Found::Fault {
+            reason,
             offset: at + offset,
         },
     }
@@ -203,7 +195,7 @@ fn check_body(s: &[u8], sizes: Sizes) -> Found
     }
     if at < s.len() {
         return Found::Fault {
-            number: 10,
+            reason: Reason::BytesLeft,
             offset: at,
         };
     }
@@ -255,48 +247,52 @@ fn fits(sizes: Sizes) -> bool
     sizes.m <= CONSTRAINTS_MOST
 }
 
-fn refusal(number: u32) -> CircuitAnswer
-    ensures { result ≡ CircuitAnswer.Refused number 0 }
+// The header: refusals 1 to 5 in reading order, or its numbers.
+#[tactic(auto, unfolding(crate::specs::Call::header_call))]
+fn read_header(s: &[u8]) -> Result<Sizes, Refusal>
+    ensures { answer_of result ≡ header_call s.now }
 {
-    CircuitAnswer::Refused { number, place: 0 }
+    if s.len() < HEADER_SIZE || FILE_MOST < s.len() {
+        return Err(Reason::CircuitLength.at(0));
+    }
+    if !has_mark(s, CIRCUIT_LETTER) {
+        return Err(Reason::CircuitMark.at(0));
+    }
+    if u16_at(s, 3) != 1 {
+        return Err(Reason::CircuitVersion.at(0));
+    }
+    let sizes = sizes_at(s);
+    if !is_odd_prime(sizes.p) {
+        return Err(Reason::NotPrime.at(0));
+    }
+    if !fits(sizes) {
+        return Err(Reason::SizesOut.at(0));
+    }
+    Ok(sizes)
 }
 
-// The circuit call (rule 6.5): refusals 1 to 10 in reading order, or the header's numbers.
+// The reading of a whole file: refusals 1 to 10 in reading order, or the header's numbers.
+pub(crate) fn read_sizes(s: &[u8]) -> Result<Sizes, Refusal>
+    ensures { answer_of result ≡ circuit_call s.now }
+{
+    let sizes = read_header(s)?;
+    let body = check_body(s, sizes);
+    match body {
+        Found::Whole { size: _ } => Ok(sizes),
+        Found::Fault { reason, offset } => Err(reason.at(offset)),
+    }
+}
+
+// The circuit call (rule 6.5).
 pub fn check_circuit(s: &[u8]) -> CircuitAnswer
     ensures answer { paper_of result ≡ circuit_call s.now }
     ensures sized { SizedAnswer s.now (paper_of result) }
 {
-    if s.len() < HEADER_SIZE {
-        return refusal(1);
-    }
-    if FILE_MOST < s.len() {
-        return refusal(1);
-    }
-    if !has_mark(s, CIRCUIT_LETTER) {
-        return refusal(2);
-    }
-    if u16_at(s, 3) != 1 {
-        return refusal(3);
-    }
-    let sizes = sizes_at(s);
-    if !is_odd_prime(sizes.p) {
-        return refusal(4);
-    }
-    if !fits(sizes) {
-        return refusal(5);
-    }
-    let body = check_body(s, sizes);
-    match body {
-        Found::Whole { size: _ } => CircuitAnswer::Sizes {
-            p: sizes.p,
-            n: sizes.n,
-            i: sizes.i,
-            o: sizes.o,
-            m: sizes.m,
-        },
-        Found::Fault { number, offset } => CircuitAnswer::Refused {
-            number,
-            place: offset,
+    match read_sizes(s) {
+        Ok(sizes) => CircuitAnswer::Sizes(sizes),
+        Err(refusal) => CircuitAnswer::Refused {
+            number: refusal.number(),
+            place: refusal.place,
         },
     }
 }

@@ -1,11 +1,10 @@
-// Runs (witnesses) in bytes, 32 bits a value, and the first value, constraint or signal that breaks what is asked of them. Numbers count from 1;
-// 0 is none.
+// Runs (witnesses) in bytes, 32 bits a value, and the first value, constraint or signal that breaks what is asked of them, counted from 1.
 
 ghost use Rattle.std.specs.Prelude.{◌≡◌, ◌<◌, min};
 ghost use Rattle.circuit.specs.Circuit.{value_of};
 ghost use Rattle.circuit.specs.Reader.{signals_most, constraint_of};
 ghost use Rattle.circuit.specs.Run.{values_in};
-ghost use Rattle.circuit.specs.Runs.{value_at, run_in, first_from, below, satisfied_by, agree};
+ghost use Rattle.circuit.specs.Runs.{value_at, run_in, first_from, found, below, satisfied_by, agree};
 
 use crate::bytes::u32_at;
 use crate::reader::after_constraint;
@@ -44,46 +43,39 @@ pub fn copy_run(values: &[u8], n: u32) -> [u32; 257]
 }
 
 // The first of `count` values that isn't below p.
-pub fn first_large(values: &[u8], p: u32, count: u32) -> u32
-    ensures { result ≡ first_from (below p values.now) 1 count }
+pub fn first_large(values: &[u8], p: u32, count: u32) -> Option<u32>
+    ensures { result ≡ found (first_from (below p values.now) 1 count) }
 {
-    let mut j: u32 = 0;
-    while j < count {
-        j += 1;
+    for j in 1..=count {
         if p <= value_at(values, j) {
-            return j;
+            return Some(j);
         }
     }
-    0
+    None
 }
 
 // The first of m constraints that the values don't satisfy, each read from the part after the one before it.
-pub fn first_unsatisfied(body: &[u8], values: &[u32], p: u32, m: u32) -> u32
-    ensures { result ≡ first_from (satisfied_by p (constraint_of body.now) (values_in values.now)) 1 m }
+pub fn first_unsatisfied(body: &[u8], values: &[u32], p: u32, m: u32) -> Option<u32>
+    ensures { result ≡ found (first_from (satisfied_by p (constraint_of body.now) (values_in values.now)) 1 m) }
 {
     let mut rest = body;
-    let mut k: u32 = 0;
-    while k < m {
-        k += 1;
+    for k in 1..=m {
         if !satisfied(rest, values, p) {
-            return k;
+            return Some(k);
         }
-        let next = after_constraint(rest);
-        rest = next;
+        rest = after_constraint(rest);
     }
-    0
+    None
 }
 
 // The first signal up to `count` at which two runs differ.
-pub fn first_difference(values: &[u32], other: &[u32], count: u32) -> u32
-    ensures { result ≡ first_from (agree (values_in values.now) (values_in other.now)) 1 count }
+pub fn first_difference(values: &[u32], other: &[u32], count: u32) -> Option<u32>
+    ensures { result ≡ found (first_from (agree (values_in values.now) (values_in other.now)) 1 count) }
 {
-    let mut s: u32 = 0;
-    while s < count {
-        s += 1;
+    for s in 1..=count {
         if value_of(values, s) != value_of(other, s) {
-            return s;
+            return Some(s);
         }
     }
-    0
+    None
 }
