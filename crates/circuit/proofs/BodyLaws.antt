@@ -4,13 +4,12 @@ use mathlib.Core.Path.{◌≡◌, sym, ap, ◌∙◌}
 use mathlib.Core.List.{List}
 use native.Mathlib.Nat.{add-zero}
 use native.Mathlib.Omega.{arith}
-use borrow.Author.Tests.{eq-eqb, ne_eqb}
 use lib.Dec.{eqb}
 use lib.ListN.{length, drop, take, length-drop}
 use Rattle.circuit.specs.Circuit.{Constraint}
 use Rattle.circuit.specs.Reading.{whole, after, Size, sized, faulty, size_of, further, extent}
 use Rattle.circuit.specs.Reader.{read_constraint, read_constraints, read_body, at_end, after_constraint}
-use Rattle.circuit.proofs.ReaderLaws.{ask_size, size_after, size_mapped, further_require, further_zero, extent_further, one_more, part_drop}
+use Rattle.circuit.proofs.ReaderLaws.{ask_size, size_after, size_mapped, further_require, further_zero, extent_further, part_drop}
 use Rattle.circuit.proofs.ReaderLaws.{onward, onward_on, onward_out, onward_onward, next_onward}
 use Rattle.circuit.proofs.ReaderLaws.{constraint_from, constraint_inside, constraint_rest}
 
@@ -43,16 +42,18 @@ body_from_lem n p m s =
     end : (Ks : List Constraint) (k : ℕ) → further k (size_of (at_end Ks (drop k s))) ≡ ended s k
     end Ks k = further_require k (eqb (length (drop k s)) 0) 10 (whole Ks 0) ∙ rw (length-drop k s, add-zero k)
 
--- At a turn of the code `rest` starts at `at`, and the whole answer is what is still to be read.
-pub record Body (n p m : ℕ) (s rest : List ℕ) (left at : ℕ) : Type 0 where
+-- At turn i of the code `rest` starts at `at`, and the whole answer is what is still to be read.
+pub record Body (n p m : ℕ) (s rest : List ℕ) (i at : ℕ) : Type 0 where
   pub near : at ≤ length s
   pub is_rest : rest ≡ drop at s
-  pub answer : size_of (read_body n p m s) ≡ body_from n p s left at
+  pub answer : size_of (read_body n p m s) ≡ body_from n p s (m - i) at
 
-pub body_start : (n p m : ℕ) (s : List ℕ) → 17 ≤ length s → Body n p m s (take (length s - 17) (drop 17 s)) m 17
-body_start n p m s h = record { near = h; is_rest = part_drop s 17 h; answer = body_from_lem n p m s }
+pub body_start : (n p m : ℕ) (s : List ℕ) → 17 ≤ length s → Body n p m s (take (length s - 17) (drop 17 s)) 0 17
+body_start n p m s h =
+    let all : m - 0 ≡ m = omega arith in
+    record { near = h; is_rest = part_drop s 17 h; answer = body_from_lem n p m s ∙ rw all }
 
-module _ {n p m : ℕ} {s rest : List ℕ} {left at : ℕ} (B : Body n p m s rest left at) where
+module _ {n p m : ℕ} {s rest : List ℕ} {i at : ℕ} (B : Body n p m s rest i at) where
   -- the constraint that is read from the rest leads out or on
   module _ {y : Size} (read : y ≡ size_of (read_constraint n p rest)) where
     here : further at y ≡ constraint_from n p s at
@@ -62,15 +63,17 @@ module _ {n p m : ℕ} {s rest : List ℕ} {left at : ℕ} (B : Body n p m s res
     pub body_inside : at + extent y ≤ length s
     body_inside = omega (arith, extent_further at y, ap extent here, constraint_inside n p s at B.near)
 
-    module _ (some : 0 < left) where
-      turn : size_of (read_body n p m s) ≡ onward (constraint_from n p s at) (body_from n p s (left - 1))
+    module _ (some : i < m) where
+      turn : size_of (read_body n p m s) ≡ onward (constraint_from n p s at) (body_from n p s (m - (i + 1)))
       unfolding body_from
-      turn = B.answer ∙ ap (λ (k : ℕ). body_from n p s k at) (one_more some)
+      turn =
+          let more : m - i ≡ suc (m - (i + 1)) = omega arith in
+          B.answer ∙ ap (λ (k : ℕ). body_from n p s k at) more
 
       pub body_fault : {number offset : ℕ} → faulty number offset ≡ further at y → faulty number offset ≡ size_of (read_body n p m s)
       body_fault e = sym (turn ∙ onward_out _ (sym (e ∙ here)))
 
-      pub body_again : {k : ℕ} {next : List ℕ} → sized k ≡ further at y → next ≡ after_constraint rest → Body n p m s next (left - 1) k
+      pub body_again : {k : ℕ} {next : List ℕ} → sized k ≡ further at y → next ≡ after_constraint rest → Body n p m s next (i + 1) k
       body_again e f =
           record {
             near = omega (arith, body_inside, extent_further at y, ap extent e);
@@ -78,13 +81,6 @@ module _ {n p m : ℕ} {s rest : List ℕ} {left at : ℕ} (B : Body n p m s res
             answer = turn ∙ onward_on _ (sym (e ∙ here));
           }
 
-  module _ (done : left ≤ 0) where
-    last : size_of (read_body n p m s) ≡ ended s at
-    unfolding body_from
-    last = let none : left ≡ 0 = omega arith in B.answer ∙ rw none
-
-    pub body_longer : at < length s → faulty 10 at ≡ size_of (read_body n p m s)
-    body_longer h = sym (last ∙ rw (ne_eqb (length s - at) 0 λ (e : length s - at ≡ 0). omega arith))
-
-    pub body_whole : length s ≤ at → sized at ≡ size_of (read_body n p m s)
-    body_whole h = sym (last ∙ rw (eq-eqb (length s - at) 0 (omega arith)))
+  pub body_last : m ≤ i → size_of (read_body n p m s) ≡ ended s at
+  unfolding body_from
+  body_last done = let none : m - i ≡ 0 = omega arith in B.answer ∙ rw none

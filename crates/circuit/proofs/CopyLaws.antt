@@ -65,14 +65,17 @@ copy_start t n = fun_ext go
     go zero = refl
     go (suc s) = zeros n s
 
-pub copy_again : (t : List ℕ) (n : ℕ) (values : List ℕ) (x : ℕ) → values_in values ≡ value_of (run_in t n) → n + 1 < length values
-    → x ≡ value_at t (n + 1) → values_in (set values (n + 1) x) ≡ value_of (run_in t (n + 1))
+pub copy_again : (t : List ℕ) (s : ℕ) (values : List ℕ) (x : ℕ) → values_in values ≡ value_of (run_in t (s - 1)) → 1 ≤ s → s < length values
+    → x ≡ value_at t s → values_in (set values s x) ≡ value_of (run_in t (s + 1 - 1))
 unfolding values_in
-copy_again t n values x e h f = fun_ext λ s. at s (ℕ_discrete s (n + 1))
+copy_again t s values x e h l f = fun_ext λ i. at i (ℕ_discrete i s)
   where
-    at : (s : ℕ) → Dec (s ≡ n + 1) → get_or (set values (n + 1) x) s 0 ≡ value_of (run_in t (n + 1)) s
-    at s (yes z) = rw z (get_or-set_same values (n + 1) x 0 h ∙ f ∙ sym (run_value t (n + 1) (n + 1) (omega arith) (omega arith)))
-    at s (no z) = get_or-set_other values (n + 1) s x 0 z ∙ ap (λ (v : ℕ → ℕ). v s) e ∙ run_longer t n s z
+    at : (i : ℕ) → Dec (i ≡ s) → get_or (set values s x) i 0 ≡ value_of (run_in t (s + 1 - 1)) i
+    at i (yes z) = rw z (get_or-set_same values s x 0 l ∙ f ∙ sym (run_value t (s + 1 - 1) s h (omega arith)))
+    at i (no z) =
+        let one : s - 1 + 1 ≡ s + 1 - 1 = omega arith in
+        let other : (i ≡ s - 1 + 1 → ⊥) = λ y. z (omega arith) in
+        get_or-set_other values s i x 0 z ∙ ap (λ (v : ℕ → ℕ). v i) e ∙ run_longer t (s - 1) i other ∙ ap (λ (k : ℕ). value_of (run_in t k) i) one
 
-pub copy_end : (t : List ℕ) (s n : ℕ) (v : ℕ → ℕ) → v ≡ value_of (run_in t s) → s ≤ n → n ≤ s → v ≡ value_of (run_in t n)
-copy_end t s n v e h g = let z : s ≡ n = omega arith in e ∙ ap (λ (j : ℕ). value_of (run_in t j)) z
+pub copy_end : (t : List ℕ) (s n : ℕ) (v : ℕ → ℕ) → v ≡ value_of (run_in t s) → s ≡ n → v ≡ value_of (run_in t n)
+copy_end t s n v e h = e ∙ ap (λ (j : ℕ). value_of (run_in t j)) h

@@ -79,38 +79,38 @@ form_start n p s = simp (size_require, size_after)
 pub one_more : {k : ℕ} → 0 < k → k ≡ suc (k - 1)
 one_more {k} h = omega arith
 
--- At a turn of the term reader the whole answer is what is still to be read.
-pub record Terms (n p : ℕ) (s : List ℕ) (left at least : ℕ) : Type 0 where
+-- At turn i of the term reader, of count, the whole answer is what is still to be read.
+pub record Terms (n p : ℕ) (s : List ℕ) (count i at least : ℕ) : Type 0 where
   pub near : at ≤ length s
-  pub few : left ≤ 32
-  pub answer : size_of (read_form n p s) ≡ terms_from n p s left at least
+  pub few : count ≤ 32
+  pub answer : size_of (read_form n p s) ≡ terms_from n p s (count - i) at least
 
-pub terms_start : (n p : ℕ) (s : List ℕ) {count : ℕ} → count ≡ byte_at s 0 → 1 ≤ length s → count ≤ 32 → Terms n p s count 1 0
-terms_start n p s known some h =
-    record { near = some; few = h; answer = form_start n p s ∙ rw (le-leb _ _ some, ← known, le-leb _ _ h) }
+pub terms_start : (n p : ℕ) (s : List ℕ) {count : ℕ} → count ≡ byte_at s 0 → 1 ≤ length s → count ≤ 32 → Terms n p s count 0 1 0
+terms_start n p s {count} known some h =
+    let all : count - 0 ≡ count = omega arith in
+    record { near = some; few = h; answer = form_start n p s ∙ rw (all, le-leb _ _ some, ← known, le-leb _ _ h) }
 
-module _ {n p : ℕ} {s : List ℕ} {left at least : ℕ} (T : Terms n p s left at least) where
-  pub term_turn : 0 < left → size_of (read_form n p s) ≡ term_tests n p s (left - 1) at least
-  term_turn some = T.answer ∙ ap (λ (k : ℕ). terms_from n p s k at least) (one_more some) ∙ terms_turn n p s (left - 1) at least
+module _ {n p : ℕ} {s : List ℕ} {count i at least : ℕ} (T : Terms n p s count i at least) where
+  module _ (some : i < count) where
+    -- the tests of the code in their order
+    pub term_turn : size_of (read_form n p s) ≡ term_tests n p s (count - (i + 1)) at least
+    term_turn =
+        let more : count - i ≡ suc (count - (i + 1)) = omega arith in
+        T.answer ∙ ap (λ (k : ℕ). terms_from n p s k at least) more ∙ terms_turn n p s (count - (i + 1)) at least
 
-  -- what a signal that was tested leaves: the tests of its coefficient
-  module _ (some : 0 < left) (fits : 6 ≤ length s - at) {signal : ℕ} (known : signal ≡ u16_at s at) (low : signal ≤ n) (rises : least ≤ signal) where
-    pub term_signal : size_of (read_form n p s)
-        ≡ ask_size (ltb 0 (u32_at s (at + 2))) 9 at
-        (ask_size (ltb (u32_at s (at + 2)) p) 9 at (terms_from n p s (left - 1) (at + 6) (signal + 1)))
-    term_signal = term_turn some ∙ rw (le-leb _ _ fits, ← known, le-leb _ _ low, le-leb _ _ rises, add-one)
-
-    pub term_again : {coefficient : ℕ} → coefficient ≡ u32_at s (at + 2) → (coefficient ≡ 0 → ⊥) → coefficient < p
-        → Terms n p s (left - 1) (at + 6) (signal + 1)
-    term_again {coefficient} is positive below =
+    pub term_again : {signal coefficient : ℕ} → 6 ≤ length s - at → signal ≡ u16_at s at → signal ≤ n → least ≤ signal
+        → coefficient ≡ u32_at s (at + 2) → (coefficient ≡ 0 → ⊥) → coefficient < p → Terms n p s count (i + 1) (at + 6) (signal + 1)
+    term_again {signal} {coefficient} fits known low rises is positive below =
         record {
           near = omega arith;
-          few = omega (arith, T.few);
-          answer = term_signal ∙ rw (← is, lt-ltb 0 coefficient (omega arith), lt-ltb _ _ below);
+          few = T.few;
+          answer =
+              term_turn
+              ∙ rw (le-leb _ _ fits, ← known, le-leb _ _ low, le-leb _ _ rises, add-one signal, ← is, lt-ltb 0 coefficient (omega arith), lt-ltb _ _ below);
         }
 
-  pub terms_end : left ≤ 0 → size_of (read_form n p s) ≡ sized at
-  terms_end h = let none : left ≡ 0 = omega arith in T.answer ∙ rw none (terms_done n p s at least)
+  pub terms_end : count ≤ i → size_of (read_form n p s) ≡ sized at
+  terms_end h = let none : count - i ≡ 0 = omega arith in T.answer ∙ rw none (terms_done n p s at least)
 
 -- Nothing is read past the end.
 pub extent_further : (at : ℕ) (z : Size) → extent (further at z) ≡ at + extent z

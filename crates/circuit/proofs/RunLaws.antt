@@ -15,7 +15,6 @@ use Rattle.circuit.specs.Circuit.{Term, Form, Constraint, eval, Satisfies}
 use Rattle.circuit.specs.Reader.{term_at, term_kept, terms_in, form_in, after_form, constraint_in}
 use Rattle.circuit.specs.Run.{values_in, term_mod, eval_mod, holds}
 use Rattle.circuit.proofs.ByteLaws.{u16_drop, u32_drop}
-use Rattle.circuit.proofs.ReaderLaws.{one_more}
 
 pub value_past : (values : List ℕ) (s : ℕ) → length values ≤ s → values_in values s ≡ 0
 unfolding values_in
@@ -77,13 +76,16 @@ module _ (p : ℕ) (s : List ℕ) (v : ℕ → ℕ) where
   unfolding eval_mod
   sum_zero h = rw h
 
-  pub sum_start : (count : ℕ) → count ≡ byte_at s 0 → (p ≡ 0 → ⊥) → eval_mod p (form_in s) v ≡ sum_from p s v count 1 0
+  pub sum_start : (count : ℕ) → count ≡ byte_at s 0 → (p ≡ 0 → ⊥) → eval_mod p (form_in s) v ≡ sum_from p s v (count - 0) 1 0
   unfolding eval_mod form_in sum_from
-  sum_start count e h = rw (ne_eqb p 0 h, e, zero-add)
+  sum_start count e h = let all : count - 0 ≡ byte_at s 0 = omega (arith, e) in rw (ne_eqb p 0 h, all, zero-add)
 
-  pub sum_again : (z left at sum x : ℕ) → z ≡ sum_from p s v left at sum → 0 < left → x ≡ term_mod p s at v
-      → z ≡ sum_from p s v (left - 1) (at + 6) (sum + x)
-  sum_again z left at sum x e h is = e ∙ ap (λ (k : ℕ). sum_from p s v k at sum) (one_more h) ∙ sum_turn p s v (left - 1) at sum ∙ rw is
+  pub sum_again : (z count i sum x : ℕ) → z ≡ sum_from p s v (count - i) (1 + 6 * i) sum → i < count → x ≡ term_mod p s (1 + 6 * i) v
+      → z ≡ sum_from p s v (count - (i + 1)) (1 + 6 * (i + 1)) (sum + x)
+  sum_again z count i sum x e h is =
+      let more : count - i ≡ suc (count - (i + 1)) = omega arith in
+      let next : 1 + 6 * i + 6 ≡ 1 + 6 * (i + 1) = omega arith in
+      e ∙ ap (λ (k : ℕ). sum_from p s v k (1 + 6 * i) sum) more ∙ sum_turn p s v (count - (i + 1)) (1 + 6 * i) sum ∙ rw (is, next)
 
   pub sum_end : (z left at sum : ℕ) → z ≡ sum_from p s v left at sum → left ≤ 0 → sum % p ≡ z
   unfolding sum_from terms_in eval

@@ -7,8 +7,6 @@ use Rattle.circuit.specs.declared.reader.CircuitAnswer.TheVariants as variants
 use Rattle.circuit.specs.declared.refusal.Reason.{Reason}
 use Rattle.circuit.specs.declared.refusal.Reason.TheVariants as reason
 use Rattle.circuit.specs.declared.refusal.Refusal.{Refusal}
-use Rattle.circuit.specs.declared.reader.Found.{Found}
-use Rattle.circuit.specs.declared.reader.Found.TheVariants.{Whole, Fault}
 
 -- a refusal's number and place, or a result
 pub data Answer (A : Type 0) : Type 0 where
@@ -78,6 +76,7 @@ abbrev pub paper_of : CircuitAnswer → Answer Sizes
 paper_of (variants.Refused number place) = refused number place
 paper_of (variants.Sizes z) = given z
 
-abbrev pub found_of : Found → Size
-found_of (Whole size) = sized size
-found_of (Fault reason offset) = faulty (number_of reason) offset
+-- what the code's readers find: a size, or a refusal whose place is an offset in the part
+abbrev pub found_of : Result ℕ Refusal → Size
+found_of (Ok size) = sized size
+found_of (Err r) = faulty (number_of r.reason) r.place

@@ -7,6 +7,7 @@ ghost use Rattle.circuit.specs.Answer.{answer_of, found_of, paper_of};
 ghost use Rattle.circuit.specs.Call.{header_of, header_call, circuit_call, SizedAnswer};
 
 use crate::bytes::{byte_at, u16_at, u32_at};
+use crate::file::CircuitFile;
 use crate::refusal::{Reason, Refusal};
 use field::is_odd_prime;
 
@@ -30,15 +31,8 @@ const LETTER_Q: u32 = 81;
 
 const LETTER_T: u32 = 84;
 
-// What reading a part finds: the value's size in bytes, or a refusal's number and its offset in the part.
-#[derive(Clone, Copy)]
-pub(crate) enum Found {
-    Whole { size: usize },
-    Fault { reason: Reason, offset: usize },
-}
-
 // The header's numbers: the prime, how many signals, inputs, outputs and constraints there are.
-#[derive(Clone, Copy)]
+#[derive(Clone, Copy, Debug, PartialEq, Eq)]
 pub struct Sizes {
     pub p: u32,
     pub n: u32,
@@ -54,82 +48,51 @@ pub enum CircuitAnswer {
     Sizes(Sizes),
 }
 
-// The term reader: a form from its own part of the circuit bytes, the count byte and then that many terms.
-pub(crate) fn check_form(part: &[u8], n: u32, p: u32) -> Found
+// The term reader: a form from its own part of the circuit bytes, the count byte and then that many terms. What reading a part finds is its size in
+// bytes, or a refusal whose place is an offset in the part.
+fn check_form(part: &[u8], n: u32, p: u32) -> Result<usize, Refusal>
     ensures { found_of result ≡ size_of (read_form n p part.now) }
 {
-    if part.len() < 1 {
-        return Found::Fault {
-            reason: Reason::EndsEarly,
-            offset: 0,
-        };
+    if part.is_empty() {
+        return Err(Reason::EndsEarly.at(0));
     }
     let count = byte_at(part, 0);
     if TERMS_MOST < count {
-        return Found::Fault {
-            reason: Reason::TermCount,
-            offset: 0,
-        };
+        return Err(Reason::TermCount.at(0));
     }
-    let mut left = count;
     let mut at: usize = 1;
     let mut least: u32 = 0;
-    while 0 < left {
+    for _ in 0..count {
         if part.len() - at < TERM_SIZE {
-            return Found::Fault {
-                reason: Reason::EndsEarly,
-                offset: at,
-            };
+            return Err(Reason::EndsEarly.at(at));
         }
         let signal = u16_at(part, at);
-        if n < signal {
-            return Found::Fault {
-                reason: Reason::SignalNumber,
-                offset: at,
-            };
-        }
-        if signal < least {
-            return Found::Fault {
-                reason: Reason::SignalNumber,
-                offset: at,
-            };
+        if n < signal || signal < least {
+            return Err(Reason::SignalNumber.at(at));
         }
         let coefficient = u32_at(part, at + 2);
-        if coefficient == 0 {
-            return Found::Fault {
-                reason: Reason::Coefficient,
-                offset: at,
-            };
-        }
-        if p <= coefficient {
-            return Found::Fault {
-                reason: Reason::Coefficient,
-                offset: at,
-            };
+        if coefficient == 0 || p <= coefficient {
+            return Err(Reason::Coefficient.at(at));
         }
         least = signal + 1;
-        at = at + TERM_SIZE;
-        left = left - 1;
+        at += TERM_SIZE;
     }
-    Found::Whole { size: at }
+    Ok(at)
 }
 
-// The same answer with offsets that count from `at` bytes earlier.
-fn shifted(found: Found, at: usize) -> Found
+// The same with offsets that count from `at` bytes earlier.
+fn shifted(found: Result<usize, Refusal>, at: usize) -> Result<usize, Refusal>
     requires { at + extent (found_of found) < 2 ^ 64 }
     ensures { found_of result ≡ further at (found_of found) }
 {
     match found {
-        Found::Whole { size } => Found::Whole { size: at + size },
-        Found::Fault { reason, offset } => Found::Fault {
-            reason,
-            offset: at + offset,
-        },
+        Ok(size) => Ok(at + size),
+        Err(refusal) => Err(refusal.reason.at(at + refusal.place)),
     }
 }
 
 // The form that starts at an offset: its part is lent to the term reader, and the answer counts from the whole's start.
-fn check_form_at(s: &[u8], at: usize, n: u32, p: u32) -> Found
+fn check_form_at(s: &[u8], at: usize, n: u32, p: u32) -> Result<usize, Refusal>
     requires { at ≤ length s.now }
     ensures { (found_of result ≡ form_from n p s.now at) × (extent (found_of result) ≤ length s.now) }
 {
@@ -138,118 +101,85 @@ fn check_form_at(s: &[u8], at: usize, n: u32, p: u32) -> Found
 }
 
 // Three forms, each from the part after the one before it.
-pub(crate) fn check_constraint(s: &[u8], n: u32, p: u32) -> Found
+fn check_constraint(s: &[u8], n: u32, p: u32) -> Result<usize, Refusal>
     ensures { found_of result ≡ size_of (read_constraint n p s.now) }
 {
-    let a = check_form_at(s, 0, n, p);
-    let Found::Whole { size: b_at } = a else {
-        return a;
-    };
-    let b = check_form_at(s, b_at, n, p);
-    let Found::Whole { size: c_at } = b else {
-        return b;
-    };
+    let b_at = check_form_at(s, 0, n, p)?;
+    let c_at = check_form_at(s, b_at, n, p)?;
     check_form_at(s, c_at, n, p)
 }
 
 // The rest after a form whose count byte stands first; nothing where the bytes end before.
+#[tactic(auto, unfolding(crate::specs::Reader::after_form))]
 pub fn after_form(s: &[u8]) -> &[u8]
     ensures { result.now ≡ after_form s.now }
 {
     let size = 1 + TERM_SIZE * (byte_at(s, 0) as usize);
-    if s.len() < size {
-        return &s[s.len()..];
-    }
-    &s[size..]
+    s.get(size..).unwrap_or(&[])
 }
 
 // The constraint reader: hands back the part of the caller's bytes after one constraint.
+#[tactic(auto, unfolding(crate::specs::Reader::after_constraint))]
 pub(crate) fn after_constraint(s: &[u8]) -> &[u8]
     ensures { result.now ≡ after_constraint s.now }
 {
-    let b = after_form(s);
-    let c = after_form(b);
-    after_form(c)
+    after_form(after_form(after_form(s)))
 }
 
 // The constraints after the header, each read from the part after the one before it, and nothing after them.
-fn check_body(s: &[u8], sizes: Sizes) -> Found
+pub(crate) fn check_body(s: &[u8], sizes: Sizes) -> Result<usize, Refusal>
     requires { header_size ≤ length s.now }
     ensures { found_of result ≡ size_of (read_body sizes.n sizes.p sizes.m s.now) }
 {
-    let n = sizes.n;
-    let p = sizes.p;
     let mut rest = &s[HEADER_SIZE..];
     let mut at: usize = HEADER_SIZE;
-    let mut left = sizes.m;
-    while 0 < left {
-        let constraint = check_constraint(rest, n, p);
-        let found = shifted(constraint, at);
-        let Found::Whole { size } = found else {
-            return found;
-        };
-        let next = after_constraint(rest);
-        rest = next;
-        at = size;
-        left = left - 1;
+    for _ in 0..sizes.m {
+        at = shifted(check_constraint(rest, sizes.n, sizes.p), at)?;
+        rest = after_constraint(rest);
     }
     if at < s.len() {
-        return Found::Fault {
-            reason: Reason::BytesLeft,
-            offset: at,
-        };
+        return Err(Reason::BytesLeft.at(at));
     }
-    Found::Whole { size: at }
+    Ok(at)
 }
 
 // Whether a file starts with its mark.
+#[tactic(auto, unfolding(crate::specs::Reader::has_mark))]
 pub fn has_mark(s: &[u8], letter: u32) -> bool
     ensures { result ≡ has_mark letter s.now }
 {
-    if byte_at(s, 0) != letter {
-        return false;
-    }
-    if byte_at(s, 1) != LETTER_Q {
-        return false;
-    }
-    byte_at(s, 2) == LETTER_T
+    byte_at(s, 0) == letter && byte_at(s, 1) == LETTER_Q && byte_at(s, 2) == LETTER_T
 }
 
-// The numbers in the header.
-fn sizes_at(s: &[u8]) -> Sizes
-    ensures { result ≡ header_of s.now }
-{
-    Sizes {
-        p: u32_at(s, 5),
-        n: u16_at(s, 9),
-        i: u16_at(s, 11),
-        o: u16_at(s, 13),
-        m: u16_at(s, 15),
+impl Sizes {
+    // The numbers in the header.
+    fn of(s: &[u8]) -> Sizes
+        ensures { result ≡ header_of s.now }
+    {
+        Sizes {
+            p: u32_at(s, 5),
+            n: u16_at(s, 9),
+            i: u16_at(s, 11),
+            o: u16_at(s, 13),
+            m: u16_at(s, 15),
+        }
     }
-}
 
-// Whether n, o, i + o and m keep their sizes.
-fn fits(sizes: Sizes) -> bool
-    ensures { result ≡ sizes_fit sizes.n sizes.i sizes.o sizes.m }
-{
-    if sizes.n < 1 {
-        return false;
+    // Whether n, o, i + o and m keep their sizes.
+    #[tactic(auto, unfolding(crate::specs::Reader::sizes_fit))]
+    fn fit(self) -> bool
+        ensures { result ≡ sizes_fit self.n self.i self.o self.m }
+    {
+        (1..=SIGNALS_MOST).contains(&self.n)
+            && 1 <= self.o
+            && u64::from(self.i) + u64::from(self.o) <= u64::from(self.n)
+            && self.m <= CONSTRAINTS_MOST
     }
-    if SIGNALS_MOST < sizes.n {
-        return false;
-    }
-    if sizes.o < 1 {
-        return false;
-    }
-    if (sizes.n as u64) < sizes.i as u64 + sizes.o as u64 {
-        return false;
-    }
-    sizes.m <= CONSTRAINTS_MOST
 }
 
 // The header: refusals 1 to 5 in reading order, or its numbers.
 #[tactic(auto, unfolding(crate::specs::Call::header_call))]
-fn read_header(s: &[u8]) -> Result<Sizes, Refusal>
+pub(crate) fn read_header(s: &[u8]) -> Result<Sizes, Refusal>
     ensures { answer_of result ≡ header_call s.now }
 {
     if s.len() < HEADER_SIZE || FILE_MOST < s.len() {
@@ -261,35 +191,23 @@ fn read_header(s: &[u8]) -> Result<Sizes, Refusal>
     if u16_at(s, 3) != 1 {
         return Err(Reason::CircuitVersion.at(0));
     }
-    let sizes = sizes_at(s);
+    let sizes = Sizes::of(s);
     if !is_odd_prime(sizes.p) {
         return Err(Reason::NotPrime.at(0));
     }
-    if !fits(sizes) {
+    if !sizes.fit() {
         return Err(Reason::SizesOut.at(0));
     }
     Ok(sizes)
 }
 
-// The reading of a whole file: refusals 1 to 10 in reading order, or the header's numbers.
-pub(crate) fn read_sizes(s: &[u8]) -> Result<Sizes, Refusal>
-    ensures { answer_of result ≡ circuit_call s.now }
-{
-    let sizes = read_header(s)?;
-    let body = check_body(s, sizes);
-    match body {
-        Found::Whole { size: _ } => Ok(sizes),
-        Found::Fault { reason, offset } => Err(reason.at(offset)),
-    }
-}
-
-// The circuit call (rule 6.5).
+// The circuit call (rule 6.5): refusals 1 to 10 in reading order, or the header's numbers.
 pub fn check_circuit(s: &[u8]) -> CircuitAnswer
     ensures answer { paper_of result ≡ circuit_call s.now }
     ensures sized { SizedAnswer s.now (paper_of result) }
 {
-    match read_sizes(s) {
-        Ok(sizes) => CircuitAnswer::Sizes(sizes),
+    match CircuitFile::read(s) {
+        Ok(file) => CircuitAnswer::Sizes(file.sizes),
         Err(refusal) => CircuitAnswer::Refused {
             number: refusal.number(),
             place: refusal.place,

@@ -7,24 +7,18 @@ ghost use Rattle.circuit.specs.Run.{values_in};
 ghost use Rattle.circuit.specs.Runs.{value_at, run_in, first_from, found, below, satisfied_by, agree};
 
 use crate::bytes::u32_at;
-use crate::reader::after_constraint;
+use crate::reader::{SIGNALS_MOST, after_constraint};
 use crate::run::{satisfied, value_of};
 
 pub const VALUE_SIZE: usize = 4;
 
 // The value with a number.
+#[tactic(auto, unfolding(crate::specs::Runs::value_at))]
 fn value_at(values: &[u8], number: u32) -> u32
     requires { 0 < number }
     ensures { result ≡ value_at values.now number }
 {
     u32_at(values, VALUE_SIZE * (number as usize - 1))
-}
-
-// How many signals a run in an array of 257 values has room for, n at most.
-fn signals_in(n: u32) -> u32
-    ensures { result ≡ min n signals_most }
-{
-    if n < 256 { n } else { 256 }
 }
 
 // The constant one and the first n values: a run, with the value of signal s at place s.
@@ -33,10 +27,7 @@ pub fn copy_run(values: &[u8], n: u32) -> [u32; 257]
 {
     let mut run = [0u32; 257];
     run[0] = 1;
-    let end = signals_in(n);
-    let mut s: u32 = 0;
-    while s < end {
-        s += 1;
+    for s in 1..=n.min(SIGNALS_MOST) {
         run[s as usize] = value_at(values, s);
     }
     run

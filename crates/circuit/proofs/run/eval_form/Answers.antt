@@ -1,0 +1,20 @@
+-- `circuit::run::eval_form`: the sum's start, a turn, and its end.
+use mathlib.Core.Path.{◌∙◌}
+use native.Mathlib.Omega.{arith}
+use Rattle.circuit.proofs.RunLaws as laws
+use Rattle.circuit.proofs.run.eval_form.Goals as goal
+
+pub returns-then-p-eq0 : goal.returns-then-p-eq0
+returns-then-p-eq0 c = laws.sum_zero _ _ _ c.if-p-eq0.true
+
+pub loop-i-init : goal.loop-i-init
+loop-i-init c = (omega arith, laws.sum_start _ _ _ _ c.byte_at-i-end.ensures.0 c.if-p-eq0.false)
+
+pub loop-i-preserved : goal.loop-i-preserved
+loop-i-preserved c = (
+  omega (arith, c.loop-i.invariant.0, c.from-sum.ensures, c.term_at.type_inv),
+  laws.sum_again _ _ _ _ _ _ _ _ c.loop-i.invariant.1 c.loop-i-test.true (c.from-sum.ensures ∙ c.term_at.ensures.0),
+)
+
+pub returns : goal.returns
+returns c = rw c.from.ensures (laws.sum_end _ _ _ _ _ _ _ c.loop-i.invariant.1 (omega arith))
