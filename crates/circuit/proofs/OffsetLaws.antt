@@ -1,5 +1,5 @@
 -- Laws of the table of offsets: how it is made, and that it finds the constraints of a circuit that was read.
-use Prim.Native.Nat.{ℕ, suc, ◌+◌, ◌-◌, ◌*◌, ◌≤◌, ◌<◌}
+use Prim.Native.Nat.{ℕ, suc, ◌+◌, ◌-◌, ◌*◌, ◌≤◌, ◌<◌, min}
 use mathlib.Core.Path.{◌≡◌, refl, sym, ap, ◌∙◌}
 use mathlib.Core.List.{List}
 use native.Mathlib.Decide.{ℕ_discrete}
@@ -25,12 +25,12 @@ pub record Filling (s : List ℕ) (m : ℕ) (table : List ℕ) (at k : ℕ) : Ty
   pub next : at ≡ offset_at s k
   pub offsets : Offsets s k table
 
-pub filling_start : {s : List ℕ} {z : Sizes} → Sized s z → Filling s z.m (replicate 513 0) 17 0
+pub filling_start : (s : List ℕ) (m : ℕ) → m ≤ 512 → Filling s m (replicate 513 0) 17 0
 unfolding offset_at
-filling_start Z =
+filling_start s m room =
     record {
       few = omega arith;
-      room = omega (arith, Z.formed.m_most, Z.is_m);
+      room = room;
       sized = refl;
       near = omega arith;
       next = refl;
@@ -68,10 +68,14 @@ filling_again {s} {m} {table} {at} {k} F b e f g =
         → z ≡ offset_at s (k + 1)
     next s k e f g h = rw (h, g, f, e) (sym (offset_next s k))
 
-pub filling_end : {s : List ℕ} {m : ℕ} {table : List ℕ} {at k : ℕ} → Filling s m table at k → m ≤ k → Offsets s m table
-filling_end {m = m} {k = k} F h = let e : k ≡ m = omega (arith, F.few) in rw e at F.offsets
+pub filling_end : {s : List ℕ} {m n : ℕ} {table : List ℕ} {at k : ℕ} → Filling s m table at k → m ≤ k → m ≡ n → Offsets s n table
+filling_end {m = m} {n = n} {k = k} F h g = let e : k ≡ n = omega (arith, F.few) in rw e at F.offsets
 
 -- ---- what it finds
+
+-- the whole table, for a circuit that isn't refused
+pub sized_offsets : {s : List ℕ} {z : Sizes} {table : List ℕ} → Sized s z → Offsets s (min z.m 512) table → Offsets s z.m table
+sized_offsets {z = z} Z O = let e : min z.m 512 ≡ z.m = omega (arith, Z.formed.m_most, Z.is_m) in rw e at O
 
 -- the part that the table finds is that of the constraint
 pub sized_part : {s : List ℕ} {z : Sizes} {table : List ℕ} → Sized s z → Offsets s z.m table

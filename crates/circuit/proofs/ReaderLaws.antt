@@ -98,9 +98,9 @@ module _ {n p : ℕ} {s : List ℕ} {count i at least : ℕ} (T : Terms n p s co
         let more : count - i ≡ suc (count - (i + 1)) = omega arith in
         T.answer ∙ ap (λ (k : ℕ). terms_from n p s k at least) more ∙ terms_turn n p s (count - (i + 1)) at least
 
-    pub term_again : {signal coefficient : ℕ} → 6 ≤ length s - at → signal ≡ u16_at s at → signal ≤ n → least ≤ signal
+    pub term_again : (signal coefficient : ℕ) → 6 ≤ length s - at → signal ≡ u16_at s at → signal ≤ n → least ≤ signal
         → coefficient ≡ u32_at s (at + 2) → (coefficient ≡ 0 → ⊥) → coefficient < p → Terms n p s count (i + 1) (at + 6) (signal + 1)
-    term_again {signal} {coefficient} fits known low rises is positive below =
+    term_again signal coefficient fits known low rises is positive below =
         record {
           near = omega arith;
           few = T.few;

@@ -11,25 +11,33 @@ pub fn byte_at(s: &[u8], at: usize) -> u32
 }
 
 // One test for both bytes, so that they are loaded at once.
+// Stays: by a slice pattern a search for an unsatisfied constraint took 1.13 times the instructions.
 #[tactic(auto, unfolding(crate::specs::Bytes::byte_at, crate::specs::Bytes::u16_at))]
 pub fn u16_at(s: &[u8], at: usize) -> u32
     ensures { (result ≡ u16_at s.now at) × (result < 65536) }
 {
-    match s.get(at..) {
-        Some([low, high, ..]) => u32::from(u16::from_le_bytes([*low, *high])),
-        Some([low]) => u32::from(*low),
-        _ => 0,
+    if s.len() <= at {
+        return 0;
     }
+    if s.len() - at < 2 {
+        return byte_at(s, at);
+    }
+    u32::from(s[at]) + 256 * u32::from(s[at + 1])
 }
 
 // One test for all four.
+// Stays: as above, and by `from_le_bytes` a copied run took 27 ms for 11, since its array isn't loaded at once.
 #[tactic(auto, unfolding(crate::specs::Bytes::byte_at, crate::specs::Bytes::u16_at, crate::specs::Bytes::u32_at))]
 pub fn u32_at(s: &[u8], at: usize) -> u32
     ensures { result ≡ u32_at s.now at }
 {
-    match s.get(at..) {
-        Some([a, b, c, d, ..]) => u32::from_le_bytes([*a, *b, *c, *d]),
-        Some(rest) => u16_at(rest, 0) + 65536 * u16_at(rest, 2),
-        None => 0,
+    if s.len() <= at {
+        return 0;
     }
+    if s.len() - at < 4 {
+        return u16_at(s, at) + 65536 * u16_at(s, at + 2);
+    }
+    u32::from(s[at])
+        + 256 * u32::from(s[at + 1])
+        + 65536 * (u32::from(s[at + 2]) + 256 * u32::from(s[at + 3]))
 }

@@ -18,7 +18,7 @@ const FILE_MOST: usize = 60000;
 
 pub(crate) const SIGNALS_MOST: u32 = 256;
 
-const CONSTRAINTS_MOST: u32 = 512;
+pub(crate) const CONSTRAINTS_MOST: u32 = 512;
 
 const TERMS_MOST: u32 = 32;
 
@@ -67,11 +67,11 @@ fn check_form(part: &[u8], n: u32, p: u32) -> Result<usize, Refusal>
             return Err(Reason::EndsEarly.at(at));
         }
         let signal = u16_at(part, at);
-        if n < signal || signal < least {
+        if !(least..=n).contains(&signal) {
             return Err(Reason::SignalNumber.at(at));
         }
         let coefficient = u32_at(part, at + 2);
-        if coefficient == 0 || p <= coefficient {
+        if !(1..p).contains(&coefficient) {
             return Err(Reason::Coefficient.at(at));
         }
         least = signal + 1;

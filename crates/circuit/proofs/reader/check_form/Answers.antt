@@ -15,22 +15,19 @@ returns-then-count-gt-TERMS_MOST c = let start = laws.form_start c.args.n c.args
 pub loop-init : goal.loop-init
 loop-init c = laws.terms_start _ _ _ c.byte_at-count.ensures.0 (search rules) c.if-count-gt-TERMS_MOST.false
 
-pub overflow_sub-part : goal.overflow_sub-part
-overflow_sub-part c = c.loop.invariant.near
-
 pub returns-then-part-at-lt-TERM_SIZE : goal.returns-then-part-at-lt-TERM_SIZE
 returns-then-part-at-lt-TERM_SIZE c = let turn = laws.term_turn c.loop.invariant c.loop-test.true in grind (arith, turn, common_steps)
 
-pub returns-then-n-signal : goal.returns-then-n-signal
-returns-then-n-signal c = let turn = laws.term_turn c.loop.invariant c.loop-test.true in grind (arith, turn, common_steps)
+pub returns-then-not-contains : goal.returns-then-not-contains
+returns-then-not-contains c = let turn = laws.term_turn c.loop.invariant c.loop-test.true in grind (arith, turn, common_steps)
 
-pub returns-then-coefficient-eq0 : goal.returns-then-coefficient-eq0
-returns-then-coefficient-eq0 c = let turn = laws.term_turn c.loop.invariant c.loop-test.true in grind (arith, turn, common_steps)
+pub returns-then-not-contains-2 : goal.returns-then-not-contains-2
+returns-then-not-contains-2 c = let turn = laws.term_turn c.loop.invariant c.loop-test.true in grind (arith, turn, common_steps)
 
 pub loop-preserved : goal.loop-preserved
 loop-preserved c =
-    laws.term_again c.loop.invariant c.loop-test.true c.if-part-at-lt-TERM_SIZE.false c.u16_at-signal.ensures.0 c.if-n-signal.false
-    c.if-signal-least.false c.u32_at-coefficient.ensures c.if-coefficient-eq0.false c.if-p-coefficient.false
+    let again = laws.term_again c.loop.invariant c.loop-test.true c.u16_at-signal.result c.u32_at-coefficient.result in
+    grind (arith, again, common_steps)
 
 pub returns : goal.returns
 returns c = sym (laws.terms_end c.loop.invariant c.loop-test.false)
