@@ -22,7 +22,7 @@ const RUN: usize = 128;
 fn at_most(p: u32, v: u32, q: u32) -> bool
     ensures { result ≡ leb (p * v % 4294967296) q }
 {
-    p as u64 * v as u64 % 4294967296 <= q as u64
+    p.wrapping_mul(v) <= q
 }
 
 // The first place from start to end whose entry times p is at most q modulo 4,294,967,296; end where there is none. Two places a turn, for speed.
@@ -51,7 +51,7 @@ fn run_end(i: usize, end: usize) -> usize
     requires { i < end }
     ensures { (i < result) × (result ≤ end) }
 {
-    if end - i <= RUN { end } else { i + 1 + RUN }
+    end.min((i + 1).saturating_add(RUN))
 }
 
 // Whether p is an odd prime, by trial division with a table that is enough for p. After d, which doesn't divide p, divisors are passed over
@@ -60,15 +60,12 @@ fn odd_prime_by(table: &[u16], inverses: &[u32], p: u32) -> bool
     requires { (p ≤ 2147483647) × Enough table.now p × (paired table.now inverses.now ≡ true) }
     ensures { result ≡ odd_prime p }
 {
-    if p < 3 {
-        return false;
-    }
-    if p % 2 == 0 {
+    if p < 3 || p % 2 == 0 {
         return false;
     }
     let mut i = 0;
     while i < table.len() {
-        let d = table[i] as u32;
+        let d = u32::from(table[i]);
         if p < d * d {
             return true;
         }
