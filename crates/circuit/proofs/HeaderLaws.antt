@@ -36,7 +36,8 @@ pub same_sizes : {p n i o m p' n' i' o' m' : ℕ} → p ≡ p' → n ≡ n' → 
 same_sizes a b c d e = rw (a, b, c, d, e)
 
 -- the call: the header, then the body
-then_ask : {A B : Type 0} (b : Bool) (number place : ℕ) (r : Answer A) (f : A → Answer B) → and_then (ask b number place r) f ≡ ask b number place (and_then r f)
+then_ask : {A B : Type 0} (b : Bool) (number place : ℕ) (r : Answer A) (f : A → Answer B)
+    → and_then (ask b number place r) f ≡ ask b number place (and_then r f)
 then_ask true number place r f = refl
 then_ask false number place r f = refl
 

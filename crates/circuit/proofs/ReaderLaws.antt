@@ -1,5 +1,5 @@
 -- Laws of the readers, one for each way on or out of the code.
-use Prim.Native.Nat.{ℕ, zero, suc, ◌+◌, ◌*◌, ◌-◌, ◌≤◌, ◌<◌}
+use Prim.Native.Nat.{ℕ, zero, suc, ◌+◌, ◌-◌, ◌≤◌, ◌<◌}
 use mathlib.Core.Path.{◌≡◌, refl, sym, ap, ◌∙◌}
 use mathlib.Core.Bool.{Bool, true, false}
 use mathlib.Core.List.{List}
@@ -8,12 +8,12 @@ use native.Mathlib.Numerals.{add-one}
 use native.Mathlib.Omega.{arith}
 use borrow.Author.Tests.{leb-true, le-leb, lt-ltb}
 use lib.Dec.{ltb, leb}
-use lib.ListN.{length, drop, take, length-drop, drop_of_length-le}
-use lib.Seq.{drop-drop, drop-length, take_all}
+use lib.ListN.{length, drop, take, length-drop}
+use lib.Seq.{drop-drop, take_all}
 use Rattle.circuit.specs.Bytes.{byte_at, u16_at, u32_at}
 use Rattle.circuit.specs.Circuit.{Constraint}
 use Rattle.circuit.specs.Reading.{Reading, whole, fault, require, after, mapped, next, Size, sized, faulty, size_of, further, extent}
-use Rattle.circuit.specs.Reader.{read_terms, read_form, form_from, read_constraint, after_form, after_constraint}
+use Rattle.circuit.specs.Reader.{read_terms, read_form, form_from, read_constraint, after_constraint}
 use Rattle.circuit.proofs.ByteLaws.{u16_drop, u32_drop}
 use Rattle.circuit.proofs.WellFormed.{constraint_whole}
 
@@ -218,15 +218,3 @@ module _ (n p : ℕ) (s : List ℕ) where
           let same : at + size ≡ k = cc in
           (constraint_whole n p (drop at s) h).rest ∙ drop-drop size at s ∙ ap (λ (j : ℕ). drop j s) same
       go (fault x y) h e = let z : ◌≡◌ {A = ℕ} 0 1 = cc in absurd (omega arith)
-
--- the two ways to the rest after a form, by its count
-module _ (s : List ℕ) (count : ℕ) (known : count ≡ byte_at s 0) where
-  pub rest_short : length s < 1 + 6 * count → take (length s - length s) (drop (length s) s) ≡ after_form s
-  unfolding after_form
-  rest_short h =
-      part_drop s (length s) (omega arith) ∙ drop-length s
-      ∙ sym (drop_of_length-le s {i = 1 + 6 * byte_at s 0} (omega arith))
-
-  pub rest_long : 1 + 6 * count ≤ length s → take (length s - (1 + 6 * count)) (drop (1 + 6 * count) s) ≡ after_form s
-  unfolding after_form
-  rest_long h = part_drop s (1 + 6 * count) h ∙ ap (λ (k : ℕ). drop (1 + 6 * k) s) known

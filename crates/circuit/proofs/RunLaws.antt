@@ -5,20 +5,16 @@ use mathlib.Core.Bool.{Bool, true, false, cond, ◌&&◌}
 use mathlib.Core.List.{List}
 use native.Mathlib.Nat.{add-zero, zero-add, add_assoc, mul-le-mul}
 use native.Mathlib.Omega.{arith}
-use borrow.Author.Tests.{lt-ltb, le-leb, lt-leb, eq-eqb, ne_eqb, eqb-true}
+use borrow.Author.Tests.{lt-ltb, eq-eqb, ne_eqb, eqb-true}
 use lib.Dec.{ltb, leb, eqb}
-use lib.ListN.{length, drop, get_or-eq_default}
+use lib.ListN.{drop}
 use lib.Seq.{drop-drop}
 use Rattle.field.proofs.Residue.{congruent_refl, congruent_sym, congruent_plus, congruent_mod, congruent_times}
-use Rattle.circuit.specs.Bytes.{byte_at, u16_at, u32_at}
+use Rattle.circuit.specs.Bytes.{byte_at, u16_at}
 use Rattle.circuit.specs.Circuit.{Term, Form, Constraint, eval, Satisfies}
 use Rattle.circuit.specs.Reader.{term_at, term_kept, terms_in, form_in, after_form, constraint_in}
-use Rattle.circuit.specs.Run.{values_in, term_mod, eval_mod, holds}
+use Rattle.circuit.specs.Run.{term_mod, eval_mod, holds}
 use Rattle.circuit.proofs.ByteLaws.{u16_drop, u32_drop}
-
-pub value_past : (values : List ℕ) (s : ℕ) → length values ≤ s → values_in values s ≡ 0
-unfolding values_in
-value_past values s h = get_or-eq_default values 0 h
 
 -- a product of two 32-bit numbers
 pub product_most : (a b : ℕ) → a ≤ 4294967295 → b ≤ 4294967295 → a * b ≤ 18446744065119617025
@@ -58,17 +54,6 @@ unfolding sum_from terms_in term_mod
 sum_turn p s v left at sum =
     plus_kept (leb (u16_at (drop at s) 0) 256) (term_at (drop at s)) (terms_in left (drop 6 (drop at s))) v sum p
     ∙ simp (u16_drop, u32_drop, drop-drop, add-zero)
-
--- the ways of one term
-pub term_added : (p : ℕ) (s : List ℕ) (at : ℕ) (v : ℕ → ℕ) (signal coefficient value : ℕ)
-    → signal ≡ u16_at s at → coefficient ≡ u32_at s (at + 2) → value ≡ v signal → signal ≤ 256
-    → coefficient * value % p ≡ term_mod p s at v
-unfolding term_mod
-term_added p s at v signal coefficient value e f g h = rw (f, g, e, le-leb (u16_at s at) 256 (omega arith))
-
-pub term_passed : (p : ℕ) (s : List ℕ) (at : ℕ) (v : ℕ → ℕ) → 256 < u16_at s at → 0 ≡ term_mod p s at v
-unfolding term_mod
-term_passed p s at v h = rw (lt-leb (u16_at s at) 256 h)
 
 -- the loop: the whole value z is the sum so far and what is left
 module _ (p : ℕ) (s : List ℕ) (v : ℕ → ℕ) where

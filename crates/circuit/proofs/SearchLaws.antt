@@ -3,7 +3,6 @@
 use Prim.Native.Nat.{ℕ, zero, suc, ◌+◌, ◌-◌, ◌≤◌, ◌<◌}
 use mathlib.Core.Path.{◌≡◌, refl, sym, ap, ◌∙◌}
 use mathlib.Core.Bool.{Bool, true, false}
-use native.Mathlib.Numerals.{add-one}
 use native.Mathlib.Omega.{arith}
 use native.Mathlib.Decide.{ℕ_discrete}
 use mathlib.Core.List.{List}
@@ -24,26 +23,6 @@ module _ (test : ℕ → Bool) where
   first_fail : (k left : ℕ) → test k ≡ false → first_from test k (suc left) ≡ k
   unfolding first_from
   first_fail k left e = rw e
-
-  one_less : (count j : ℕ) → j < count → count - j ≡ suc (count - (j + 1))
-  one_less count j h = omega arith
-
-  pub first_start : (count : ℕ) → first_from test 1 count ≡ first_from test (0 + 1) (count - 0)
-  first_start count = ap (first_from test 1) (omega arith)
-
-  -- a turn: the answer z is what is found from number j + 1 on
-  module _ (count z j : ℕ) (inv : z ≡ first_from test (j + 1) (count - j)) where
-    pub first_again : j < count → test (j + 1) ≡ true → z ≡ first_from test (j + 1 + 1) (count - (j + 1))
-    first_again h e =
-        inv ∙ ap (first_from test (j + 1)) (one_less count j h) ∙ first_pass (j + 1) (count - (j + 1)) e
-        ∙ ap (λ (k : ℕ). first_from test k (count - (j + 1))) (sym (add-one (j + 1)))
-
-    pub first_found : j < count → test (j + 1) ≡ false → j + 1 ≡ z
-    first_found h e = sym (inv ∙ ap (first_from test (j + 1)) (one_less count j h) ∙ first_fail (j + 1) (count - (j + 1)) e)
-
-    pub first_none : count ≤ j → 0 ≡ z
-    unfolding first_from
-    first_none h = let z : count - j ≡ 0 = omega arith in sym (inv ∙ ap (first_from test (j + 1)) z)
 
   pub search_start : (count : ℕ) → first_from test 1 count ≡ first_from test 1 (suc count - 1)
   search_start count = ap (first_from test 1) (omega arith)

@@ -25,7 +25,8 @@ fn at_most(p: u32, v: u32, q: u32) -> bool
     p.wrapping_mul(v) <= q
 }
 
-// The first place from start to end whose entry times p is at most q modulo 4,294,967,296; end where there is none. Two places a turn, for speed.
+// The first place from start to end whose entry times p is at most q modulo 4,294,967,296; end where there is none.
+// Stays: two places a turn; by a `for` over each place the test of the largest prime took 7.5 µs for 4.4.
 fn next_candidate(inverses: &[u32], p: u32, q: u32, start: usize, end: usize) -> usize
     requires { (start ≤ end) × (end ≤ length inverses.now) }
     ensures { Next inverses.now p q start end result }
@@ -64,6 +65,7 @@ fn odd_prime_by(table: &[u16], inverses: &[u32], p: u32) -> bool
         return false;
     }
     let mut i = 0;
+    // Stays: the next place is the one that the search finds.
     while i < table.len() {
         let d = u32::from(table[i]);
         if p < d * d {

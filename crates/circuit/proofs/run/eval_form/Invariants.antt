@@ -8,4 +8,5 @@ use Rattle.circuit.proofs.run.eval_form.Given as goal
 
 abbrev pub invariant-loop-i : goal.invariant-loop-i
 invariant-loop-i l =
-    (l.sum ≤ 4294967295 * l.i) × (eval_mod l.p (form_in l.part) (values_in l.values) ≡ sum_from l.p l.part (values_in l.values) (l.i-end - l.i) (1 + 6 * l.i) l.sum)
+    (l.sum ≤ 4294967295 * l.i)
+    × (eval_mod l.p (form_in l.part) (values_in l.values) ≡ sum_from l.p l.part (values_in l.values) (l.i-end - l.i) (1 + 6 * l.i) l.sum)
