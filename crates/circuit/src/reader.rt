@@ -25,11 +25,11 @@ const TERMS_MOST: u32 = 32;
 pub(crate) const TERM_SIZE: usize = 6;
 
 // A file's mark: its letter, C for a circuit, then Q and T.
-const CIRCUIT_LETTER: u32 = 67;
+const CIRCUIT_LETTER: u32 = b'C' as u32;
 
-const LETTER_Q: u32 = 81;
+const LETTER_Q: u32 = b'Q' as u32;
 
-const LETTER_T: u32 = 84;
+const LETTER_T: u32 = b'T' as u32;
 
 // The header's numbers: the prime, how many signals, inputs, outputs and constraints there are.
 #[derive(Clone, Copy, Debug, PartialEq, Eq)]
@@ -42,7 +42,7 @@ pub struct Sizes {
 }
 
 // The call's answer: a refusal's number and place, or the header's numbers.
-#[derive(Clone, Copy)]
+#[derive(Clone, Copy, Debug, PartialEq, Eq)]
 pub enum CircuitAnswer {
     Refused { number: u32, place: usize },
     Sizes(Sizes),
