@@ -57,13 +57,9 @@ sum_turn p s v left at sum =
 
 -- the loop: the whole value z is the sum so far and what is left
 module _ (p : ℕ) (s : List ℕ) (v : ℕ → ℕ) where
-  pub sum_zero : p ≡ 0 → 0 ≡ eval_mod p (form_in s) v
-  unfolding eval_mod
-  sum_zero h = rw h
-
-  pub sum_start : (count : ℕ) → count ≡ byte_at s 0 → (p ≡ 0 → ⊥) → eval_mod p (form_in s) v ≡ sum_from p s v (count - 0) 1 0
+  pub sum_start : (count : ℕ) → count ≡ byte_at s 0 → 0 < p → eval_mod p (form_in s) v ≡ sum_from p s v (count - 0) 1 0
   unfolding eval_mod form_in sum_from
-  sum_start count e h = let all : count - 0 ≡ byte_at s 0 = omega (arith, e) in rw (ne_eqb p 0 h, all, zero-add)
+  sum_start count e h = let all : count - 0 ≡ byte_at s 0 = omega (arith, e) in rw (ne_eqb p 0 (λ z. omega arith), all, zero-add)
 
   pub sum_again : (z count i sum x : ℕ) → z ≡ sum_from p s v (count - i) (1 + 6 * i) sum → i < count → x ≡ term_mod p s (1 + 6 * i) v
       → z ≡ sum_from p s v (count - (i + 1)) (1 + 6 * (i + 1)) (sum + x)

@@ -42,6 +42,7 @@ pub struct Sizes {
 }
 
 // The call's answer: a refusal's number and place, or the header's numbers.
+// Stays: the form that docs/DECISIONS.md names, one enum for each call.
 #[derive(Clone, Copy, Debug, PartialEq, Eq)]
 pub enum CircuitAnswer {
     Refused { number: u32, place: usize },

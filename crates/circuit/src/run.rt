@@ -30,13 +30,11 @@ fn term_at(part: &[u8], at: usize, values: &[u32], p: u32) -> u32
     (coefficient * value % u64::from(p)) as u32
 }
 
-// The value of a form modulo p; 0 where p is 0. No term waits for the remainder of the one before it.
+// The value of a form modulo p. No term waits for the remainder of the one before it.
 fn eval_form(part: &[u8], values: &[u32], p: u32) -> u32
+    requires { 0 < p }
     ensures { result ≡ eval_mod p (form_in part.now) (values_in values.now) }
 {
-    if p == 0 {
-        return 0;
-    }
     let mut sum: u64 = 0;
     for i in 0..byte_at(part, 0) as usize {
         sum += u64::from(term_at(part, 1 + TERM_SIZE * i, values, p));

@@ -3,6 +3,7 @@ ghost use Rattle.std.specs.Prelude.{◌≡◌};
 ghost use Rattle.field.specs.Inverse as specs;
 
 // The inverse of c modulo p, 0 where there is none.
+// Stays: every caller goes on with the number as a residue, 0 too, so an Option would only be taken off again.
 pub fn inverse(p: u32, c: u32) -> u32
     ensures algorithm { result ≡ specs.inverse p c }
     ensures meaning { specs.TheInverse p c result }
@@ -15,6 +16,7 @@ pub fn inverse(p: u32, c: u32) -> u32
     let mut s = 0;
     let mut t = 1;
     let mut even = true;
+    // Stays: Euclid's loop ends by what it finds.
     while 1 < b {
         let r = a % b;
         let u = s + a / b * t;

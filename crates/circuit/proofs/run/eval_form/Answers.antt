@@ -4,11 +4,8 @@ use native.Mathlib.Omega.{arith}
 use Rattle.circuit.proofs.RunLaws as laws
 use Rattle.circuit.proofs.run.eval_form.Goals as goal
 
-pub returns-then-p-eq0 : goal.returns-then-p-eq0
-returns-then-p-eq0 c = laws.sum_zero _ _ _ c.if-p-eq0.true
-
 pub loop-i-init : goal.loop-i-init
-loop-i-init c = (omega arith, laws.sum_start _ _ _ _ c.byte_at-i-end.ensures.0 c.if-p-eq0.false)
+loop-i-init c = (omega arith, laws.sum_start _ _ _ _ c.byte_at-i-end.ensures.0 c.requires)
 
 pub loop-i-preserved : goal.loop-i-preserved
 loop-i-preserved c = (
