@@ -1,7 +1,7 @@
 -- Laws of the readers, one for each way on or out of the code.
 use Prim.Native.Nat.{ℕ, zero, suc, ◌+◌, ◌-◌, ◌≤◌, ◌<◌}
 use mathlib.Core.Path.{◌≡◌, refl, sym, ap, ◌∙◌}
-use mathlib.Core.Bool.{Bool, true, false}
+use mathlib.Core.Bool.{Bool, true, false, ◌&&◌}
 use mathlib.Core.List.{List}
 use native.Mathlib.Nat.{add-zero, zero-add, add_assoc}
 use native.Mathlib.Numerals.{add-one}
@@ -47,6 +47,15 @@ pub further_require : {A : Type 0} (at : ℕ) (b : Bool) (number : ℕ) (r : Rea
     → further at (size_of (require b number r)) ≡ ask_size b number at (further at (size_of r))
 further_require at true number r = refl
 further_require at false number r = ap (faulty number) (add-zero at)
+
+-- a coefficient that is out of range
+out_by : (a b : Bool) (at : ℕ) (z : Size) → (a && b) ≡ false → ask_size a 9 at (ask_size b 9 at z) ≡ faulty 9 at
+out_by true true at z e = let z : ◌≡◌ {A = ℕ} 0 1 = cc in absurd (omega arith)
+out_by true false at z e = refl
+out_by false b at z e = refl
+
+pub coefficient_out : (x p at : ℕ) (z : Size) → (ltb 0 x && ltb x p) ≡ false → ask_size (ltb 0 x) 9 at (ask_size (ltb x p) 9 at z) ≡ faulty 9 at
+coefficient_out x p at z e = out_by (ltb 0 x) (ltb x p) at z e
 
 terms_done : (n p : ℕ) (s : List ℕ) (at least : ℕ) → terms_from n p s 0 at least ≡ sized at
 unfolding terms_from read_terms
@@ -97,6 +106,12 @@ module _ {n p : ℕ} {s : List ℕ} {count i at least : ℕ} (T : Terms n p s co
     term_turn =
         let more : count - i ≡ suc (count - (i + 1)) = omega arith in
         T.answer ∙ ap (λ (k : ℕ). terms_from n p s k at least) more ∙ terms_turn n p s (count - (i + 1)) at least
+
+    -- a signal that passes its tests leaves those of the coefficient
+    pub term_signal : {signal : ℕ} → 6 ≤ length s - at → signal ≡ u16_at s at → signal ≤ n → least ≤ signal → size_of (read_form n p s)
+        ≡ ask_size (ltb 0 (u32_at s (at + 2))) 9 at
+        (ask_size (ltb (u32_at s (at + 2)) p) 9 at (terms_from n p s (count - (i + 1)) (at + 6) (suc signal)))
+    term_signal fits known low rises = term_turn ∙ rw (le-leb _ _ fits, ← known, le-leb _ _ low, le-leb _ _ rises)
 
     pub term_again : (signal coefficient : ℕ) → 6 ≤ length s - at → signal ≡ u16_at s at → signal ≤ n → least ≤ signal
         → coefficient ≡ u32_at s (at + 2) → (coefficient ≡ 0 → ⊥) → coefficient < p → Terms n p s count (i + 1) (at + 6) (signal + 1)

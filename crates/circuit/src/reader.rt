@@ -64,14 +64,14 @@ fn check_form(part: &[u8], n: u32, p: u32) -> Result<usize, Refusal>
     let mut at: usize = 1;
     let mut least: u32 = 0;
     for _ in 0..count {
-        if part.len() - at < TERM_SIZE {
+        let Some(term) = part.get(at..at + TERM_SIZE) else {
             return Err(Reason::EndsEarly.at(at));
-        }
-        let signal = u16_at(part, at);
+        };
+        let signal = u16_at(term, 0);
         if !(least..=n).contains(&signal) {
             return Err(Reason::SignalNumber.at(at));
         }
-        let coefficient = u32_at(part, at + 2);
+        let coefficient = u32_at(term, 2);
         if !(1..p).contains(&coefficient) {
             return Err(Reason::Coefficient.at(at));
         }
