@@ -1,5 +1,6 @@
 pub mod TagLaws
+pub mod FindLaws
 pub mod SheetLaws
 pub mod ShownLaws
-pub mod Tagged
+pub mod TaggedLaws
 pub mod Empty

@@ -1,128 +1,39 @@
 -- Laws of the sheet in bytes: an entry by what is read of it, the way past each refusal, and that a sheet that isn't refused fits.
-use Prim.Native.Nat.{ℕ, ◌+◌, ◌*◌, ◌≤◌, ◌<◌, min}
-use mathlib.Core.Path.{◌≡◌, refl, sym, ap, ◌∙◌}
-use mathlib.Core.Bool.{Bool, true, false, ◌&&◌}
+use Prim.Native.Nat.{ℕ, ◌+◌, ◌*◌, ◌≤◌}
+use mathlib.Core.Path.{◌≡◌, sym, ◌∙◌}
+use mathlib.Core.Bool.{true, ◌&&◌}
 use mathlib.Core.List.{List}
-use mathlib.Core.Option.{Option, none, some}
+use Rattle.std.specs.Prelude.{Option, None, Some}
 use native.Mathlib.Omega.{arith}
-use borrow.Author.Tests.{le-leb, lt-leb, leb-true}
+use borrow.Author.Tests.{leb-true}
 use lib.Dec.{leb, eqb}
 use lib.ListN.{length}
-use Rattle.circuit.specs.Bytes.{byte_at, u16_at, u32_at}
+use Rattle.circuit.specs.Bytes.{u16_at}
 use Rattle.circuit.specs.Circuit.{Circuit}
-use Rattle.circuit.specs.Reader.{has_mark}
+use Rattle.circuit.specs.Reader.{has_mark, read_circuit}
 use Rattle.circuit.specs.Runs.{first_from}
-use Rattle.circuit.specs.Answer.{Answer, refused, given}
-use Rattle.circuit.specs.Call.{sizes_of, circuit_of, Sized}
+use Rattle.circuit.specs.Reading.{Reading, whole, fault}
+use Rattle.circuit.specs.Answer.{Answer, refused, given, and_then}
+use Rattle.circuit.specs.Call.{sizes_of, on_circuit, circuit_call, circuit_of, Sized}
 use Rattle.circuit.specs.declared.reader.Sizes.{Sizes}
-use Rattle.circuit.proofs.Sized.{sizes_are}
-use Rattle.circuit.proofs.AnswerLaws.{ask_given, none_given, ask_here}
+use Rattle.circuit.proofs.Sized.{on_sized, sizes_are, call_sized, on_refused}
+use Rattle.circuit.proofs.AnswerLaws.{ask_given, none_given}
 use Rattle.circuit.proofs.SearchLaws.{passed}
 use Rattle.laws.specs.Step.{within}
 use Rattle.laws.proofs.Sum.{and_left, and_right}
-use Rattle.tags.specs.Tag.{Kind, Tag, limit, number_fits, Sheet}
-use Rattle.tags.specs.Sheet.{
-  sheet_letter,
-  entries_most,
-  kind_of,
-  of_kind,
-  read_tag,
-  or_none,
-  tag_in,
-  sheet_of,
-  fits_as,
-  entry_fits,
-  framed,
-  sheet_on,
-  Fitting,
-  FittingAnswer,
-  Unrefused,
-}
-use Rattle.tags.specs.Answer.{fits_kind, signal_of, limit_of, number_most, LimitedBy}
-use Rattle.tags.specs.declared.sheet.Limited.{Limited}
+use Rattle.tags.specs.Tag.{Tag, number_fits, Sheet}
+use Rattle.tags.specs.Tagged.{on_tagged, tagged_call}
+use Rattle.tags.specs.Sheet.{sheet_letter, entries_most, read_tag, no_tag, or_none, tag_in, sheet_of, fits_as, entry_fits, framed, sheet_on, Fitting, FittingAnswer, Unrefused}
 
--- One entry
+-- One entry, by what is read of it
 
--- the fields of entry k
-pub record Fields (h : List ℕ) (k : ℕ) (kind : Option Kind) (signal number : ℕ) : Type 0 where
-  pub is_kind : kind ≡ kind_of (byte_at h (7 * k + 2))
-  pub is_signal : signal ≡ u16_at h (7 * k)
-  pub is_number : number ≡ u32_at h (7 * k + 3)
+pub tag_known : (h : List ℕ) (k : ℕ) {t : Tag} → Some t ≡ read_tag h k → tag_in h k ≡ t
+unfolding tag_in
+tag_known h k e = rw (sym e)
 
-signal_kind : (kind : Option Kind) (signal number : ℕ) → (or_none (of_kind kind signal number)).signal ≡ signal_of kind signal
-signal_kind none signal number = refl
-signal_kind (some kind) signal number = refl
-
--- as the code finds them, from where the entry starts
-pub fields : {h : List ℕ} {k start byte : ℕ} {kind : Option Kind} {signal number : ℕ} → start ≡ 7 * k → kind ≡ kind_of byte
-    → byte ≡ byte_at h (start + 2) → signal ≡ u16_at h start → number ≡ u32_at h (start + 3) → Fields h k kind signal number
-fields {h} es ek eb ei en =
-    record { is_kind = ek ∙ ap kind_of (eb ∙ rw es); is_signal = ei ∙ rw es; is_number = en ∙ rw es }
-
-limit_kind : (kind : Option Kind) (signal number : ℕ) → limit (or_none (of_kind kind signal number)) ≡ limit_of kind number
-unfolding limit
-limit_kind none signal number = refl
-limit_kind (some kind) signal number = refl
-
-fits_kind_lem : (n p : ℕ) (kind : Option Kind) (signal number : ℕ)
-    → fits_as n p (of_kind kind signal number) ≡ within n signal && fits_kind p kind number
-fits_kind_lem n p none signal number = sym (and-false (within n signal))
-  where
-    and-false : (b : Bool) → b && false ≡ false
-    and-false true = refl
-    and-false false = refl
-fits_kind_lem n p (some kind) signal number = refl
-
-module _ {h : List ℕ} {k : ℕ} {kind : Option Kind} {signal number : ℕ} (F : Fields h k kind signal number) where
-  read_fields : read_tag h k ≡ of_kind kind signal number
-  unfolding read_tag
-  read_fields = rw (F.is_kind, F.is_signal, F.is_number)
-
-  pub entry_limit : {x : Limited} → x.signal ≡ signal_of kind signal → x.limit ≡ min (limit_of kind number) number_most → LimitedBy (tag_in h k) x
-  unfolding tag_in
-  entry_limit es el =
-      record {
-        signal = es ∙ rw read_fields (sym (signal_kind kind signal number));
-        limit = el ∙ ap (λ (x : ℕ). min x number_most) (rw read_fields (sym (limit_kind kind signal number)));
-      }
-
-  pub entry_fits_lem : (n p : ℕ) → entry_fits n p h k ≡ within n signal && fits_kind p kind number
-  unfolding entry_fits
-  entry_fits_lem n p = ap (fits_as n p) read_fields ∙ fits_kind_lem n p kind signal number
-
-  pub entry_within : (n p : ℕ) → 1 ≤ signal → signal ≤ n → fits_kind p kind number ≡ entry_fits n p h k
-  unfolding within
-  entry_within n p l m = sym (entry_fits_lem n p ∙ rw (le-leb 1 signal l, le-leb signal n m))
-
--- a signal that isn't 1 to n
-pub entry_outside : (h : List ℕ) (n p k : ℕ) {start signal : ℕ} → start ≡ 7 * k → signal ≡ u16_at h start → within n signal ≡ false
-    → false ≡ entry_fits n p h k
-entry_outside h n p k es ei out = sym (entry_fits_lem (fields es refl refl ei refl) n p ∙ rw out)
-
-pub below_signals : (n signal : ℕ) → signal < 1 → within n signal ≡ false
-unfolding within
-below_signals n signal h = rw (lt-leb 1 signal h)
-
-pub above_signals : (n signal : ℕ) → 1 ≤ signal → n < signal → within n signal ≡ false
-unfolding within
-above_signals n signal l h = rw (le-leb 1 signal l, lt-leb signal n h)
-
--- The refusals
-
-module _ (z : Sizes) (h : List ℕ) where
-  -- the answer of the check, by what its tests find
-  pub frame_refused : framed h ≡ false → refused 26 0 ≡ sheet_on z h
-  unfolding sheet_on
-  frame_refused e = sym (rw e)
-
-  module _ (e : framed h ≡ true) {count wrong : ℕ} (is-count : count ≡ u16_at h 5) (found : wrong ≡ first_from (entry_fits z.n z.p h) 1 count) where
-    pub entry_refused : (wrong ≡ 0 → ⊥) → refused 27 wrong ≡ sheet_on z h
-    unfolding sheet_on
-    entry_refused some-wrong = sym (rw (e, ← is-count, ← found) (ask_here wrong 27 (given (sheet_of h)) some-wrong))
-
-    pub sheet_whole : wrong ≡ 0 → given (sheet_of h) ≡ sheet_on z h
-    unfolding sheet_on
-    sheet_whole none_wrong = sym (rw (e, ← is-count, ← found, none_wrong))
+pub tag_unknown : (h : List ℕ) (k : ℕ) → None ≡ read_tag h k → tag_in h k ≡ no_tag
+unfolding tag_in
+tag_unknown h k e = rw (sym e)
 
 -- A sheet that isn't refused fits
 
@@ -143,8 +54,8 @@ sheet_given z h e =
 
 fits_says : (n p : ℕ) (o : Option Tag) → fits_as n p o ≡ true
     → (within n (or_none o).signal ≡ true) × (number_fits p (or_none o).kind (or_none o).number ≡ true)
-fits_says n p none e = let z : ◌≡◌ {A = ℕ} 0 1 = cc in absurd (omega arith)
-fits_says n p (some t) e = (and_left (within n t.signal) _ e, and_right (within n t.signal) _ e)
+fits_says n p None e = let z : ◌≡◌ {A = ℕ} 0 1 = cc in absurd (omega arith)
+fits_says n p (Some t) e = (and_left (within n t.signal) _ e, and_right (within n t.signal) _ e)
 
 pub sheet_fitting : (z : Sizes) (h : List ℕ) → FittingAnswer z (sheet_on z h)
 unfolding sheet_of tag_in entry_fits
@@ -158,10 +69,6 @@ sheet_fitting z h T e =
       signals = λ k l m. (fits_says z.n z.p (read_tag h k) (each k l m)).0;
       numbers = λ k l m. (fits_says z.n z.p (read_tag h k) (each k l m)).1;
     })
-
--- both clauses of the check, from the first
-pub sheet_checked : (z : Sizes) (h : List ℕ) (r : Answer Sheet) → r ≡ sheet_on z h → (r ≡ sheet_on z h) × FittingAnswer z r
-sheet_checked z h r e = (e, rw e (sheet_fitting z h))
 
 -- A circuit and a sheet that aren't refused
 
@@ -178,6 +85,46 @@ module _ {c h : List ℕ} {C : Circuit} {T : Sheet} (U : Unrefused c h C T) wher
 
 pub sized_unrefused : {c h : List ℕ} {z : Sizes} → Sized c z → sheet_on z h ≡ given (sheet_of h) → Unrefused c h (circuit_of c) (sheet_of h)
 sized_unrefused Z e = record { size = _; read = Z.read; sheeted = rw (sizes_are Z) at e }
+
+-- Each call on a circuit and a sheet, by what reading them finds: neither is refused ..
+module _ (c h : List ℕ) {z : Sizes} (read : circuit_call c ≡ given z) (fits : sheet_on z h ≡ given (sheet_of h)) where
+  pub tagged_unrefused : Unrefused c h (circuit_of c) (sheet_of h)
+  tagged_unrefused = sized_unrefused (call_sized read) fits
+
+  pub tagged_given : {A : Type 0} (f : Circuit → Sheet → Answer A) → on_tagged c h f ≡ f (circuit_of c) (sheet_of h)
+  tagged_given f = on_sized _ (call_sized read) ∙ rw tagged_unrefused.sheeted
+
+-- .. or one is, and then each call on them is refused alike
+pub tagged_refused : {A : Type 0} (c h : List ℕ) {number place : ℕ} (f : Circuit → Sheet → Answer A) → refused number place ≡ tagged_call c h
+    → refused number place ≡ on_tagged c h f
+unfolding tagged_call
+tagged_refused {A} c h {number} {place} f e = go (read_circuit c) e
+  where
+    alike : (r : Answer Sheet) (g : Sheet → Answer A) → refused number place ≡ r → refused number place ≡ and_then r g
+    alike (refused x y) g e =
+        let same_number : number ≡ x = cc in
+        let same_place : place ≡ y = cc in
+        rw (same_number, same_place)
+    alike (given T) g e = let z : ◌≡◌ {A = ℕ} 0 1 = cc in absurd (omega arith)
+
+    go : (r : Reading Circuit) → refused number place ≡ on_circuit r (λ C. sheet_on (sizes_of C) h)
+        → refused number place ≡ on_circuit r (λ C. and_then (sheet_on (sizes_of C) h) (f C))
+    go (whole C size) e = alike (sheet_on (sizes_of C) h) (f C) e
+    go (fault x y) e =
+        let same_number : number ≡ x = cc in
+        let same_place : place ≡ y = cc in
+        rw (same_number, same_place)
+
+-- reading them, by the circuit's answer and the sheet's
+module _ (c h : List ℕ) where
+  pub circuit_out : {number place : ℕ} → refused number place ≡ circuit_call c → refused number place ≡ tagged_call c h
+  unfolding tagged_call
+  circuit_out e = on_refused c _ e
+
+  pub sheet_answer : {z : Sizes} {r : Answer Sheet} → given z ≡ circuit_call c → r ≡ sheet_on z h → r ≡ tagged_call c h
+  unfolding tagged_call
+  sheet_answer read e =
+      let Z = call_sized (sym read) in e ∙ rw (sizes_are Z) (sym (on_sized _ Z))
 
 -- the signal of a tag that fits is 1 to n
 pub tag_signal : {n p : ℕ} {T : Sheet} → Fitting n p T → (k : ℕ) → 1 ≤ k → k ≤ T.count → (1 ≤ (T.tag k).signal) × ((T.tag k).signal ≤ n)

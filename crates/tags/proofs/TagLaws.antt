@@ -1,11 +1,11 @@
 -- Laws of tags: a value obeys a tag exactly if it is within the limit, for all kinds at once; least limits, and tests by the limits of all tags.
-use Prim.Native.Nat.{ℕ, zero, suc, ◌+◌, ◌-◌, ◌^◌, ◌%◌, ◌*◌, ◌≤◌, ◌<◌, min}
-use mathlib.Core.Path.{◌≡◌, refl, sym, ap, ◌∙◌}
+use Prim.Native.Nat.{ℕ, zero, suc, ◌-◌, ◌^◌, ◌%◌, ◌*◌, ◌≤◌, ◌<◌, min}
+use mathlib.Core.Path.{◌≡◌, refl, sym, ◌∙◌}
 use mathlib.Core.Bool.{Bool, true, false, cond, ◌&&◌}
 use mathlib.Core.List.{List}
 use mathlib.Core.Logic.{inl, inr}
-use native.Mathlib.Nat.{mod-eq_of_lt, pow-le-pow_right, one-le-pow}
-use native.Mathlib.Numerals.{add-one}
+use native.Mathlib.Nat.{pow-le-pow_right, one-le-pow}
+use Rattle.std.proofs.lemmas.Nat.{one_shl}
 use native.Mathlib.Omega.{arith}
 use native.Mathlib.Decide.{dec_le, ℕ_discrete}
 use borrow.Author.Tests.{le-leb, lt-leb, leb-true, eq-eqb, ne_eqb, eqb-true}
@@ -17,8 +17,7 @@ use Rattle.laws.specs.Sum.{implies}
 use Rattle.laws.specs.Standing.{is_input}
 use Rattle.laws.proofs.Sum.{and_left, and_right}
 use Rattle.tags.specs.Tag.{Kind, Binary, Maxbit, Maxvalue, Tag, Allows, limit_by, limit, Obeys, Sheet, least_of, lowered, keeps, kept}
-use Rattle.tags.specs.Answer.{number_most, LimitedBy, LoweredBy, Lowered}
-use Rattle.tags.specs.declared.sheet.Limited.{Limited}
+use Rattle.tags.specs.Answer.{number_most, LoweredBy, Lowered}
 
 -- Limits
 
@@ -41,20 +40,22 @@ obeys_exactly t x = (within_limit t.kind t.number x, limit_allows t.kind t.numbe
 
 -- Powers of 2 in 32 bits
 
-pub power_large : (v : ℕ) → 32 ≤ v → number_most ≡ min (2 ^ v - 1) number_most
-power_large v h = let g : 4294967296 ≤ 2 ^ v = pow-le-pow_right {n = 2} (omega arith) h in omega arith
+-- the largest number of so many bits, as it is shifted
+pub largest_shifted : (bits : ℕ) → 1 * 2 ^ min bits 32 % 2 ^ 64 - 1 ≡ min (2 ^ bits - 1) number_most
+largest_shifted bits = go (dec_le bits 32)
+  where
+    shifted : (v : ℕ) → v ≤ 32 → 1 * 2 ^ v % 2 ^ 64 ≡ 2 ^ v
+    shifted v h = one_shl v 64 (omega arith)
 
--- a power of 2 as it is shifted
-pub record Shifted (v : ℕ) : Type 0 where
-  pub is : 1 * 2 ^ v % 2 ^ 64 ≡ 2 ^ v
-  pub least : 1 ≤ 2 ^ v
-  pub most : 2 ^ v ≤ 2147483648
-
-pub shifted : (v : ℕ) → v < 32 → Shifted v
-shifted v h =
-    let g : 2 ^ v ≤ 2147483648 = pow-le-pow_right {n = 2} (omega arith) {i = v} {j = 31} (omega arith) in
-    let same : 1 * 2 ^ v ≡ 2 ^ v = omega arith in
-    record { is = ap (λ (x : ℕ). x % 2 ^ 64) same ∙ mod-eq_of_lt (omega arith); least = one-le-pow v 2 (omega arith); most = g }
+    go : Dec (bits ≤ 32) → 1 * 2 ^ min bits 32 % 2 ^ 64 - 1 ≡ min (2 ^ bits - 1) number_most
+    go (yes h) =
+        let small : min bits 32 ≡ bits = omega arith in
+        let most : 2 ^ bits ≤ 4294967296 = pow-le-pow_right {n = 2} (omega arith) h in
+        rw (small, shifted bits h) (omega arith)
+    go (no h) =
+        let large : min bits 32 ≡ 32 = omega arith in
+        let least : 4294967296 ≤ 2 ^ bits = pow-le-pow_right {n = 2} (omega arith) {i = 32} {j = bits} (omega arith) in
+        rw (large) (omega arith)
 
 -- Least limits
 
@@ -79,23 +80,24 @@ lower_none {i} {t} {before} h = record { sized = refl; each = λ s l. go s l (is
     go s l true e false f = refl
     go s l false e c f = refl
 
-pub lower_set : {i value : ℕ} {t : Tag} {x : Limited} {before : List ℕ} → LimitedBy t x → 1 ≤ x.signal → x.signal ≤ i → x.signal < length before
-    → x.limit < value → value ≤ number_most → value ≡ values_in before x.signal → LoweredBy i t before (set before x.signal x.limit)
+pub lower_set : {i : ℕ} {t : Tag} {before : List ℕ} (least : ℕ) → 1 ≤ t.signal → t.signal ≤ i → t.signal < length before
+    → values_in before t.signal ≤ number_most → least ≡ min (values_in before t.signal) (min (limit t) number_most)
+    → LoweredBy i t before (set before t.signal least)
 unfolding is_input values_in
-lower_set {i} {value} {t} {x} {before} L l m inside less small is =
-    record { sized = length-set before x.signal x.limit; each = λ s h. go s (ℕ_discrete s x.signal) }
+lower_set {i} {t} {before} least l m inside small is =
+    record { sized = length-set before t.signal least; each = λ s h. go s (ℕ_discrete s t.signal) }
   where
     off : (b : Bool) (y z : ℕ) → z ≡ cond (b && false) y z
     off true y z = refl
     off false y z = refl
 
-    go : (s : ℕ) → Dec (s ≡ x.signal) → values_in (set before x.signal x.limit) s
+    go : (s : ℕ) → Dec (s ≡ t.signal) → values_in (set before t.signal least) s
         ≡ cond (is_input i s && eqb t.signal s) (min (values_in before s) (limit t)) (values_in before s)
     go s (yes e) =
-        rw (e, get_or-set_same before x.signal x.limit 0 inside, le-leb 1 x.signal l, le-leb x.signal i m, eq-eqb _ _ (sym L.signal))
-        (omega (arith, is, L.limit))
+        rw (e, get_or-set_same before t.signal least 0 inside, le-leb 1 t.signal l, le-leb t.signal i m, eq-eqb t.signal t.signal refl)
+        (omega arith)
     go s (no e) =
-        rw (get_or-set_other before x.signal s x.limit 0 e, ne_eqb t.signal s (λ z. e (sym (L.signal ∙ z))))
+        rw (get_or-set_other before t.signal s least 0 e, ne_eqb t.signal s (λ z. e (sym z)))
         (off (leb 1 s && leb s i) _ (get_or before s 0))
 
 -- tags 1 to k of a sheet
@@ -110,17 +112,24 @@ lower_start i T before = record { sized = refl; each = λ s l. same (is_input i 
     same true x = refl
     same false x = refl
 
-pub lower_more : {i : ℕ} (T : Sheet) {k : ℕ} {before middle later : List ℕ} → Lowered i (up_to T k) before middle
-    → LoweredBy i (T.tag (k + 1)) middle later → Lowered i (up_to T (k + 1)) before later
+-- a turn at tag k: from the tags before it to those up to it
+pub lower_more : {i : ℕ} (T : Sheet) (k : ℕ) {before middle later : List ℕ} → 1 ≤ k → Lowered i (up_to T (k - 1)) before middle
+    → LoweredBy i (T.tag k) middle later → Lowered i (up_to T k) before later
 unfolding lowered least_of
-lower_more {i} T {k} {before} L B =
+lower_more {i} T zero l L B = absurd (omega arith)
+lower_more {i} T (suc k) {before} {middle} l earlier B =
+    let less : suc k - 1 ≡ k = omega arith in
+    let L : Lowered i (up_to T k) before middle = rw less at earlier in
     record {
       sized = B.sized ∙ L.sized;
-      each = λ s l.
+      each = λ s inside.
           B.each s (omega (arith, L.sized))
-          ∙ rw (L.each s l, add-one k)
+          ∙ rw (L.each s inside)
           (least_more (is_input i s) (eqb (T.tag (suc k)).signal s) (least_of T.tag s (values_in before s) k) (limit (T.tag (suc k))) (values_in before s));
     }
+
+pub lower_end : {i : ℕ} (T : Sheet) (k : ℕ) {before later : List ℕ} → k ≡ T.count → Lowered i (up_to T k) before later → Lowered i T before later
+lower_end T k e L = rw e at L
 
 -- what is within all limits on s is within the least
 pub least_above : (tag : ℕ → Tag) (s x y k : ℕ) → y ≤ x → ((j : ℕ) → 1 ≤ j → j ≤ k → (tag j).signal ≡ s → y ≤ limit (tag j)) → y ≤ least_of tag s x k
@@ -164,15 +173,15 @@ keeps_least tag s x most (suc k) h = go (eqb (tag (suc k)).signal s) (keeps_leas
     go false later = later
 
 -- .. which stands in an array that was lowered from the largest number
-pub kept_by : {i s : ℕ} {T : Sheet} {limits : List ℕ} → Lowered i T (replicate 257 number_most) limits → 1 ≤ s → s ≤ min i 256
-    → (v : ℕ → ℕ) {x : ℕ} → x ≡ v s → x ≤ number_most → kept T v s ≡ leb x (values_in limits s)
+pub kept_by : {i : ℕ} {T : Sheet} {limits : List ℕ} → Lowered i T (replicate 257 number_most) limits → (values : List ℕ) (s : ℕ) → 1 ≤ s → s ≤ min i 256
+    → values_in values s ≤ number_most → kept T (values_in values) s ≡ leb (values_in values s) (values_in limits s)
 unfolding kept lowered is_input values_in
-kept_by {i} {s} {T} L l m v {x} e small =
+kept_by {i} {T} L values s l m small =
     let inside : s < 257 = omega arith in
     let all : get_or (replicate 257 number_most) s 0 ≡ number_most = get_or-replicate 257 s number_most 0 inside in
     let least = L.each s (rw (length-replicate 257 number_most) inside) in
-    keeps_least T.tag s (v s) number_most T.count (omega arith)
-    ∙ rw (least, all, le-leb 1 s l, le-leb s i (omega arith), ← e)
+    keeps_least T.tag s (get_or values s 0) number_most T.count small
+    ∙ rw (least, all, le-leb 1 s l, le-leb s i (omega arith))
 
 -- .. and exactly if it obeys each of them
 pub keeps_each : (tag : ℕ → Tag) (s x k : ℕ) → keeps tag s x k ≡ true → (j : ℕ) → 1 ≤ j → j ≤ k → (tag j).signal ≡ s → Obeys (tag j) x

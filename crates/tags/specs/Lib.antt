@@ -1,3 +1,4 @@
 pub mod Tag
 pub mod Sheet
+pub mod Tagged
 pub mod Answer

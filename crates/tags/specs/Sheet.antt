@@ -1,6 +1,5 @@
 -- The tag sheet (rule 2.5): its bytes read into tags, with refusals 26 and 27 in checking order.
-use Rattle.std.specs.Prelude.{ℕ, ◌+◌, ◌*◌, ◌≤◌, ◌≡◌, Bool, true, false, cond, ◌&&◌, List, [], ◌∷◌, leb, eqb, length}
-use Rattle.std.proofs.Math.Option.{Option, none, some}
+use Rattle.std.specs.Prelude.{ℕ, ◌+◌, ◌*◌, ◌≤◌, ◌≡◌, Bool, true, false, cond, ◌&&◌, List, [], ◌∷◌, leb, eqb, length, Option, None, Some}
 use Rattle.circuit.specs.Bytes.{byte_at, u16_at, u32_at}
 use Rattle.circuit.specs.Circuit.{Circuit}
 use Rattle.circuit.specs.Reading.{whole}
@@ -31,11 +30,11 @@ entry_start k = entry_size * k
 
 -- Rule 2.6: the kind with a number.
 unfoldable pub kind_of : ℕ → Option Kind
-kind_of x = cond (eqb x 1) (some Binary) (cond (eqb x 2) (some Maxbit) (cond (eqb x 3) (some Maxvalue) none))
+kind_of x = cond (eqb x 1) (Some Binary) (cond (eqb x 2) (Some Maxbit) (cond (eqb x 3) (Some Maxvalue) None))
 
 abbrev pub of_kind : Option Kind → ℕ → ℕ → Option Tag
-of_kind none signal number = none
-of_kind (some kind) signal number = some (record { signal = signal; kind = kind; number = number })
+of_kind None signal number = None
+of_kind (Some kind) signal number = Some (record { signal = signal; kind = kind; number = number })
 
 -- Rule 2.5: entry k, where its kind is known.
 unfoldable pub read_tag : List ℕ → ℕ → Option Tag
@@ -46,8 +45,8 @@ abbrev pub no_tag : Tag
 no_tag = record { signal = 0; kind = Maxvalue; number = 0 }
 
 abbrev pub or_none : Option Tag → Tag
-or_none none = no_tag
-or_none (some t) = t
+or_none None = no_tag
+or_none (Some t) = t
 
 unfoldable pub tag_in : List ℕ → ℕ → Tag
 tag_in h k = or_none (read_tag h k)
@@ -58,8 +57,8 @@ sheet_of h = record { count = u16_at h 5; tag = tag_in h }
 
 -- Refusal 27 isn't met: the signal is 1 to n, the kind is known, and v goes with it
 abbrev pub fits_as : ℕ → ℕ → Option Tag → Bool
-fits_as n p none = false
-fits_as n p (some t) = within n t.signal && number_fits p t.kind t.number
+fits_as n p None = false
+fits_as n p (Some t) = within n t.signal && number_fits p t.kind t.number
 
 unfoldable pub entry_fits : ℕ → ℕ → List ℕ → ℕ → Bool
 entry_fits n p h k = fits_as n p (read_tag h k)

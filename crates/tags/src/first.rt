@@ -3,31 +3,24 @@
 ghost use Rattle.std.specs.Prelude.{◌≡◌, min};
 ghost use Rattle.circuit.specs.Reader.{signals_most};
 ghost use Rattle.circuit.specs.Run.{values_in};
-ghost use Rattle.circuit.specs.Runs.{first_from};
-ghost use Rattle.tags.specs.Tag.{Tag, kept};
-ghost use Rattle.tags.specs.Sheet.{sheet_of};
-ghost use Rattle.tags.specs.Answer.{LimitedBy, LoweredBy, Lowered};
+ghost use Rattle.circuit.specs.Runs.{first_from, found};
+ghost use Rattle.tags.specs.Tag.{kept};
+ghost use Rattle.tags.specs.Sheet.{tag_in, sheet_of};
+ghost use Rattle.tags.specs.Answer.{LoweredBy, Lowered};
 
-use crate::sheet::{Limited, tag_at};
+use crate::tag::Tag;
 use circuit::bytes::u16_at;
 use circuit::run::value_of;
 
-// Lowers the bound of one tag's signal to its limit, where that is an input, 1 to i.
-fn lower_by(bounds: &mut [u32], tag: Limited, i: u32)
-    ensures { (t : Tag) → LimitedBy t tag → LoweredBy i t bounds.old bounds.new }
+// Lowers the bound of tag k's signal to its limit, where that is an input, 1 to i.
+fn lower_by(bounds: &mut [u32], sheet: &[u8], k: u32, i: u32)
+    ensures { LoweredBy i (tag_in sheet.now k) bounds.old bounds.new }
 {
-    let s = tag.signal as usize;
-    if tag.signal < 1 {
-        return;
-    }
-    if i < tag.signal {
-        return;
-    }
-    if bounds.len() <= s {
-        return;
-    }
-    if tag.limit < bounds[s] {
-        bounds[s] = tag.limit;
+    if let Some(tag) = Tag::read(sheet, k) {
+        let s = tag.signal as usize;
+        if 1 <= tag.signal && tag.signal <= i && s < bounds.len() {
+            bounds[s] = bounds[s].min(tag.limit());
+        }
     }
 }
 
@@ -35,27 +28,16 @@ fn lower_by(bounds: &mut [u32], tag: Limited, i: u32)
 pub fn lower_inputs(sheet: &[u8], bounds: &mut [u32], i: u32)
     ensures { Lowered i (sheet_of sheet.now) bounds.old bounds.new }
 {
-    let count = u16_at(sheet, 5);
-    let mut k: u32 = 0;
-    while k < count {
-        k += 1;
-        lower_by(bounds, tag_at(sheet, k), i);
+    for k in 1..=u16_at(sheet, 5) {
+        lower_by(bounds, sheet, k, i);
     }
 }
 
-// Refusal 28: the first of the inputs 1 to i, up to 256, whose value exceeds the limit of a tag on it; 0 where none does.
-pub fn first_broken(sheet: &[u8], values: &[u32], i: u32) -> u32
-    ensures { result ≡ first_from (kept (sheet_of sheet.now) (values_in values.now)) 1 (min i signals_most) }
+// Refusal 28: the first of the inputs 1 to i, up to 256, whose value exceeds the limit of a tag on it.
+pub fn first_broken(sheet: &[u8], values: &[u32], i: u32) -> Option<u32>
+    ensures { result ≡ found (first_from (kept (sheet_of sheet.now) (values_in values.now)) 1 (min i signals_most)) }
 {
-    let mut limits = [0xffff_ffffu32; 257];
+    let mut limits = [u32::MAX; 257];
     lower_inputs(sheet, &mut limits, i);
-    let end = if i < 256 { i } else { 256 };
-    let mut s: u32 = 0;
-    while s < end {
-        s += 1;
-        if value_of(&limits, s) < value_of(values, s) {
-            return s;
-        }
-    }
-    0
+    (1..=i.min(256)).find(|s| value_of(&limits, *s) < value_of(values, *s))
 }
