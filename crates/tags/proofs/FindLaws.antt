@@ -10,7 +10,14 @@ use denote.Ref.{Bor}
 use denote.Param.Members.{Mut}
 use Rattle.std.specs.Prelude.{Option, None, Some, IfSome}
 use Rattle.std.specs.declared.ops.RangeInclusive.{RangeInclusive}
-use Rattle.std.specs.Range.{range_inclusive_start, range_inclusive_end, range_inclusive_exhausted, range_inclusive_len, range_inclusive_left, range_inclusive_steps}
+use Rattle.std.specs.Range.{
+  range_inclusive_start,
+  range_inclusive_end,
+  range_inclusive_exhausted,
+  range_inclusive_len,
+  range_inclusive_left,
+  range_inclusive_steps,
+}
 use Rattle.std.specs.Iterator.{Yields, FindsItem}
 use Rattle.std.specs.List.{FoldsTo}
 use Rattle.std.specs.Fn.{CalledAt}

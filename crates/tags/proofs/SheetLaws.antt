@@ -23,7 +23,22 @@ use Rattle.laws.specs.Step.{within}
 use Rattle.laws.proofs.Sum.{and_left, and_right}
 use Rattle.tags.specs.Tag.{Tag, number_fits, Sheet}
 use Rattle.tags.specs.Tagged.{on_tagged, tagged_call}
-use Rattle.tags.specs.Sheet.{sheet_letter, entries_most, read_tag, no_tag, or_none, tag_in, sheet_of, fits_as, entry_fits, framed, sheet_on, Fitting, FittingAnswer, Unrefused}
+use Rattle.tags.specs.Sheet.{
+  sheet_letter,
+  entries_most,
+  read_tag,
+  no_tag,
+  or_none,
+  tag_in,
+  sheet_of,
+  fits_as,
+  entry_fits,
+  framed,
+  sheet_on,
+  Fitting,
+  FittingAnswer,
+  Unrefused,
+}
 
 -- One entry, by what is read of it
 

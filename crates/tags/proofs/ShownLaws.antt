@@ -5,6 +5,7 @@ use mathlib.Core.Bool.{Bool, true, false, cond, ◌&&◌, beq}
 use native.Mathlib.Omega.{arith}
 use lib.Dec.{leb}
 use Rattle.std.specs.Prelude.{Option, Some, None}
+use Rattle.std.specs.Int.{from_bool}
 use Rattle.std.specs.Option.{option_eq, unwrap_or}
 use Rattle.circuit.specs.Runs.{found}
 use Rattle.circuit.proofs.SearchLaws.{first_same}
@@ -19,23 +20,23 @@ counts true true = refl
 counts true false = refl
 counts false b = refl
 
--- a turn at tag k, of which o is read: the count is that of the tags before it
-module _ (i : ℕ) (bound : ℕ → ℕ) (tag : ℕ → Tag) (k count : ℕ) (o : Option Bool) (l : 1 ≤ k) (e : count ≡ shown_of i bound tag (k - 1))
-    (is : o ≡ cond (on_other i (tag k)) (Some (is_shown bound (tag k))) None) where
-  more : shown_of i bound tag k ≡ count + keep (option_eq beq o (Some true)) 1
-  unfolding shown_of
-  more =
-      let next : k ≡ suc (k - 1) = omega arith in
-      ap (shown_of i bound tag) next
-      ∙ rw (sym next, ← e, is, counts (on_other i (tag k)) (is_shown bound (tag k)))
+-- a turn at tag k, of which o is read and x counted: the count is that of the tags before it
+pub shown_turn : (i : ℕ) (bound : ℕ → ℕ) (tag : ℕ → Tag) (k count : ℕ) {x : ℕ} {b : Bool} {o : Option Bool} → 1 ≤ k
+    → count ≡ shown_of i bound tag (k - 1) → o ≡ cond (on_other i (tag k)) (Some (is_shown bound (tag k))) None
+    → b ≡ option_eq beq o (Some true) → x ≡ from_bool b → count + x ≡ shown_of i bound tag k
+unfolding shown_of keep
+shown_turn i bound tag k count l e is tested counted =
+    let next : k ≡ suc (k - 1) = omega arith in
+    rw (counted, tested, is, counts (on_other i (tag k)) (is_shown bound (tag k)), e, ← kept (on_other i (tag k) && is_shown bound (tag k)))
+    (sym (ap (shown_of i bound tag) next ∙ rw (sym next)))
+  where
+    kept : (b : Bool) → keep b 1 ≡ from_bool b
+    kept true = refl
+    kept false = refl
 
-  pub shown_counted : option_eq beq o (Some true) ≡ true → count + 1 ≡ shown_of i bound tag k
-  unfolding keep
-  shown_counted h = sym (more ∙ rw h)
-
-  pub shown_passed : option_eq beq o (Some true) ≡ false → count ≡ shown_of i bound tag k
-  unfolding keep
-  shown_passed h = sym (more ∙ rw h (omega arith))
+pub one_most : (b : Bool) → from_bool b ≤ 1
+one_most true = omega arith
+one_most false = omega arith
 
 -- what is found, by number
 pub found_number : (n : ℕ) → unwrap_or (found n) 0 ≡ n

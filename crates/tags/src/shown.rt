@@ -4,60 +4,70 @@ ghost use Rattle.std.specs.Prelude.{◌≡◌, cond, Some, None};
 ghost use Rattle.circuit.specs.Run.{values_in};
 ghost use Rattle.circuit.specs.Runs.{first_from, found};
 ghost use Rattle.tags.specs.Tag.{on_other, is_shown, shown_of, not_missed, shown_by};
-ghost use Rattle.tags.specs.Sheet.{tag_in, sheet_of};
-ghost use Rattle.tags.specs.Answer.{shown_in};
+ghost use Rattle.tags.specs.Sheet.{sheet_of};
+ghost use Rattle.tags.specs.Answer.{tag_of, shown_in};
 
 use crate::tag::Tag;
-use circuit::bytes::u16_at;
+use crate::tagged::Tagged;
 use circuit::run::value_of;
 
 // How many tags on signals other than inputs are shown, and the number of the first that isn't.
-#[derive(Clone, Copy)]
+#[derive(Clone, Copy, Debug, PartialEq, Eq)]
 pub struct Shown {
     pub count: u32,
     pub missed: Option<u32>,
 }
 
-// Whether tag k is shown, where it is on a signal other than an input, 1 to i.
-#[tactic(auto, using(crate::proofs::TagLaws::leb_capped), unfolding(crate::specs::Sheet::tag_in, crate::specs::Tag::on_other, crate::specs::Tag::is_shown))]
-fn shown_at(sheet: &[u8], bounds: &[u32], i: u32, k: u32) -> Option<bool>
-    ensures { result ≡ cond (on_other i (tag_in sheet.now k)) (Some (is_shown (values_in bounds.now) (tag_in sheet.now k))) None }
-{
-    let tag = Tag::read(sheet, k)?;
-    if tag.signal <= i {
-        return None;
+impl Tag {
+    // Whether bounds show the tag.
+    #[tactic(auto, using(crate::proofs::TagLaws::leb_capped), unfolding(crate::specs::Tag::is_shown))]
+    fn is_shown(self, bounds: &[u32]) -> bool
+        ensures { result ≡ is_shown (values_in bounds.now) (tag_of self) }
+    {
+        value_of(bounds, self.signal) <= self.limit()
     }
-    Some(value_of(bounds, tag.signal) <= tag.limit())
 }
 
-// How many of `entries` tags on signals other than inputs are shown.
-fn count_shown(sheet: &[u8], bounds: &[u32], i: u32, entries: u32) -> u32
-    ensures { result ≡ shown_of i (values_in bounds.now) (tag_in sheet.now) entries }
-{
-    let mut count = 0;
-    for k in 1..=entries {
-        if shown_at(sheet, bounds, i, k) == Some(true) {
-            count += 1;
+impl<'a> Tagged<'a> {
+    // Whether tag k is shown, where it is on a signal other than an input.
+    #[tactic(auto, unfolding(crate::specs::Sheet::sheet_of, crate::specs::Sheet::tag_in, crate::specs::Tag::on_other))]
+    fn shown_at(&self, bounds: &[u32], k: u32) -> Option<bool>
+        ensures { let t = (sheet_of self.now.sheet.now).tag k in
+            result ≡ cond (on_other self.now.file.sizes.i t) (Some (is_shown (values_in bounds.now) t)) None }
+    {
+        let tag = Tag::read(self.sheet, k)?;
+        if tag.signal <= self.file.sizes.i {
+            return None;
         }
+        Some(tag.is_shown(bounds))
     }
-    count
-}
 
-// The first of them that isn't shown.
-fn first_missed(sheet: &[u8], bounds: &[u32], i: u32, entries: u32) -> Option<u32>
-    ensures { result ≡ found (first_from (not_missed i (values_in bounds.now) (tag_in sheet.now)) 1 entries) }
-{
-    (1..=entries).find(|k| shown_at(sheet, bounds, i, *k) == Some(false))
-}
+    // How many tags on signals other than inputs are shown.
+    fn count_shown(&self, bounds: &[u32]) -> u32
+        ensures { let T = sheet_of self.now.sheet.now in result ≡ shown_of self.now.file.sizes.i (values_in bounds.now) T.tag T.count }
+    {
+        let mut count = 0;
+        for k in 1..=self.count() {
+            count += u32::from(self.shown_at(bounds, k) == Some(true));
+        }
+        count
+    }
 
-// Rule 6.10, for i inputs.
-#[tactic(auto, using(crate::proofs::ShownLaws::found_number), unfolding(crate::specs::Tag::shown_by, crate::specs::Sheet::sheet_of))]
-pub fn show(sheet: &[u8], bounds: &[u32], i: u32) -> Shown
-    ensures { shown_in result ≡ shown_by i (sheet_of sheet.now) (values_in bounds.now) }
-{
-    let entries = u16_at(sheet, 5);
-    Shown {
-        count: count_shown(sheet, bounds, i, entries),
-        missed: first_missed(sheet, bounds, i, entries),
+    // The first of them that isn't shown.
+    fn first_missed(&self, bounds: &[u32]) -> Option<u32>
+        ensures { let T = sheet_of self.now.sheet.now in result ≡ found (first_from (not_missed self.now.file.sizes.i (values_in bounds.now) T.tag) 1 T.count) }
+    {
+        (1..=self.count()).find(|k| self.shown_at(bounds, *k) == Some(false))
+    }
+
+    // Rule 6.10.
+    #[tactic(auto, using(crate::proofs::ShownLaws::found_number), unfolding(crate::specs::Tag::shown_by))]
+    pub fn show(&self, bounds: &[u32]) -> Shown
+        ensures { shown_in result ≡ shown_by self.now.file.sizes.i (sheet_of self.now.sheet.now) (values_in bounds.now) }
+    {
+        Shown {
+            count: self.count_shown(bounds),
+            missed: self.first_missed(bounds),
+        }
     }
 }

@@ -16,7 +16,7 @@ pub(crate) const ENTRY_SIZE: usize = 7;
 const BITS_MOST: u32 = 30;
 
 // Rule 2.6: the kinds of tags.
-#[derive(Clone, Copy)]
+#[derive(Clone, Copy, Debug, PartialEq, Eq)]
 pub(crate) enum TagKind {
     Binary,
     Maxbit,
@@ -69,7 +69,7 @@ impl TagKind {
 }
 
 // Rule 2.5: an entry of a sheet whose kind is known.
-#[derive(Clone, Copy)]
+#[derive(Clone, Copy, Debug, PartialEq, Eq)]
 pub(crate) struct Tag {
     pub signal: u32,
     pub kind: TagKind,

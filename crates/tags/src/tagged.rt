@@ -6,6 +6,7 @@ ghost use Rattle.tags.specs.Sheet.{sheet_of, sheet_on};
 ghost use Rattle.tags.specs.Tagged.{tagged_call};
 
 use crate::sheet::check_sheet;
+use circuit::bytes::u16_at;
 use circuit::file::CircuitFile;
 use circuit::refusal::Refusal;
 
@@ -25,5 +26,12 @@ impl<'a> Tagged<'a> {
         let file = CircuitFile::read(circuit)?;
         check_sheet(sheet, file.sizes)?;
         Ok(Tagged { file, sheet })
+    }
+    // How many tags there are.
+    #[tactic(auto, unfolding(crate::specs::Sheet::sheet_of))]
+    pub(crate) fn count(&self) -> u32
+        ensures { result ≡ (sheet_of self.now.sheet.now).count }
+    {
+        u16_at(self.sheet, 5)
     }
 }

@@ -4,4 +4,6 @@ use Rattle.tags.proofs.FindLaws.{find_first}
 use Rattle.tags.proofs.sheet.first_wrong.Goals as goal
 
 pub returns : goal.returns
-returns c = find_first _ _ _ (λ x q l m called. search rules) (λ x q l m called. search rules) _ _ _ c.find.ensures.ran c.new.ensures.start c.new.ensures.end c.new.ensures.exhausted
+returns c =
+    find_first _ _ _ (λ x q l m called. search rules) (λ x q l m called. search rules)
+    _ _ _ c.find.ensures.ran c.new.ensures.start c.new.ensures.end c.new.ensures.exhausted
