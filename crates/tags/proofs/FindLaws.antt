@@ -94,3 +94,6 @@ ask_some number base r {k} (suc n) e = let same : k ≡ suc n = cc in rw same
 pub ask_nothing : {A : Type 0} (number base : ℕ) (r : Answer A) (n : ℕ) → None ≡ found n → ask_none n number base r ≡ r
 ask_nothing number base r zero e = refl
 ask_nothing number base r (suc n) e = let z : ◌≡◌ {A = ℕ} 0 1 = cc in absurd (omega arith)
+
+-- both, for the functions that go through the tests of a call
+pub ruleset asks = (ask_some, ask_nothing)

@@ -173,15 +173,15 @@ keeps_least tag s x most (suc k) h = go (eqb (tag (suc k)).signal s) (keeps_leas
     go false later = later
 
 -- .. which stands in an array that was lowered from the largest number
-pub kept_by : {i : ℕ} {T : Sheet} {limits : List ℕ} → Lowered i T (replicate 257 number_most) limits → (values : List ℕ) (s : ℕ) → 1 ≤ s → s ≤ i → i ≤ 256
+pub kept_by : {i : ℕ} {T : Sheet} {limits : List ℕ} → Lowered i T (replicate 257 number_most) limits → (values : List ℕ) (s : ℕ) → 1 ≤ s → s ≤ min i 256
     → values_in values s ≤ number_most → kept T (values_in values) s ≡ leb (values_in values s) (values_in limits s)
 unfolding kept lowered is_input values_in
-kept_by {i} {T} L values s l m few small =
+kept_by {i} {T} L values s l m small =
     let inside : s < 257 = omega arith in
     let all : get_or (replicate 257 number_most) s 0 ≡ number_most = get_or-replicate 257 s number_most 0 inside in
     let least = L.each s (rw (length-replicate 257 number_most) inside) in
     keeps_least T.tag s (get_or values s 0) number_most T.count small
-    ∙ rw (least, all, le-leb 1 s l, le-leb s i m)
+    ∙ rw (least, all, le-leb 1 s l, le-leb s i (omega arith))
 
 -- .. and exactly if it obeys each of them
 pub keeps_each : (tag : ℕ → Tag) (s x k : ℕ) → keeps tag s x k ≡ true → (j : ℕ) → 1 ≤ j → j ≤ k → (tag j).signal ≡ s → Obeys (tag j) x

@@ -17,6 +17,14 @@ const SHEET_HEADER: usize = 7;
 
 const ENTRIES_MOST: u32 = 256;
 
+// How many entries there are.
+#[tactic(auto, unfolding(crate::specs::Sheet::sheet_of))]
+pub(crate) fn count_of(sheet: &[u8]) -> u32
+    ensures { result ≡ (sheet_of sheet.now).count }
+{
+    u16_at(sheet, 5)
+}
+
 // Whether entry k doesn't meet refusal 27.
 #[tactic(auto, unfolding(crate::specs::Sheet::entry_fits))]
 fn entry_fits(sheet: &[u8], n: u32, p: u32, k: u32) -> bool
@@ -46,7 +54,7 @@ fn is_framed(sheet: &[u8]) -> bool
 }
 
 // The check of a sheet for a circuit with these sizes: refusals 26 and 27.
-#[tactic(auto, using(crate::proofs::FindLaws::ask_some, crate::proofs::FindLaws::ask_nothing), unfolding(crate::specs::Sheet::sheet_on))]
+#[tactic(auto, using(crate::proofs::FindLaws::asks), unfolding(crate::specs::Sheet::sheet_on))]
 pub fn check_sheet(sheet: &[u8], sizes: Sizes) -> Result<(), Refusal>
     ensures answer { answer_by (λ done. sheet_of sheet.now) result ≡ sheet_on sizes sheet.now }
     ensures fitting { FittingAnswer sizes (answer_by (λ done. sheet_of sheet.now) result) }

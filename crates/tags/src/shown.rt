@@ -7,8 +7,8 @@ ghost use Rattle.tags.specs.Tag.{on_other, is_shown, shown_of, not_missed, shown
 ghost use Rattle.tags.specs.Sheet.{sheet_of};
 ghost use Rattle.tags.specs.Answer.{tag_of, shown_in};
 
+use crate::sheet::count_of;
 use crate::tag::Tag;
-use crate::tagged::Tagged;
 use circuit::run::value_of;
 
 // How many tags on signals other than inputs are shown, and the number of the first that isn't.
@@ -28,46 +28,59 @@ impl Tag {
     }
 }
 
-impl<'a> Tagged<'a> {
+// A sheet, the bounds that are to show its tags, and how many inputs there are.
+#[derive(Clone, Copy)]
+struct Showing<'a> {
+    sheet: &'a [u8],
+    bounds: &'a [u32],
+    inputs: u32,
+}
+
+impl<'a> Showing<'a> {
     // Whether tag k is shown, where it is on a signal other than an input.
     #[tactic(auto, unfolding(crate::specs::Sheet::sheet_of, crate::specs::Sheet::tag_in, crate::specs::Tag::on_other))]
-    fn shown_at(&self, bounds: &[u32], k: u32) -> Option<bool>
+    fn shown_at(&self, k: u32) -> Option<bool>
         ensures { let t = (sheet_of self.now.sheet.now).tag k in
-            result ≡ cond (on_other self.now.file.sizes.i t) (Some (is_shown (values_in bounds.now) t)) None }
+            result ≡ cond (on_other self.now.inputs t) (Some (is_shown (values_in self.now.bounds.now) t)) None }
     {
         let tag = Tag::read(self.sheet, k)?;
-        if tag.signal <= self.file.sizes.i {
+        if tag.signal <= self.inputs {
             return None;
         }
-        Some(tag.is_shown(bounds))
+        Some(tag.is_shown(self.bounds))
     }
 
     // How many tags on signals other than inputs are shown.
-    fn count_shown(&self, bounds: &[u32]) -> u32
-        ensures { let T = sheet_of self.now.sheet.now in result ≡ shown_of self.now.file.sizes.i (values_in bounds.now) T.tag T.count }
+    fn count_shown(&self) -> u32
+        ensures { let T = sheet_of self.now.sheet.now in result ≡ shown_of self.now.inputs (values_in self.now.bounds.now) T.tag T.count }
     {
         let mut count = 0;
-        for k in 1..=self.count() {
-            count += u32::from(self.shown_at(bounds, k) == Some(true));
+        for k in 1..=count_of(self.sheet) {
+            count += u32::from(self.shown_at(k) == Some(true));
         }
         count
     }
 
     // The first of them that isn't shown.
-    fn first_missed(&self, bounds: &[u32]) -> Option<u32>
-        ensures { let T = sheet_of self.now.sheet.now in result ≡ found (first_from (not_missed self.now.file.sizes.i (values_in bounds.now) T.tag) 1 T.count) }
+    fn first_missed(&self) -> Option<u32>
+        ensures { let T = sheet_of self.now.sheet.now in result ≡ found (first_from (not_missed self.now.inputs (values_in self.now.bounds.now) T.tag) 1 T.count) }
     {
-        (1..=self.count()).find(|k| self.shown_at(bounds, *k) == Some(false))
+        (1..=count_of(self.sheet)).find(|k| self.shown_at(*k) == Some(false))
     }
+}
 
-    // Rule 6.10.
-    #[tactic(auto, using(crate::proofs::ShownLaws::found_number), unfolding(crate::specs::Tag::shown_by))]
-    pub fn show(&self, bounds: &[u32]) -> Shown
-        ensures { shown_in result ≡ shown_by self.now.file.sizes.i (sheet_of self.now.sheet.now) (values_in bounds.now) }
-    {
-        Shown {
-            count: self.count_shown(bounds),
-            missed: self.first_missed(bounds),
-        }
+// Rule 6.10, for i inputs.
+#[tactic(auto, using(crate::proofs::ShownLaws::found_number), unfolding(crate::specs::Tag::shown_by))]
+pub fn show(sheet: &[u8], bounds: &[u32], i: u32) -> Shown
+    ensures { shown_in result ≡ shown_by i (sheet_of sheet.now) (values_in bounds.now) }
+{
+    let showing = Showing {
+        sheet,
+        bounds,
+        inputs: i,
+    };
+    Shown {
+        count: showing.count_shown(),
+        missed: showing.first_missed(),
     }
 }

@@ -1,12 +1,17 @@
 // A circuit and a sheet for it, neither of them refused: what each call on both begins with.
 
 ghost use Rattle.std.specs.Prelude.{◌≡◌, IfOk};
+ghost use Rattle.circuit.specs.Run.{values_in};
+ghost use Rattle.circuit.specs.Runs.{first_from, found};
 ghost use Rattle.circuit.specs.Answer.{given, answer_by};
+ghost use Rattle.tags.specs.Tag.{kept, shown_by};
 ghost use Rattle.tags.specs.Sheet.{sheet_of, sheet_on};
 ghost use Rattle.tags.specs.Tagged.{tagged_call};
+ghost use Rattle.tags.specs.Answer.{Lowered, shown_in};
 
+use crate::first::{first_broken, lower_inputs};
 use crate::sheet::check_sheet;
-use circuit::bytes::u16_at;
+use crate::shown::{Shown, show};
 use circuit::file::CircuitFile;
 use circuit::refusal::Refusal;
 
@@ -27,11 +32,24 @@ impl<'a> Tagged<'a> {
         check_sheet(sheet, file.sizes)?;
         Ok(Tagged { file, sheet })
     }
-    // How many tags there are.
-    #[tactic(auto, unfolding(crate::specs::Sheet::sheet_of))]
-    pub(crate) fn count(&self) -> u32
-        ensures { result ≡ (sheet_of self.now.sheet.now).count }
+    // Rule 3.2: lowers the bound of each input to the limits of all tags on it.
+    pub fn lower_inputs(&self, bounds: &mut [u32])
+        ensures { Lowered self.now.file.sizes.i (sheet_of self.now.sheet.now) bounds.old bounds.new }
     {
-        u16_at(self.sheet, 5)
+        lower_inputs(self.sheet, bounds, self.file.sizes.i);
+    }
+
+    // Refusal 28: the first input whose value exceeds the limit of a tag on it.
+    pub fn first_broken(&self, values: &[u32]) -> Option<u32>
+        ensures { result ≡ found (first_from (kept (sheet_of self.now.sheet.now) (values_in values.now)) 1 self.now.file.sizes.i) }
+    {
+        first_broken(self.sheet, values, self.file.sizes.i)
+    }
+
+    // Rule 6.10.
+    pub fn show(&self, bounds: &[u32]) -> Shown
+        ensures { shown_in result ≡ shown_by self.now.file.sizes.i (sheet_of self.now.sheet.now) (values_in bounds.now) }
+    {
+        show(self.sheet, bounds, self.file.sizes.i)
     }
 }

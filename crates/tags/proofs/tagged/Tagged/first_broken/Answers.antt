@@ -1,17 +1,10 @@
--- A value within the least limit on its input leads on, any other out.
-use Rattle.std.proofs.Common.{rules, arith, ◌≤◌, ◌∙◌}
-use Rattle.circuit.specs.Run.{values_in}
+-- A circuit that isn't refused has at most 256 inputs.
+use Rattle.std.proofs.Common.{◌≡◌, min, arith}
 use Rattle.circuit.proofs.Sized.{call_sized}
-use Rattle.tags.proofs.FindLaws.{find_first}
-use Rattle.tags.proofs.TagLaws.{kept_by}
 use Rattle.tags.proofs.tagged.Tagged.first_broken.Goals as goal
 
 pub returns : goal.returns
-unfolding values_in
 returns c =
     let Z = call_sized c.args.self.now.file.read in
-    let few : c.args.self.now.file.sizes.i ≤ 256 = omega (arith, Z.formed.n_most, Z.formed.fits, Z.is_i) in
-    find_first _ _ _
-    (λ x q l m called. kept_by c.lower_inputs.ensures _ x l m few (omega (arith, c.type_inv.values x)) ∙ search rules)
-    (λ x q l m called. (search rules, kept_by c.lower_inputs.ensures _ x l m few (omega (arith, c.type_inv.values x)) ∙ search rules))
-    _ _ _ c.find.ensures.ran c.new.ensures.start c.new.ensures.end c.new.ensures.exhausted
+    let all : min c.args.self.now.file.sizes.i 256 ≡ c.args.self.now.file.sizes.i = omega (arith, Z.formed.n_most, Z.formed.fits, Z.is_i) in
+    rw all at c.first_broken.ensures

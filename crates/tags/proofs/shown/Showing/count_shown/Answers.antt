@@ -3,7 +3,7 @@ use Rattle.std.proofs.Common.{◌≡◌, ◌-◌, ◌+◌, arith, rules}
 use Rattle.tags.specs.Tag.{shown_of}
 use Rattle.tags.specs.Sheet.{sheet_of}
 use Rattle.tags.proofs.ShownLaws.{shown_turn, one_most}
-use Rattle.tags.proofs.tagged.Tagged.count_shown.Goals as goal
+use Rattle.tags.proofs.shown.Showing.count_shown.Goals as goal
 
 pub loop-k-init : goal.loop-k-init
 unfolding shown_of

@@ -4,7 +4,7 @@ use Rattle.circuit.specs.Run.{values_in}
 use Rattle.tags.specs.Sheet.{sheet_of}
 use Rattle.tags.proofs.SheetLaws.{tag_known, tag_unknown}
 use Rattle.tags.proofs.TagLaws.{lower_none, lower_set}
-use Rattle.tags.proofs.tagged.Tagged.lower_by.Goals as goal
+use Rattle.tags.proofs.first.lower_by.Goals as goal
 
 pub returns-then-s-bounds : goal.returns-then-s-bounds
 unfolding values_in sheet_of

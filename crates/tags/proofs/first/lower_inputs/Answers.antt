@@ -2,7 +2,7 @@
 use Rattle.std.proofs.Common.{◌≡◌, ◌-◌, ◌+◌, arith}
 use Rattle.tags.specs.Sheet.{sheet_of}
 use Rattle.tags.proofs.TagLaws.{lower_start, lower_more, lower_end}
-use Rattle.tags.proofs.tagged.Tagged.lower_inputs.Goals as goal
+use Rattle.tags.proofs.first.lower_inputs.Goals as goal
 
 pub loop-k-init : goal.loop-k-init
 loop-k-init c = (omega arith, lower_start _ (sheet_of _) _)

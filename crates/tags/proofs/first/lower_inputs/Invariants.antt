@@ -3,7 +3,7 @@ use Rattle.std.proofs.Common.{◌+◌, ◌-◌, ◌≤◌}
 use Rattle.tags.specs.Sheet.{sheet_of}
 use Rattle.tags.specs.Answer.{Lowered}
 use Rattle.tags.proofs.TagLaws.{up_to}
-use Rattle.tags.proofs.tagged.Tagged.lower_inputs.Given as goal
+use Rattle.tags.proofs.first.lower_inputs.Given as goal
 
 abbrev pub invariant-loop-k : goal.invariant-loop-k
-invariant-loop-k l = (l.k ≤ l.k-end + 1) × Lowered l.self.file.sizes.i (up_to (sheet_of l.self.sheet.now) (l.k - 1)) l.initial.bounds l.bounds
+invariant-loop-k l = (l.k ≤ l.k-end + 1) × Lowered l.i (up_to (sheet_of l.sheet) (l.k - 1)) l.initial.bounds l.bounds
