@@ -4,23 +4,24 @@ use mathlib.Core.Path.{◌≡◌, sym, ap₂, ◌∙◌}
 use mathlib.Core.Bool.{true, false}
 use mathlib.Core.List.{List}
 use native.Mathlib.Omega.{arith}
-use borrow.Author.Tests.{lt-ltb, le-leb, eq-eqb, ltb-true, leb-true, eqb-true, not-true}
+use borrow.Author.Tests.{le-leb, eq-eqb, ltb-true, leb-true, eqb-true, not-true}
 use lib.Dec.{ltb, leb, eqb}
-use lib.ListN.{length, drop, take}
+use lib.ListN.{length, drop, take, length-drop}
 use Rattle.circuit.specs.Bytes.{u16_at}
 use Rattle.circuit.specs.Circuit.{Constraint, constraint_at, value_of}
 use Rattle.circuit.specs.Reader.{pair_letter, has_mark, constraint_of}
 use Rattle.circuit.specs.Run.{values_in}
 use Rattle.circuit.specs.Runs.{value_at, run_in, first_from, below, satisfied_by, agree}
 use Rattle.circuit.specs.Answer.{Answer, refused, given, ask, ask_none, and_then}
-use Rattle.circuit.specs.Call.{sizes_of, circuit_of, Sized}
+use Rattle.circuit.specs.Call.{sizes_of, circuit_call, circuit_of}
 use Rattle.circuit.specs.declared.reader.Sizes.{Sizes}
-use Rattle.circuit.proofs.AnswerLaws.{ask_given, none_given, then_same, ask_found, ask_here}
+use Rattle.circuit.proofs.AnswerLaws.{ask_given, none_given, then_same}
 use Rattle.circuit.proofs.ReaderLaws.{part_drop}
-use Rattle.circuit.proofs.SearchLaws.{first_same, passed, below_is, agree_yes, agree_no}
-use Rattle.circuit.proofs.Sized.{on_sized, sizes_are, sized_constraint}
+use Rattle.circuit.proofs.SearchLaws.{first_same, passed, below_is, agree_no}
+use Rattle.circuit.proofs.Sized.{call_sized, sizes_are, sized_constraint}
 use Rattle.tags.specs.Tag.{Sheet, kept}
 use Rattle.tags.specs.Sheet.{sheet_of, sheet_on}
+use Rattle.tags.proofs.SheetLaws.{tagged_given}
 use Rattle.pair.specs.Call.{first_run, second_run, signal_of, values_of, file_on, runs_on, pair_on, pair_call}
 
 -- Refusals 18 to 21
@@ -50,11 +51,6 @@ module _ {z : Sizes} {t : List ℕ} (F : FileFramed z t) where
   framed_file =
       rw (le-leb 7 (length t) F.least, F.mark, eq-eqb (u16_at t 3) 1 F.version, eq-eqb (length t) (7 + 8 * z.n) F.sized)
 
-  pub file_values : {q large : ℕ} → q ≡ signal_of t → z.i < q → q ≤ z.i + z.o
-      → large ≡ first_from (below z.p (take (length t - 7) (drop 7 t))) 1 (2 * z.n) → file_on z t ≡ ask_none large 21 0 (given q)
-  file_values {q} known above within found =
-      framed_file ∙ rw (← known, lt-ltb z.i q above, le-leb q (z.i + z.o) within, ← (part_drop t 7 F.least), ← found)
-
 module _ (z : Sizes) (t : List ℕ) where
   pub file_given : (q : ℕ) → file_on z t ≡ given q → FileWhole z t × (q ≡ signal_of t)
   unfolding file_on
@@ -80,48 +76,17 @@ module _ (z : Sizes) (t : List ℕ) where
 
 -- Refusals 22, 23, 28 and 24
 
--- the searches for an unsatisfied constraint find none
-pub record NoneUnsatisfied (z : Sizes) (constraint : ℕ → Constraint) (v w : ℕ → ℕ) : Type 0 where
-  pub first : first_from (satisfied_by z.p constraint v) 1 z.m ≡ 0
-  pub second : first_from (satisfied_by z.p constraint w) 1 z.m ≡ 0
-
 -- no search finds anything
 pub record NoneFound (z : Sizes) (T : Sheet) (constraint : ℕ → Constraint) (v w : ℕ → ℕ) : Type 0 where
-  pub satisfied : NoneUnsatisfied z constraint v w
+  pub first : first_from (satisfied_by z.p constraint v) 1 z.m ≡ 0
+  pub second : first_from (satisfied_by z.p constraint w) 1 z.m ≡ 0
   pub input : first_from (agree v w) 1 z.i ≡ 0
   pub broken : first_from (kept T v) 1 z.i ≡ 0
 
 module _ (z : Sizes) (T : Sheet) (constraint : ℕ → Constraint) (v w : ℕ → ℕ) (q : ℕ) where
-  pub runs_first : {k : ℕ} → k ≡ first_from (satisfied_by z.p constraint v) 1 z.m → (k ≡ 0 → ⊥) → refused 22 k ≡ runs_on z T constraint v w q
+  pub runs_differ : NoneFound z T constraint v w → (v q ≡ w q → ⊥) → given q ≡ runs_on z T constraint v w q
   unfolding runs_on
-  runs_first e h = sym (rw (← e) (ask_here _ _ _ h))
-
-  pub runs_second : first_from (satisfied_by z.p constraint v) 1 z.m ≡ 0
-      → {k : ℕ} → k ≡ first_from (satisfied_by z.p constraint w) 1 z.m → (k ≡ 0 → ⊥) → refused 22 (z.m + k) ≡ runs_on z T constraint v w q
-  unfolding runs_on
-  runs_second f e h = sym (rw (f, ← e) (ask_found _ _ _ _ h))
-
-  pub runs_input : NoneUnsatisfied z constraint v w → {k : ℕ} → k ≡ first_from (agree v w) 1 z.i → (k ≡ 0 → ⊥)
-      → refused 23 k ≡ runs_on z T constraint v w q
-  unfolding runs_on
-  runs_input N e h = sym (rw (N.first, N.second, ← e) (ask_here _ _ _ h))
-
-  pub runs_broken : NoneUnsatisfied z constraint v w → first_from (agree v w) 1 z.i ≡ 0
-      → {k : ℕ} → k ≡ first_from (kept T v) 1 z.i → (k ≡ 0 → ⊥) → refused 28 k ≡ runs_on z T constraint v w q
-  unfolding runs_on
-  runs_broken N f e h = sym (rw (N.first, N.second, f, ← e) (ask_here _ _ _ h))
-
-  -- by the values x and y at q
-  module _ (N : NoneFound z T constraint v w) {x y : ℕ} (is-first : x ≡ v q) (is-second : y ≡ w q) where
-    pub runs_agree : x ≡ y → refused 24 q ≡ runs_on z T constraint v w q
-    unfolding runs_on
-    runs_agree h =
-        rw (N.satisfied.first, N.satisfied.second, N.input, N.broken, agree_yes v w q (sym is-first ∙ h ∙ is-second))
-
-    pub runs_differ : (x ≡ y → ⊥) → given q ≡ runs_on z T constraint v w q
-    unfolding runs_on
-    runs_differ h =
-        rw (N.satisfied.first, N.satisfied.second, N.input, N.broken, agree_no v w q (λ e. h (is-first ∙ e ∙ sym is-second)))
+  runs_differ N h = rw (N.first, N.second, N.input, N.broken, agree_no v w q h)
 
   pub runs_given : (x : ℕ) → runs_on z T constraint v w q ≡ given x → NoneFound z T constraint v w × (agree v w q ≡ false) × (x ≡ q)
   unfolding runs_on
@@ -132,22 +97,20 @@ module _ (z : Sizes) (T : Sheet) (constraint : ℕ → Constraint) (v w : ℕ �
       let d = none_given (first_from (kept T v) 1 z.i) 28 0 _ c.1 in
       let f = ask_given _ 24 q _ d.1 in
       let same : given q ≡ given x = f.1 in
-      (record { satisfied = record { first = a.0; second = b.0 }; input = c.0; broken = d.0 }, not-true (agree v w q) f.0, cc)
-
--- the search among the inputs, as many as an array has room for
-pub broken_all : (T : Sheet) (v : ℕ → ℕ) (i : ℕ) {k : ℕ} → i ≤ 256 → k ≡ first_from (kept T v) 1 (min i 256) → k ≡ first_from (kept T v) 1 i
-broken_all T v i few e = let all : min i 256 ≡ i = omega arith in e ∙ rw all
+      (record { first = a.0; second = b.0; input = c.0; broken = d.0 }, not-true (agree v w q) f.0, cc)
 
 -- the runs as they are copied into arrays, the second from the part after the first
-pub runs_copied : (z : Sizes) (T : Sheet) (constraint : ℕ → Constraint) (values first second : List ℕ) (q : ℕ)
-    → z.n ≤ 256 → 4 * z.n ≤ length values
-    → values_in first ≡ value_of (run_in values (min z.n 256))
+pub runs_copied : (z : Sizes) (T : Sheet) (constraint : ℕ → Constraint) (t first second : List ℕ) (q : ℕ) → z.n ≤ 256 → length t ≡ 7 + 8 * z.n
+    → let values = take (length t - 7) (drop 7 t) in
+    values_in first ≡ value_of (run_in values (min z.n 256))
     → values_in second ≡ value_of (run_in (take (length values - 4 * z.n) (drop (4 * z.n) values)) (min z.n 256))
     → runs_on z T constraint (values_in first) (values_in second) q
-    ≡ runs_on z T constraint (value_of (run_in values z.n)) (value_of (run_in (drop (4 * z.n) values) z.n)) q
-runs_copied z T constraint values first second q few long e f =
+    ≡ runs_on z T constraint (value_of (first_run z.n t)) (value_of (second_run z.n t)) q
+runs_copied z T constraint t first second q few long e f =
     let all : min z.n 256 ≡ z.n = omega arith in
-    ap₂ (λ (x y : ℕ → ℕ). runs_on z T constraint x y q) (e ∙ rw all) (f ∙ rw (all, part_drop values (4 * z.n) long))
+    let values : take (length t - 7) (drop 7 t) ≡ drop 7 t = part_drop t 7 (omega arith) in
+    let room : 4 * z.n ≤ length (drop 7 t) = omega (arith, length-drop 7 t) in
+    ap₂ (λ (x y : ℕ → ℕ). runs_on z T constraint x y q) (e ∙ rw (all, values)) (f ∙ rw (all, values, part_drop (drop 7 t) (4 * z.n) room))
 
 search_same : (p m : ℕ) (constraint other : ℕ → Constraint) (v : ℕ → ℕ) → ((k : ℕ) → 1 ≤ k → k ≤ m → constraint k ≡ other k)
     → first_from (satisfied_by p constraint v) 1 m ≡ first_from (satisfied_by p other v) 1 m
@@ -159,33 +122,24 @@ runs_same : (z : Sizes) (T : Sheet) (constraint other : ℕ → Constraint) (v w
 unfolding runs_on
 runs_same z T constraint other v w q h = rw (search_same z.p z.m constraint other v h, search_same z.p z.m constraint other w h)
 
--- The call by the bytes
+-- The call on a circuit and a sheet that aren't refused
 
-module _ (s h t : List ℕ) (z : Sizes) (Z : Sized s z) where
-  call_by : pair_call s h t ≡ and_then (sheet_on z h) (λ T.
-      and_then (file_on z t) (runs_on z T (constraint_of (drop 17 s)) (value_of (first_run z.n t)) (value_of (second_run z.n t))))
+module _ (s h t : List ℕ) {z : Sizes} (read : circuit_call s ≡ given z) (fits : sheet_on z h ≡ given (sheet_of h)) where
+  call_by : pair_call s h t
+      ≡ and_then (file_on z t) (runs_on z (sheet_of h) (constraint_of (drop 17 s)) (value_of (first_run z.n t)) (value_of (second_run z.n t)))
   unfolding pair_call pair_on
   call_by =
+      let Z = call_sized read in
       let C = circuit_of s in
       rw (sizes_are Z)
-      (on_sized _ Z
-      ∙ then_same (sheet_on (sizes_of C) h) _ _
-      (λ T. then_same (file_on (sizes_of C) t) _ _
-      (λ q. runs_same (sizes_of C) T (constraint_at C) (constraint_of (drop 17 s)) _ _ q (λ k l g. sized_constraint Z k l (omega (arith, Z.is_m))))))
+      (tagged_given s h read fits (λ C T. pair_on C T t)
+      ∙ then_same (file_on (sizes_of C) t) _ _
+      (λ q. runs_same (sizes_of C) (sheet_of h) (constraint_at C) (constraint_of (drop 17 s)) _ _ q
+      (λ k l g. sized_constraint Z k l (omega (arith, Z.is_m)))))
 
-  pub sheet_refused : {number place : ℕ} → refused number place ≡ sheet_on z h → refused number place ≡ pair_call s h t
-  sheet_refused e = sym (call_by ∙ rw (← e))
+  pub file_refused : {number place : ℕ} → refused number place ≡ file_on z t → refused number place ≡ pair_call s h t
+  file_refused e = sym (call_by ∙ rw (← e))
 
-  -- on a sheet that isn't refused
-  module _ (whole : given (sheet_of h) ≡ sheet_on z h) where
-    pub file_refused : (r : Answer ℕ) (number place : ℕ) → r ≡ file_on z t → r ≡ refused number place → r ≡ pair_call s h t
-    file_refused r number place e f = sym (call_by ∙ rw (← whole, ← e, f))
-
-    pub runs_answer : (f r : Answer ℕ) (q : ℕ) → f ≡ file_on z t → f ≡ given q → (body values : List ℕ) → body ≡ drop 17 s → values ≡ values_of t
-        → r ≡ runs_on z (sheet_of h) (constraint_of body) (value_of (run_in values z.n)) (value_of (run_in (drop (4 * z.n) values) z.n)) q
-        → r ≡ pair_call s h t
-    runs_answer f r q e g body values b c a = sym (call_by ∙ rw (← whole, ← e, g) (sym (a ∙ rw (b, c))))
-
--- a file that isn't refused is as long as it must be
-pub file_long : (z : Sizes) (t : List ℕ) (f : Answer ℕ) (q : ℕ) → f ≡ file_on z t → f ≡ given q → 7 + 8 * z.n ≤ length t
-file_long z t f q e g = omega (arith, (file_given z t q (sym e ∙ g)).0.framed.sized)
+  pub runs_answer : {q : ℕ} {r : Answer ℕ} → given q ≡ file_on z t
+      → r ≡ runs_on z (sheet_of h) (constraint_of (drop 17 s)) (value_of (first_run z.n t)) (value_of (second_run z.n t)) q → r ≡ pair_call s h t
+  runs_answer e a = a ∙ sym (call_by ∙ rw (← e))

@@ -11,13 +11,12 @@ use Rattle.circuit.specs.Circuit.{Circuit, constraint_at, value_of, IsRun, Satis
 use Rattle.circuit.specs.Reading.{Reading, whole, fault}
 use Rattle.circuit.specs.Reader.{read_circuit}
 use Rattle.circuit.specs.Runs.{run_in, first_from, below, unsatisfied, agree}
-use Rattle.circuit.specs.Answer.{Answer, refused, given, and_then}
-use Rattle.circuit.specs.Call.{sizes_of, on_circuit, circuit_call}
+use Rattle.circuit.specs.Answer.{given, and_then}
+use Rattle.circuit.specs.Call.{sizes_of, on_circuit}
 use Rattle.circuit.proofs.AnswerLaws.{next_given}
 use Rattle.circuit.proofs.WellFormed.{read_well_formed}
 use Rattle.circuit.proofs.SearchLaws.{passed, none, first_same, below_yes, agree_yes, agree_is, satisfying, none_unsatisfied}
 use Rattle.circuit.proofs.CopyLaws.{run_length, run_value, value_drop}
-use Rattle.circuit.proofs.Sized.{on_refused}
 use Rattle.tags.specs.Tag.{Sheet, Allowed, keeps, kept}
 use Rattle.tags.specs.Sheet.{sheet_on}
 use Rattle.tags.proofs.TagLaws.{keeps_each, each_keeps}
@@ -74,14 +73,12 @@ module _ {s h t : List ℕ} {C : Circuit} {T : Sheet} (W : WellFormedPair s h t 
       ∙ sym
       (runs_differ (sizes_of C) T (constraint_at C) v w (signal_of t)
       (record {
-        satisfied = record {
-          first = none_unsatisfied C _ positive S.first.satisfies;
-          second = none_unsatisfied C _ positive S.second.satisfies;
-        };
+        first = none_unsatisfied C _ positive S.first.satisfies;
+        second = none_unsatisfied C _ positive S.second.satisfies;
         input = none (agree v w) C.i (λ k l m. agree_yes v w k (S.share k l m));
         broken = none_broken C T _ S.first;
       })
-      refl refl S.differ)
+      S.differ)
 
   shows : pair_call s h t ≡ given (signal_of t) → Shown C T t
   unfolding kept unsatisfied
@@ -92,8 +89,8 @@ module _ {s h t : List ℕ} {C : Circuit} {T : Sheet} (W : WellFormedPair s h t 
       let share : (k : ℕ) → 1 ≤ k → k ≤ C.i → v k ≡ w k = λ k l m. agree_is v w k (passed (agree v w) C.i runs.0.input k l m) in
       let same = first_same (kept T v) (kept T w) C.i (λ k l m. ap (λ (x : ℕ). keeps T.tag k x T.count) (share k l m)) in
       record {
-        first = allowed C T _ (satisfying C _ (is_run_lem 0 (omega arith)) runs.0.satisfied.first) runs.0.broken;
-        second = allowed C T _ (satisfying C _ (is_run_lem C.n (omega arith)) runs.0.satisfied.second) (sym same ∙ runs.0.broken);
+        first = allowed C T _ (satisfying C _ (is_run_lem 0 (omega arith)) runs.0.first) runs.0.broken;
+        second = allowed C T _ (satisfying C _ (is_run_lem C.n (omega arith)) runs.0.second) (sym same ∙ runs.0.broken);
         share = share;
         differ = λ equal. let z : true ≡ false = sym (agree_yes v w (signal_of t) equal) ∙ runs.1 in let y : ◌≡◌ {A = ℕ} 0 1 = cc in omega arith;
       }
@@ -130,12 +127,3 @@ only s h t q e = go (read_circuit s) refl e
 -- EXACT, for all bytes
 pub exact : (s h t : List ℕ) → Exact s h t (pair_call s h t)
 exact s h t = record { accepts = λ C T W. accepts W; shows = λ C T W. shows W; only = only s h t }
-
--- an answer that is the call's
-pub exactly : (s h t : List ℕ) (r : Answer ℕ) → r ≡ pair_call s h t → (r ≡ pair_call s h t) × Exact s h t r
-exactly s h t r e = (e, rw e (exact s h t))
-
--- the circuit's refusal is the call's
-pub circuit_refused : (s h t : List ℕ) {number place : ℕ} → refused number place ≡ circuit_call s → refused number place ≡ pair_call s h t
-unfolding pair_call
-circuit_refused s h t e = on_refused s _ e
