@@ -32,6 +32,7 @@ impl<'a> Tagged<'a> {
         check_sheet(sheet, file.sizes)?;
         Ok(Tagged { file, sheet })
     }
+
     // Rule 3.2: lowers the bound of each input to the limits of all tags on it.
     pub fn lower_inputs(&self, bounds: &mut [u32])
         ensures { Lowered self.now.file.sizes.i (sheet_of self.now.sheet.now) bounds.old bounds.new }
