@@ -25,6 +25,7 @@ const PAIR_LETTER: u32 = 80;
 const PAIR_HEADER: usize = 7;
 
 // The call's answer: a refusal's number and place, or the signal at which the runs differ.
+// Stays: the paper's form is one enum per call, whose cases carry a refusal's number and place, or the result.
 #[derive(Clone, Copy, Debug, PartialEq, Eq)]
 pub enum PairAnswer {
     Refused { number: u32, place: usize },

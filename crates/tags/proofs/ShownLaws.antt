@@ -3,6 +3,7 @@ use Prim.Native.Nat.{ℕ, zero, suc, ◌+◌, ◌-◌, ◌≤◌}
 use mathlib.Core.Path.{◌≡◌, refl, sym, ap, ◌∙◌}
 use mathlib.Core.Bool.{Bool, true, false, cond, ◌&&◌, beq}
 use native.Mathlib.Omega.{arith}
+use borrow.Author.Rules.{rules}
 use lib.Dec.{leb}
 use Rattle.std.specs.Prelude.{Option, Some, None}
 use Rattle.std.specs.Int.{from_bool}
@@ -35,8 +36,7 @@ shown_turn i bound tag k count l e is tested counted =
     kept false = refl
 
 pub one_most : (b : Bool) → from_bool b ≤ 1
-one_most true = omega arith
-one_most false = omega arith
+one_most b = search rules
 
 -- what is found, by number
 pub found_number : (n : ℕ) → unwrap_or (found n) 0 ≡ n

@@ -6,12 +6,13 @@ use mathlib.Core.List.{List}
 use mathlib.Core.Logic.{inl, inr}
 use native.Mathlib.Nat.{pow-le-pow_right, one-le-pow}
 use Rattle.std.proofs.lemmas.Nat.{one_shl}
+use Rattle.std.proofs.lemmas.Grind.{common_steps}
 use native.Mathlib.Omega.{arith}
+use Rattle.std.proofs.lemmas.Bool.Decides.{nat_tests}
 use native.Mathlib.Decide.{dec_le, ℕ_discrete}
-use borrow.Author.Tests.{le-leb, lt-leb, leb-true, eq-eqb, ne_eqb, eqb-true}
+use borrow.Author.Tests.{le-leb, leb-true, eq-eqb, eqb-true}
 use lib.Dec.{leb, eqb}
 use lib.ListN.{length, set, get_or, replicate, length-set, length-replicate, get_or-replicate}
-use lib.Seq.{get_or-set_same, get_or-set_other}
 use Rattle.circuit.specs.Run.{values_in}
 use Rattle.laws.specs.Sum.{implies}
 use Rattle.laws.specs.Standing.{is_input}
@@ -70,35 +71,14 @@ least_more false on least limit x = refl
 pub lower_none : {i : ℕ} {t : Tag} {before : List ℕ}
     → ((s : ℕ) → s < length before → 1 ≤ s → s ≤ i → t.signal ≡ s → values_in before s ≤ limit t) → LoweredBy i t before before
 unfolding is_input
-lower_none {i} {t} {before} h = record { sized = refl; each = λ s l. go s l (is_input i s) refl (eqb t.signal s) refl }
-  where
-    go : (s : ℕ) → s < length before → (b : Bool) → is_input i s ≡ b → (c : Bool) → eqb t.signal s ≡ c
-        → values_in before s ≡ cond (b && c) (min (values_in before s) (limit t)) (values_in before s)
-    go s l true e true f =
-        let w = h s l (leb-true 1 s (and_left _ (leb s i) e)) (leb-true s i (and_right (leb 1 s) _ e)) (eqb-true _ _ f) in
-        omega (arith, w)
-    go s l true e false f = refl
-    go s l false e c f = refl
+lower_none {i} {t} {before} h = record { sized = refl; each = λ s l. grind (arith, nat_tests, h s l) }
 
 pub lower_set : {i : ℕ} {t : Tag} {before : List ℕ} (least : ℕ) → 1 ≤ t.signal → t.signal ≤ i → t.signal < length before
     → values_in before t.signal ≤ number_most → least ≡ min (values_in before t.signal) (min (limit t) number_most)
     → LoweredBy i t before (set before t.signal least)
 unfolding is_input values_in
 lower_set {i} {t} {before} least l m inside small is =
-    record { sized = length-set before t.signal least; each = λ s h. go s (ℕ_discrete s t.signal) }
-  where
-    off : (b : Bool) (y z : ℕ) → z ≡ cond (b && false) y z
-    off true y z = refl
-    off false y z = refl
-
-    go : (s : ℕ) → Dec (s ≡ t.signal) → values_in (set before t.signal least) s
-        ≡ cond (is_input i s && eqb t.signal s) (min (values_in before s) (limit t)) (values_in before s)
-    go s (yes e) =
-        rw (e, get_or-set_same before t.signal least 0 inside, le-leb 1 t.signal l, le-leb t.signal i m, eq-eqb t.signal t.signal refl)
-        (omega arith)
-    go s (no e) =
-        rw (get_or-set_other before t.signal s least 0 e, ne_eqb t.signal s (λ z. e (sym z)))
-        (off (leb 1 s && leb s i) _ (get_or before s 0))
+    record { sized = length-set before t.signal least; each = λ s h. grind (arith, common_steps) }
 
 -- tags 1 to k of a sheet
 abbrev pub up_to : Sheet → ℕ → Sheet
@@ -146,20 +126,11 @@ least_above tag s x y (suc k) h each =
 -- Tests by the limits of all tags
 
 leb_min : (x a b : ℕ) → leb x b && leb x a ≡ leb x (min a b)
-leb_min x a b = go (dec_le x a) (dec_le x b)
-  where
-    go : Dec (x ≤ a) → Dec (x ≤ b) → leb x b && leb x a ≡ leb x (min a b)
-    go (yes h) (yes g) = rw (le-leb x b g, le-leb x a h, le-leb x (min a b) (omega arith))
-    go (no h) (yes g) = rw (le-leb x b g, lt-leb x a (omega arith), lt-leb x (min a b) (omega arith))
-    go d (no g) = rw (lt-leb x b (omega arith), lt-leb x (min a b) (omega arith))
+leb_min x a b = grind (arith, nat_tests)
 
 -- a value of 32 bits is within a limit exactly if it is within the limit as far as 32 bits go
 pub leb_capped : (x l : ℕ) → x ≤ number_most → leb x (min l number_most) ≡ leb x l
-leb_capped x l h = go (dec_le x l)
-  where
-    go : Dec (x ≤ l) → leb x (min l number_most) ≡ leb x l
-    go (yes g) = rw (le-leb x l g, le-leb x (min l number_most) (omega arith))
-    go (no g) = rw (lt-leb x l (omega arith), lt-leb x (min l number_most) (omega arith))
+leb_capped x l h = grind (arith, nat_tests)
 
 -- all tags on s are kept exactly if the value is within their least limit
 pub keeps_least : (tag : ℕ → Tag) (s x most k : ℕ) → x ≤ most → keeps tag s x k ≡ leb x (least_of tag s most k)

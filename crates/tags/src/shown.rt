@@ -70,6 +70,7 @@ impl<'a> Showing<'a> {
 }
 
 // Rule 6.10, for i inputs.
+// Stays: it serves any bytes and any i, which a struct of a circuit and its sheet would not.
 #[tactic(auto, using(crate::proofs::ShownLaws::found_number), unfolding(crate::specs::Tag::shown_by))]
 pub fn show(sheet: &[u8], bounds: &[u32], i: u32) -> Shown
     ensures { shown_in result ≡ shown_by i (sheet_of sheet.now) (values_in bounds.now) }
