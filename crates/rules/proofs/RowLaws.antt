@@ -66,7 +66,7 @@ module _ (q : ℕ → Bool) where
 -- Entries
 
 -- what stands at place i
-pub record Entry (p n : ℕ) (K : Constraint) (row : List ℕ) (i : ℕ) : Type 0 where
+pub record EntryIs (p n : ℕ) (K : Constraint) (row : List ℕ) (i : ℕ) : Type 0 where
   pub within : signal_on row i ≤ n
   pub standing : stands K (signal_on row i) ≡ true
   pub place : rank (stands K) (signal_on row i) ≡ i
@@ -77,7 +77,7 @@ module _ {p n : ℕ} {K : Constraint} {row : List ℕ} (R : Row p n K row) where
   pub entries_are : entries row ≡ rank (stands K) (suc n)
   entries_are = omega (arith, R.counted)
 
-  pub row_entry : (i : ℕ) → i < entries row → Entry p n K row i
+  pub row_entry : (i : ℕ) → i < entries row → EntryIs p n K row i
   row_entry i h =
       let r = rank_onto (stands K) (suc n) i (omega (arith, entries_are)) in
       let near : r.index ≤ n = omega (arith, r.below) in

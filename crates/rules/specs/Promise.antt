@@ -7,6 +7,7 @@ use Rattle.laws.specs.Standing as laws
 use Rattle.laws.specs.Step as step
 use Rattle.rules.specs.View.{view_of}
 use Rattle.rules.specs.Rows.{Row}
+use Rattle.rules.specs.declared.rows.Entry.{Entry}
 use Rattle.rules.specs.declared.standing.Standing.{Standing}
 use Rattle.rules.specs.declared.standing.Verdict.{Verdict}
 use Rattle.rules.specs.declared.standing.Verdict.TheVariants.{Unmet, AtMost}
@@ -58,7 +59,7 @@ reduces step.Product = false
 reduces step.Digits = true
 
 -- what a step is asked with: a prime, target and reference in range, and the row of the constraint that it names where its rule looks at the reduced form
-pub record Asked (q : step.Kind) (p n : ℕ) (part row : List ℕ) (t r : ℕ) : Type 0 where
+pub record Asked (q : step.Kind) (p n : ℕ) (part : List ℕ) (row : List Entry) (t r : ℕ) : Type 0 where
   pub prime : Prime p
   pub few : n ≤ signals_most
   pub least : 1 ≤ t

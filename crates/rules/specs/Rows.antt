@@ -7,6 +7,7 @@ use Rattle.circuit.specs.Reader.{signals_most}
 use Rattle.laws.specs.Sum.{sum, keep}
 use Rattle.laws.specs.Rules.{reduced}
 use Rattle.rules.specs.View.{coef_in, bound_in, mark_in}
+use Rattle.rules.specs.declared.rows.Entry.{Entry}
 
 -- the number at a place, 0 past the end
 unfoldable pub at : List ℕ → ℕ → ℕ
@@ -32,30 +33,41 @@ stands K (suc s) = involves K (suc s)
 unfoldable pub forms_of : Constraint → ℕ → ℕ
 forms_of K s = keep (names K.a s) 1 + keep (names K.b s) 2 + keep (names K.c s) 4
 
+-- an entry of the constant that no form names: what a row holds past its end
+unfoldable pub nothing : Entry
+nothing = record { coefficient = 0; signal = 0; forms = 0 }
+
+-- the entry of a signal (0 for the constant)
+unfoldable pub entry_of : ℕ → Constraint → ℕ → Entry
+entry_of p K s = record { coefficient = reduced p K s; signal = s; forms = forms_of K s }
+
 -- how many entries a row has
-abbrev pub entries : List ℕ → ℕ
-entries row = length row / 2
+abbrev pub entries : List Entry → ℕ
+entries row = length row
 
--- entry i of a row is two numbers: a signal (0 for the constant) with 512 times its forms, and its coefficient
-unfoldable pub signal_on : List ℕ → ℕ → ℕ
-signal_on row i = at row (2 * i) % 512
+-- the entry at a place, `nothing` past the end
+unfoldable pub entry_at : List Entry → ℕ → Entry
+entry_at row i = get_or row i nothing
 
-unfoldable pub forms_on : List ℕ → ℕ → ℕ
-forms_on row i = at row (2 * i) / 512
+unfoldable pub signal_on : List Entry → ℕ → ℕ
+signal_on row i = (entry_at row i).signal
 
-unfoldable pub coef_on : List ℕ → ℕ → ℕ
-coef_on row i = at row (2 * i + 1)
+unfoldable pub forms_on : List Entry → ℕ → ℕ
+forms_on row i = (entry_at row i).forms
+
+unfoldable pub coef_on : List Entry → ℕ → ℕ
+coef_on row i = (entry_at row i).coefficient
 
 -- bound and mark of the signal of entry i
-unfoldable pub bound_on : ℕ → List ℕ → List ℕ → ℕ → ℕ
+unfoldable pub bound_on : ℕ → List ℕ → List Entry → ℕ → ℕ
 bound_on p bounds row i = bound_in p bounds (signal_on row i)
 
-unfoldable pub mark_on : List Bool → List ℕ → ℕ → Bool
+unfoldable pub mark_on : List Bool → List Entry → ℕ → Bool
 mark_on marks row i = mark_in marks (signal_on row i)
 
 -- The row of a constraint: what stands in it, in rising order, and nothing else.
-pub record Row (p n : ℕ) (K : Constraint) (row : List ℕ) : Type 0 where
-  pub counted : length row ≡ 2 * rank (stands K) (suc n)
+pub record Row (p n : ℕ) (K : Constraint) (row : List Entry) : Type 0 where
+  pub counted : entries row ≡ rank (stands K) (suc n)
   pub signal : (s : ℕ) → s ≤ n → stands K s ≡ true → signal_on row (rank (stands K) s) ≡ s
   pub forms : (s : ℕ) → s ≤ n → stands K s ≡ true → forms_on row (rank (stands K) s) ≡ forms_of K s
   pub coef : (s : ℕ) → s ≤ n → stands K s ≡ true → coef_on row (rank (stands K) s) ≡ reduced p K s
@@ -64,24 +76,24 @@ pub record Row (p n : ℕ) (K : Constraint) (row : List ℕ) : Type 0 where
 
 -- Where row k starts: a term takes six bytes, so that what the constraints before it need lies before it.
 unfoldable pub start_of : List ℕ → ℕ → ℕ
-start_of table k = 2 * (at table k / 6 + k)
+start_of table k = at table k / 6 + k
 
--- how many numbers row k has
+-- how many entries row k has
 unfoldable pub row_size : Circuit → ℕ → ℕ
-row_size C k = 2 * rank (stands (constraint_at C k)) (suc C.n)
+row_size C k = rank (stands (constraint_at C k)) (suc C.n)
 
--- the numbers of row k, which ends where `ends` says
-unfoldable pub row_of : List ℕ → List ℕ → List ℕ → ℕ → List ℕ
+-- the entries of row k, which ends where `ends` says
+unfoldable pub row_of : List ℕ → List ℕ → List Entry → ℕ → List Entry
 row_of table ends rows k = take (at ends k - start_of table k) (drop (start_of table k) rows)
 
 -- the row of each constraint that has been made; `ends` is 0 at the others
-pub record Rows (C : Circuit) (table ends rows : List ℕ) : Type 0 where
+pub record Rows (C : Circuit) (table ends : List ℕ) (rows : List Entry) : Type 0 where
   pub each : (k : ℕ) → 1 ≤ k → k ≤ C.m → (at ends k ≡ 0) ⊎ Row C.p C.n (constraint_at C k) (row_of table ends rows k)
 
 -- room for the rows of every circuit of so many bytes, and for m ends
-pub record Roomy (bytes m : ℕ) (ends rows : List ℕ) : Type 0 where
+pub record Roomy (bytes m : ℕ) (ends : List ℕ) (rows : List Entry) : Type 0 where
   pub ends_room : m < length ends
-  pub rows_room : 2 * (bytes / 6 + m + 1) ≤ length rows
+  pub rows_room : bytes / 6 + m + 1 ≤ length rows
 
 -- Making rows
 
@@ -103,17 +115,16 @@ pub record Reduces (p : ℕ) (K : Constraint) (coefs forms : List ℕ) : Type 0 
   pub named : (s : ℕ) → s ≤ signals_most → coef_in forms s ≡ forms_of K s
 
 -- From `start` to `end` the entries of the signals below n are put, and the other places are as before.
-pub record Put (p n : ℕ) (K : Constraint) (start end : ℕ) (rows rows' : List ℕ) : Type 0 where
-  pub ends : end ≡ start + 2 * rank (stands K) n
-  pub signal : (s : ℕ) → s < n → stands K s ≡ true → at rows' (start + 2 * rank (stands K) s) ≡ 512 * forms_of K s + s
-  pub coef : (s : ℕ) → s < n → stands K s ≡ true → at rows' (start + 2 * rank (stands K) s + 1) ≡ reduced p K s
-  pub others : (i : ℕ) → (i < start) ⊎ (end ≤ i) → at rows' i ≡ at rows i
+pub record Put (p n : ℕ) (K : Constraint) (start end : ℕ) (rows rows' : List Entry) : Type 0 where
+  pub ends : end ≡ start + rank (stands K) n
+  pub entry : (s : ℕ) → s < n → stands K s ≡ true → entry_at rows' (start + rank (stands K) s) ≡ entry_of p K s
+  pub others : (i : ℕ) → (i < start) ⊎ (end ≤ i) → entry_at rows' i ≡ entry_at rows i
 
 -- Row k is there. It was made now, unless it was there before; the rows that were there before are as they were.
-pub record RowMade (C : Circuit) (table : List ℕ) (k : ℕ) (ends rows ends' rows' : List ℕ) : Type 0 where
+pub record RowMade (C : Circuit) (table : List ℕ) (k : ℕ) (ends : List ℕ) (rows : List Entry) (ends' : List ℕ) (rows' : List Entry) : Type 0 where
   pub all : Rows C table ends' rows'
   pub made : at ends' k ≡ 0 → ⊥
   pub kept : (j : ℕ) → 1 ≤ j → j ≤ C.m → (at ends j ≡ 0 → ⊥) → row_of table ends' rows' j ≡ row_of table ends rows j
   pub ends_kept : (j : ℕ) → (j ≡ k → ⊥) → at ends' j ≡ at ends j
   pub end : at ends k ≡ 0 → at ends' k ≡ start_of table k + row_size C k
-  pub others : (i : ℕ) → (i < start_of table k) ⊎ (at ends' k ≤ i) → at rows' i ≡ at rows i
+  pub others : (i : ℕ) → (i < start_of table k) ⊎ (at ends' k ≤ i) → entry_at rows' i ≡ entry_at rows i

@@ -8,6 +8,7 @@ use Rattle.laws.specs.Sum.{sum}
 use Rattle.laws.specs.Rules.{reduced, occurs, sum_term, sum_bound, sum_met, others_marked}
 use Rattle.rules.specs.Rows.{entries, signal_on}
 use Rattle.rules.specs.declared.form.Seen.{Seen}
+use Rattle.rules.specs.declared.rows.Entry.{Entry}
 
 -- a term on this signal is passed over, or leaves all signals but t marked
 unfoldable pub allowed : (ℕ → Bool) → ℕ → ℕ → Bool
@@ -41,7 +42,7 @@ pub record OneSum (p n : ℕ) (R b : ℕ → ℕ) (target bound : ℕ) : Type 0 
 -- Sums by a row, of which R and b are coefficients and bounds by place
 
 -- where t stands, 0 where it doesn't
-pub record Placed (row : List ℕ) (t e : ℕ) : Type 0 where
+pub record Placed (row : List Entry) (t e : ℕ) : Type 0 where
   pub found : 1 ≤ e → (e < entries row) × (signal_on row e ≡ t)
   pub none : e ≡ 0 → (i : ℕ) → 1 ≤ i → i < entries row → signal_on row i ≡ t → ⊥
 

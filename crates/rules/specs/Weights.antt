@@ -8,6 +8,7 @@ use Rattle.laws.specs.Rules.{reduced, occurs, live, separated}
 use Rattle.rules.specs.View.{coef_in, bound_in, mark_in}
 use Rattle.rules.specs.Rows.{rank, entries, signal_on, coef_on, bound_on, mark_on, Row}
 use Rattle.rules.specs.declared.digits.Few.{Few}
+use Rattle.rules.specs.declared.rows.Entry.{Entry}
 
 unfoldable pub scaled : ℕ → (ℕ → ℕ) → ℕ → ℕ → ℕ
 scaled p R scale s = R s * scale % p
@@ -17,7 +18,7 @@ unfoldable pub live_bound : (ℕ → ℕ) → (ℕ → ℕ) → (ℕ → Bool) �
 live_bound R b m s = keep (live R m s) (b s)
 
 -- the bounds of the unmarked entries of a row
-unfoldable pub bounds_on : ℕ → List ℕ → List Bool → List ℕ → ℕ → ℕ
+unfoldable pub bounds_on : ℕ → List ℕ → List Bool → List Entry → ℕ → ℕ
 bounds_on p bounds marks row = live_bound (coef_on row) (bound_on p bounds row) (mark_on marks row)
 
 -- a bound above 0
@@ -46,23 +47,23 @@ pub record Gathered (q : ℕ → Bool) (f g : ℕ → ℕ) (k : ℕ) (xs ys : Li
   pub second : (s : ℕ) → s < k → q s ≡ true → coef_in ys (rank q s) ≡ g s
 
 -- the entries with a bound above 0 are gathered, all of them if they are fewer than 32
-pub record Gathers (p : ℕ) (row bounds : List ℕ) (marks : List Bool) (few : Few) : Type 0 where
+pub record Gathers (p : ℕ) (row : List Entry) (bounds : List ℕ) (marks : List Bool) (few : Few) : Type 0 where
   pub upto : ℕ
   pub within : upto ≤ entries row
   pub whole : few.count < 32 → entries row ≤ upto
   pub gathered : Gathered (positive (bounds_on p bounds marks row)) (coef_on row) (bounds_on p bounds marks row) upto few.coefs few.bounds few.count
 
 -- what is known where references are tried
-pub record Ready (p : ℕ) (row bounds : List ℕ) (marks : List Bool) (coefs ceilings : List ℕ) (count : ℕ) : Type 0 where
+pub record Ready (p : ℕ) (row : List Entry) (bounds : List ℕ) (marks : List Bool) (coefs ceilings : List ℕ) (count : ℕ) : Type 0 where
   pub differ : Differ (coef_on row) (mark_on marks row) (entries row)
   pub gathered : Gathered (positive (bounds_on p bounds marks row)) (coef_on row) (bounds_on p bounds marks row) (entries row) coefs ceilings count
 
 -- no reference separates the unmarked signals of the row
-pub record Hopeless (p : ℕ) (row bounds : List ℕ) (marks : List Bool) : Type 0 where
+pub record Hopeless (p : ℕ) (row : List Entry) (bounds : List ℕ) (marks : List Bool) : Type 0 where
   pub fails : (n : ℕ) (K : Constraint) → Prime p → Row p n K row → (r : ℕ) → occurs (reduced p K) r ≡ true
       → separated p n (reduced p K) (bound_in p bounds) (mark_in marks) r ≡ false
 
-pub record Prepared (p : ℕ) (row bounds : List ℕ) (marks : List Bool) (few : Few) : Type 0 where
+pub record Prepared (p : ℕ) (row : List Entry) (bounds : List ℕ) (marks : List Bool) (few : Few) : Type 0 where
   pub ready : few.count < 32 → Ready p row bounds marks few.coefs few.bounds few.count
   pub hopeless : 32 ≤ few.count → Hopeless p row bounds marks
 
@@ -87,7 +88,7 @@ exceeds p R m scale weights products count s =
 -- The answers for a row
 
 -- x tells whether the reference at entry i separates the unmarked signals
-abbrev pub Tells : ℕ → List ℕ → List ℕ → List Bool → ℕ → Bool → Type 0
+abbrev pub Tells : ℕ → List Entry → List ℕ → List Bool → ℕ → Bool → Type 0
 Tells p row bounds marks i x =
     (n : ℕ) (K : Constraint) → Prime p → Row p n K row
     → x ≡ (occurs (reduced p K) (signal_on row i) && separated p n (reduced p K) (bound_in p bounds) (mark_in marks) (signal_on row i))

@@ -16,7 +16,7 @@ ghost use Rattle.rules.specs.Weights.{smaller, smaller_at, Fitting, exceeds, Tel
 
 use crate::arith::{larger, lesser, multiply_add, product};
 use crate::constraint::is_linear;
-use crate::rows::FORMS;
+use crate::rows::Entry;
 use crate::view::{bound_at, mark_at};
 use field::modular::inverse;
 
@@ -29,23 +29,23 @@ pub struct Few {
 }
 
 // The signal of entry i.
-fn signal_on(row: &[u32], i: usize) -> u32
+fn signal_on(row: &[Entry], i: usize) -> u32
     requires { i < entries row.now }
     ensures { result ≡ signal_on row.now i }
 {
-    row[2 * i] % FORMS
+    row[i].signal as u32
 }
 
 // The coefficient of entry i.
-fn coef_on(row: &[u32], i: usize) -> u32
+fn coef_on(row: &[Entry], i: usize) -> u32
     requires { i < entries row.now }
     ensures { result ≡ coef_on row.now i }
 {
-    row[2 * i + 1]
+    row[i].coefficient
 }
 
 // Whether entry i is an unmarked signal with a coefficient.
-fn is_live(row: &[u32], marks: &[bool], i: usize) -> bool
+fn is_live(row: &[Entry], marks: &[bool], i: usize) -> bool
     requires { i < entries row.now }
     ensures { result ≡ live (coef_on row.now) (mark_on marks.now row.now) i }
 {
@@ -59,7 +59,7 @@ fn is_live(row: &[u32], marks: &[bool], i: usize) -> bool
 }
 
 // The bound of entry i if it is one, else 0.
-fn live_bound<'a>(row: &[u32], bounds: &'a [u32], marks: &'a [bool], i: usize, p: u32) -> u32
+fn live_bound<'a>(row: &[Entry], bounds: &'a [u32], marks: &'a [bool], i: usize, p: u32) -> u32
     requires { i < entries row.now }
     ensures { result ≡ bounds_on p bounds.now marks.now row.now i }
 {
@@ -70,11 +70,11 @@ fn live_bound<'a>(row: &[u32], bounds: &'a [u32], marks: &'a [bool], i: usize, p
 }
 
 // The lowest unmarked signal of the row with a coefficient, 0 where there is none.
-pub fn first_live(row: &[u32], marks: &[bool]) -> u32
+pub fn first_live(row: &[Entry], marks: &[bool]) -> u32
     ensures { (p n : ℕ) (K : Constraint) → 0 < p → Row p n K row.now
         → FirstLive n (reduced p K) (mark_in marks.now) result }
 {
-    let end = row.len() / 2;
+    let end = row.len();
     let mut i: usize = 0;
     while i < end {
         if is_live(row, marks, i) {
@@ -86,10 +86,10 @@ pub fn first_live(row: &[u32], marks: &[bool]) -> u32
 }
 
 // Whether the bounds of the unmarked entries add up to p or more. So do they with weights, which are at least 1.
-fn is_crowded<'a>(row: &[u32], bounds: &'a [u32], marks: &'a [bool], p: u32) -> bool
+fn is_crowded<'a>(row: &[Entry], bounds: &'a [u32], marks: &'a [bool], p: u32) -> bool
     ensures { result ≡ true → p ≤ sum (entries row.now) (bounds_on p bounds.now marks.now row.now) }
 {
-    let end = row.len() / 2;
+    let end = row.len();
     let mut reach: u64 = 0;
     let mut i: usize = 0;
     while i < end {
@@ -103,7 +103,7 @@ fn is_crowded<'a>(row: &[u32], bounds: &'a [u32], marks: &'a [bool], p: u32) -> 
 }
 
 // Whether x is among the first coefficients. No early end, so that the loop takes several at once.
-fn is_among(row: &[u32], count: usize, x: u32) -> bool
+fn is_among(row: &[Entry], count: usize, x: u32) -> bool
     requires { count ≤ entries row.now }
     ensures { result ≡ false → (u : ℕ) → u < count → coef_on row.now u ≡ x → ⊥ }
 {
@@ -119,7 +119,7 @@ fn is_among(row: &[u32], count: usize, x: u32) -> bool
 }
 
 // Whether x is among the coefficients of the first unmarked entries, which are `least` to `most`: outside of that range no search is needed.
-fn is_taken(row: &[u32], marks: &[bool], count: usize, x: u32, least: u32, most: u32) -> bool
+fn is_taken(row: &[Entry], marks: &[bool], count: usize, x: u32, least: u32, most: u32) -> bool
     requires { (count ≤ entries row.now) × Between (coef_on row.now) (mark_on marks.now row.now) count least most }
     ensures { (result ≡ false → Unlike (coef_on row.now) (mark_on marks.now row.now) count x)
         × (result ≡ true → Unlike (coef_on row.now) (mark_on marks.now row.now) count x → ⊥) }
@@ -146,11 +146,11 @@ fn is_taken(row: &[u32], marks: &[bool], count: usize, x: u32, least: u32, most:
 }
 
 // Whether the coefficients of the unmarked entries differ.
-fn coefs_differ(row: &[u32], marks: &[bool]) -> bool
+fn coefs_differ(row: &[Entry], marks: &[bool]) -> bool
     ensures { (result ≡ true → Differ (coef_on row.now) (mark_on marks.now row.now) (entries row.now))
         × (result ≡ false → Differ (coef_on row.now) (mark_on marks.now row.now) (entries row.now) → ⊥) }
 {
-    let end = row.len() / 2;
+    let end = row.len();
     let mut least: u32 = 4294967295;
     let mut most: u32 = 0;
     let mut i: usize = 0;
@@ -169,10 +169,10 @@ fn coefs_differ(row: &[u32], marks: &[bool]) -> bool
 }
 
 // Gathers the unmarked entries with a bound above 0.
-fn gather<'a>(row: &[u32], bounds: &'a [u32], marks: &'a [bool], p: u32) -> Few
+fn gather<'a>(row: &[Entry], bounds: &'a [u32], marks: &'a [bool], p: u32) -> Few
     ensures { Gathers p row.now bounds.now marks.now result }
 {
-    let end = row.len() / 2;
+    let end = row.len();
     let mut coefs = [0u32; 32];
     let mut ceilings = [0u32; 32];
     let mut count: usize = 0;
@@ -210,7 +210,7 @@ fn hopeless() -> Few
 }
 
 // Gathers, where coefficients differ.
-fn gather_differing<'a>(row: &[u32], bounds: &'a [u32], marks: &'a [bool], p: u32) -> Few
+fn gather_differing<'a>(row: &[Entry], bounds: &'a [u32], marks: &'a [bool], p: u32) -> Few
     ensures { Prepared p row.now bounds.now marks.now result }
 {
     if !coefs_differ(row, marks) {
@@ -220,7 +220,7 @@ fn gather_differing<'a>(row: &[u32], bounds: &'a [u32], marks: &'a [bool], p: u3
 }
 
 // All that is tested once for all references. The sum of the bounds is for a search, which has many rows that no reference separates.
-pub fn prepare<'a>(row: &[u32], bounds: &'a [u32], marks: &'a [bool], p: u32) -> Few
+pub fn prepare<'a>(row: &[Entry], bounds: &'a [u32], marks: &'a [bool], p: u32) -> Few
     ensures { Prepared p row.now bounds.now marks.now result }
 {
     if is_crowded(row, bounds, marks, p) {
@@ -260,7 +260,7 @@ fn smaller_sum(weights: &[u32; 32], products: &[u32; 32], count: usize, w: u32) 
 
 // Whether entry i is marked, or its weight exceeds the sum of the products of smaller weights.
 fn stands_out<'a>(
-    row: &[u32],
+    row: &[Entry],
     marks: &[bool],
     i: usize,
     p: u32,
@@ -282,7 +282,7 @@ fn stands_out<'a>(
 
 // Whether this holds of all entries.
 fn all_stand_out<'a>(
-    row: &[u32],
+    row: &[Entry],
     marks: &[bool],
     p: u32,
     scale: u32,
@@ -294,7 +294,7 @@ fn all_stand_out<'a>(
     ensures { result ≡ all (entries row.now) (exceeds p (coef_on row.now) (mark_on marks.now row.now) scale
         (coef_in weights.now) (coef_in products.now) count) }
 {
-    let end = row.len() / 2;
+    let end = row.len();
     let mut i: usize = 0;
     while i < end {
         if !stands_out(row, marks, i, p, scale, weights, products, count) {
@@ -308,7 +308,7 @@ fn all_stand_out<'a>(
 // Whether the reference with this coefficient separates the unmarked signals of the row, of which those with a bound above 0 are gathered: the sum of
 // weight times bound over all is below p, and each weight exceeds the sum over the smaller ones.
 fn separates<'a>(
-    row: &[u32],
+    row: &[Entry],
     marks: &[bool],
     coefs: &'a [u32; 32],
     ceilings: &'a [u32; 32],
@@ -342,7 +342,7 @@ fn separates<'a>(
 }
 
 // Whether the reference at entry i separates the unmarked signals of the row.
-pub fn separates_at(row: &[u32], marks: &[bool], few: Few, p: u32, i: usize) -> bool
+pub fn separates_at(row: &[Entry], marks: &[bool], few: Few, p: u32, i: usize) -> bool
     ensures { (bounds : List ℕ) → Prepared p row.now bounds marks.now few → i < entries row.now
         → Tells p row.now bounds marks.now i result }
 {
@@ -353,7 +353,7 @@ pub fn separates_at(row: &[u32], marks: &[bool], few: Few, p: u32, i: usize) -> 
     if 32 <= count {
         return false;
     }
-    if row.len() / 2 <= i {
+    if row.len() <= i {
         return false;
     }
     let coef = coef_on(row, i);
@@ -364,10 +364,10 @@ pub fn separates_at(row: &[u32], marks: &[bool], few: Few, p: u32, i: usize) -> 
 }
 
 // The coefficient of signal s, 0 where it has none.
-fn coef_of(row: &[u32], s: u32) -> u32
+fn coef_of(row: &[Entry], s: u32) -> u32
     ensures { (p n : ℕ) (K : Constraint) → 0 < p → Row p n K row.now → 1 ≤ s → s ≤ n → result ≡ reduced p K s }
 {
-    let end = row.len() / 2;
+    let end = row.len();
     let mut i: usize = 0;
     while i < end {
         if signal_on(row, i) == s {
@@ -381,7 +381,7 @@ fn coef_of(row: &[u32], s: u32) -> u32
 // Rule 4.7 by a row: whether the digits rule is met for target t with reference r.
 pub(crate) fn digits_met<'a>(
     part: &[u8],
-    row: &[u32],
+    row: &[Entry],
     bounds: &'a [u32],
     marks: &'a [bool],
     p: u32,

@@ -1,54 +1,72 @@
 // Rows of constraints, made when they are first asked for: the constant and the signals that a constraint names, each with the forms that name it
 // and its coefficient.
 
-ghost use Rattle.std.specs.Prelude.{◌≡◌, ◌||◌, ltb, eqb, suc, ◌+◌, ◌*◌, ◌≤◌, ◌<◌, min, length};
+ghost use Rattle.std.specs.Prelude.{◌≡◌, ◌||◌, ltb, eqb, suc, ◌+◌, ◌≤◌, ◌<◌, length};
 ghost use Rattle.circuit.specs.Reader.{signals_most, constraint_in};
 ghost use Rattle.circuit.specs.Offsets.{Offsets};
 ghost use Rattle.circuit.specs.Call.{circuit_of, Sized};
+ghost use Rattle.rules.specs.View.{bound_in, mark_in};
 ghost use Rattle.rules.specs.Rows.{rank, stands, start_of, row_of, Rows, Roomy, Put, RowMade};
 
 use crate::reduced::reduced_form;
-use crate::view::coef_at;
+use crate::view::{bound_at, coef_at, mark_at};
 use circuit::offsets::part_of;
 use circuit::reader::Sizes;
 
-// The first number of an entry is its signal and so many times the forms that name it.
-pub const FORMS: u32 = 512;
-
-// Whether a signal that these forms name has an entry; the constant has one in any case.
-fn has_entry(signal: u32, forms: u8) -> bool
-    ensures { result ≡ (eqb signal 0 || ltb 0 forms) }
-{
-    (signal == 0) | (0 < forms)
+// What a row holds of a signal, 0 for the constant: its coefficient in the reduced form, and the forms that name it, 1 for A, 2 for B and
+// 4 for C, added.
+#[derive(Clone, Copy, Debug, PartialEq, Eq)]
+pub struct Entry {
+    pub coefficient: u32,
+    pub signal: u16,
+    pub forms: u8,
 }
 
-// The first number of an entry.
-fn head_of(signal: u32, forms: u8) -> u32
-    requires { signal ≤ signals_most }
-    ensures { result ≡ 512 * forms + signal }
-{
-    FORMS * forms as u32 + signal
+impl Entry {
+    // The constant, named by no form: what fills an array of rows.
+    pub const NONE: Entry = Entry {
+        coefficient: 0,
+        signal: 0,
+        forms: 0,
+    };
+
+    // The bound of its signal.
+    pub fn bound(self, bounds: &[u32], p: u32) -> u32
+        ensures { result ≡ bound_in p bounds.now self.signal }
+    {
+        bound_at(bounds, self.signal as usize, p)
+    }
+
+    // The mark of its signal.
+    pub fn is_marked(self, marks: &[bool]) -> bool
+        ensures { result ≡ mark_in marks.now self.signal }
+    {
+        mark_at(marks, self.signal as usize)
+    }
 }
+
+// Room for the rows of every circuit: one entry for each six of its at most 60,000 bytes, for each constraint, and one more.
+pub const MOST_ENTRIES: usize = 10513;
 
 // Puts the row of the constraint at the start of the part, as far as there is room, and answers its end.
-fn put_row(rows: &mut [u32], start: usize, part: &[u8], n: u32, p: u32) -> usize
+fn put_row(rows: &mut [Entry], start: usize, part: &[u8], n: u32, p: u32) -> usize
     requires { (n ≤ signals_most) × (start < 4294967296) }
-    ensures { (result ≤ start + 2 * (n + 1))
-        × (1 < p → start + 2 * rank (stands (constraint_in part.now)) (suc n) ≤ length rows.old
+    ensures { (result ≤ start + (n + 1))
+        × (1 < p → start + rank (stands (constraint_in part.now)) (suc n) ≤ length rows.old
         → Put p (suc n) (constraint_in part.now) start result rows.old rows.new) }
 {
     let reduced = reduced_form(part, p);
     let mut end = start;
-    let mut s: u32 = 0;
-    while s <= n {
-        let signal = s;
-        s = s + 1;
-        let named = reduced.forms[signal as usize];
-        if has_entry(signal, named) {
-            if end + 1 < rows.len() {
-                rows[end] = head_of(signal, named);
-                rows[end + 1] = reduced.coefs[signal as usize];
-                end = end + 2;
+    for signal in 0..=n {
+        let forms = reduced.forms[signal as usize];
+        if (signal == 0) | (0 < forms) {
+            if end < rows.len() {
+                rows[end] = Entry {
+                    coefficient: reduced.coefs[signal as usize],
+                    signal: signal as u16,
+                    forms,
+                };
+                end = end + 1;
             }
         }
     }
@@ -57,9 +75,9 @@ fn put_row(rows: &mut [u32], start: usize, part: &[u8], n: u32, p: u32) -> usize
 
 // Where row k starts.
 pub fn start_of(table: &[u32], k: u32) -> usize
-    ensures { (result ≡ start_of table.now k) × (result ≤ 1431655764 + 2 * k) }
+    ensures { (result ≡ start_of table.now k) × (result ≤ 715827882 + k) }
 {
-    2 * (coef_at(table, k as usize) as usize / 6 + k as usize)
+    coef_at(table, k as usize) as usize / 6 + k as usize
 }
 
 // Makes the row of constraint k, unless it has been made.
@@ -67,7 +85,7 @@ pub fn make_row(
     circuit: &[u8],
     table: &[u32],
     ends: &mut [u32],
-    rows: &mut [u32],
+    rows: &mut [Entry],
     sizes: Sizes,
     k: u32,
 )
@@ -97,18 +115,11 @@ pub fn make_row(
     ends[place] = end as u32;
 }
 
-// The lesser of two places.
-fn nearer(a: usize, b: usize) -> usize
-    ensures { result ≡ min a b }
-{
-    if a < b { a } else { b }
-}
-
-// The numbers of row k; for all arguments.
-pub fn row_of<'a>(table: &[u32], ends: &[u32], rows: &'a [u32], k: u32) -> &'a [u32]
+// The entries of row k; for all arguments.
+pub fn row_of<'a>(table: &[u32], ends: &[u32], rows: &'a [Entry], k: u32) -> &'a [Entry]
     ensures { result.now ≡ row_of table.now ends.now rows.now k }
 {
-    let end = nearer(coef_at(ends, k as usize) as usize, rows.len());
-    let start = nearer(start_of(table, k), end);
+    let end = rows.len().min(coef_at(ends, k as usize) as usize);
+    let start = end.min(start_of(table, k));
     &rows[start..end]
 }

@@ -11,6 +11,7 @@ ghost use Rattle.rules.specs.Promise.{view, subject_in, Gives, Says, bound_after
 use crate::arith::lesser;
 use crate::constraint::{product_met, root_bound, root_met};
 use crate::digits::digits_met;
+use crate::rows::Entry;
 use crate::sums::sum_step;
 use crate::view::bound_at;
 
@@ -61,7 +62,7 @@ fn root_verdict(part: &[u8], p: u32, t: u32) -> Verdict
 }
 
 // Rule 4.4.
-fn sum_verdict(part: &[u8], row: &[u32], bounds: &[u32], p: u32, t: u32) -> Verdict
+fn sum_verdict(part: &[u8], row: &[Entry], bounds: &[u32], p: u32, t: u32) -> Verdict
     ensures { (n r : ℕ) → Asked laws.Sum p n part.now row.now t r
         → Says result (rule laws.Sum (subject_in p n part.now) (view_of p bounds.now []) t r) }
 {
@@ -113,7 +114,7 @@ impl Standing {
     // Rules 4.3 to 4.7: a method for each kind, by its row in the table of rules. No target in range is above 256.
 
     pub fn root(mut self, part: &[u8], p: u32, t: u32) -> Outcome
-        ensures { (n r : ℕ) (row : List ℕ) → Asked laws.Root p n part.now row t r
+        ensures { (n r : ℕ) (row : List Entry) → Asked laws.Root p n part.now row t r
             → Gives result.met result.idle (view p self) (view p result.next) t (rule laws.Root (subject_in p n part.now) (view p self) t r) }
     {
         let verdict = root_verdict(part, p, t);
@@ -132,7 +133,7 @@ impl Standing {
         }
     }
 
-    pub fn sum(mut self, part: &[u8], row: &[u32], p: u32, t: u32) -> Outcome
+    pub fn sum(mut self, part: &[u8], row: &[Entry], p: u32, t: u32) -> Outcome
         ensures { (n r : ℕ) → Asked laws.Sum p n part.now row.now t r
             → Gives result.met result.idle (view p self) (view p result.next) t (rule laws.Sum (subject_in p n part.now) (view p self) t r) }
     {
@@ -153,7 +154,7 @@ impl Standing {
     }
 
     pub fn zero(mut self, p: u32, t: u32) -> Outcome
-        ensures { (n r : ℕ) (part row : List ℕ) → Asked laws.Zero p n part row t r
+        ensures { (n r : ℕ) (part : List ℕ) (row : List Entry) → Asked laws.Zero p n part row t r
             → Gives result.met result.idle (view p self) (view p result.next) t (rule laws.Zero (subject_in p n part) (view p self) t r) }
     {
         let met = bound_at(&self.bounds, t as usize, p) == 0;
@@ -171,7 +172,7 @@ impl Standing {
     }
 
     pub fn product(mut self, part: &[u8], t: u32) -> Outcome
-        ensures { (p n r : ℕ) (row : List ℕ) → Asked laws.Product p n part.now row t r
+        ensures { (p n r : ℕ) (row : List Entry) → Asked laws.Product p n part.now row t r
             → Gives result.met result.idle (view p self) (view p result.next) t (rule laws.Product (subject_in p n part.now) (view p self) t r) }
     {
         let met = product_met(part, &self.marks, t);
@@ -188,7 +189,7 @@ impl Standing {
         }
     }
 
-    pub fn digits(mut self, part: &[u8], row: &[u32], p: u32, t: u32, r: u32) -> Outcome
+    pub fn digits(mut self, part: &[u8], row: &[Entry], p: u32, t: u32, r: u32) -> Outcome
         ensures { (n : ℕ) → Asked laws.Digits p n part.now row.now t r
             → Gives result.met result.idle (view p self) (view p result.next) t (rule laws.Digits (subject_in p n part.now) (view p self) t r) }
     {
@@ -207,7 +208,7 @@ impl Standing {
     }
 
     // A step of any kind, by the constraint at the start of the part and its row, at which only some rules look.
-    pub fn step(self, kind: Kind, part: &[u8], row: &[u32], p: u32, t: u32, r: u32) -> Outcome
+    pub fn step(self, kind: Kind, part: &[u8], row: &[Entry], p: u32, t: u32, r: u32) -> Outcome
         ensures { (n : ℕ) → Asked (kind_of kind) p n part.now row.now t r
             → Gives result.met result.idle (view p self) (view p result.next) t (rule (kind_of kind) (subject_in p n part.now) (view p self) t r) }
     {

@@ -11,18 +11,18 @@ ghost use Rattle.rules.specs.Steps.{sum_step, OneSum, Placed, Target, Highest, S
 
 use crate::arith::{lesser, multiply_add, opposite, product};
 use crate::constraint::is_linear;
-use crate::rows::FORMS;
-use crate::view::{bound_at, bound_on, coef_at};
+use crate::rows::Entry;
+use crate::view::{bound_at, bound_on};
 use field::modular::inverse;
 
 // The place of signal t in a row, 0 where it has none.
-fn place_in(row: &[u32], t: u32) -> usize
+fn place_in(row: &[Entry], t: u32) -> usize
     ensures { Placed row.now t result }
 {
-    let count = row.len() / 2;
+    let count = row.len();
     let mut i: usize = 1;
     while i < count {
-        if row[2 * i] % FORMS == t {
+        if row[i].signal as u32 == t {
             return i;
         }
         i = i + 1;
@@ -32,7 +32,7 @@ fn place_in(row: &[u32], t: u32) -> usize
 
 // What coefficients are multiplied by to give weights of the sum for place e: -1/c modulo p, from 1 to p, where c is the coefficient there.
 // 0 where that is no target.
-fn scale_at(row: &[u32], p: u32, e: usize) -> u32
+fn scale_at(row: &[Entry], p: u32, e: usize) -> u32
     ensures { ((result ≡ 0 → ⊥) → Scale p (coef_on row.now) (entries row.now) e result)
         × (result ≡ 0 → 0 < p → Target (coef_on row.now) (entries row.now) e → ⊥) }
 {
@@ -42,10 +42,10 @@ fn scale_at(row: &[u32], p: u32, e: usize) -> u32
     if e == 0 {
         return 0;
     }
-    if row.len() / 2 <= e {
+    if row.len() <= e {
         return 0;
     }
-    let coef = row[2 * e + 1];
+    let coef = row[e].coefficient;
     if coef == 0 {
         return 0;
     }
@@ -53,7 +53,7 @@ fn scale_at(row: &[u32], p: u32, e: usize) -> u32
 }
 
 // What the weight of place i is multiplied by: the bound, 1 for the constant.
-fn ceiling_on(row: &[u32], bounds: &[u32], i: usize, p: u32) -> u32
+fn ceiling_on(row: &[Entry], bounds: &[u32], i: usize, p: u32) -> u32
     requires { i < entries row.now }
     ensures { result ≡ ceiling (bound_on p bounds.now row.now) i }
 {
@@ -64,7 +64,7 @@ fn ceiling_on(row: &[u32], bounds: &[u32], i: usize, p: u32) -> u32
 }
 
 // What place i adds to the sum for place e. Where the bound is 0 the weight doesn't matter, and isn't computed.
-fn sum_term(row: &[u32], bounds: &[u32], p: u32, e: usize, scale: u32, i: usize) -> u64
+fn sum_term(row: &[Entry], bounds: &[u32], p: u32, e: usize, scale: u32, i: usize) -> u64
     requires { Scale p (coef_on row.now) (entries row.now) e scale × (i < entries row.now) }
     ensures { (result ≡ sum_term p (coef_on row.now) (bound_on p bounds.now row.now) e i)
         × (result ≤ 18446744065119617025) }
@@ -76,11 +76,11 @@ fn sum_term(row: &[u32], bounds: &[u32], p: u32, e: usize, scale: u32, i: usize)
     if most == 0 {
         return 0;
     }
-    product(multiply_add(0, row[2 * i + 1], scale, p), most)
+    product(multiply_add(0, row[i].coefficient, scale, p), most)
 }
 
 // Rule 4.4: the sum for the target at place e as far as a limit, which is also given where that is no target.
-fn sum_at(row: &[u32], bounds: &[u32], p: u32, e: usize, limit: u32) -> u32
+fn sum_at(row: &[Entry], bounds: &[u32], p: u32, e: usize, limit: u32) -> u32
     ensures { Summed p (coef_on row.now) (bound_on p bounds.now row.now)
         (entries row.now) e limit result }
 {
@@ -88,7 +88,7 @@ fn sum_at(row: &[u32], bounds: &[u32], p: u32, e: usize, limit: u32) -> u32
     if scale == 0 {
         return limit;
     }
-    let count = row.len() / 2;
+    let count = row.len();
     let mut total: u64 = 0;
     let mut i: usize = 0;
     while i < count {
@@ -102,7 +102,7 @@ fn sum_at(row: &[u32], bounds: &[u32], p: u32, e: usize, limit: u32) -> u32
 }
 
 // The bound that the sum rule gives the target, p where the rule isn't met.
-pub(crate) fn sum_step(part: &[u8], row: &[u32], bounds: &[u32], p: u32, t: u32) -> u32
+pub(crate) fn sum_step(part: &[u8], row: &[Entry], bounds: &[u32], p: u32, t: u32) -> u32
     ensures { (n : ℕ) → Prime p → Row p n (constraint_in part.now) row.now → 1 ≤ t → t ≤ n
         → result ≡ sum_step p n (constraint_in part.now) (bound_in p bounds.now) t }
 {
@@ -114,7 +114,7 @@ pub(crate) fn sum_step(part: &[u8], row: &[u32], bounds: &[u32], p: u32, t: u32)
 
 // The place whose bound is above those of all other signals with a coefficient, if there is one and it is below p; 0 where the highest bound
 // stands twice. Where p - 1 stands twice nothing further is looked at.
-fn highest(row: &[u32], bounds: &[u32], p: u32) -> usize
+fn highest(row: &[Entry], bounds: &[u32], p: u32) -> usize
     ensures { (result ≤ entries row.now)
         × ((e : ℕ) → Highest (coef_on row.now) (bound_on p bounds.now row.now) (entries row.now) e
         → bound_on p bounds.now row.now e < p → result ≡ e) }
@@ -123,14 +123,14 @@ fn highest(row: &[u32], bounds: &[u32], p: u32) -> usize
         return 0;
     }
     let largest = p - 1;
-    let count = row.len() / 2;
+    let count = row.len();
     let mut found: usize = 0;
     let mut top: u32 = 0;
     let mut next: usize = 1;
     while next < count {
         let i = next;
         next = next + 1;
-        if row[2 * i + 1] != 0 {
+        if row[i].coefficient != 0 {
             let bound = bound_on(row, bounds, i, p);
             if top < bound {
                 found = i;
@@ -154,12 +154,12 @@ pub struct Lowering {
 }
 
 // Only the signal with the highest bound may be its target, since a sum is at least every other bound.
-pub fn lowering_sum(row: &[u32], bounds: &[u32], p: u32) -> Lowering
+pub fn lowering_sum(row: &[Entry], bounds: &[u32], p: u32) -> Lowering
     ensures { (n : ℕ) (K : Constraint) → Prime p → Row p n K row.now → ((s : ℕ) → bound_in p bounds.now s < p)
         → OneSum p n (reduced p K) (bound_in p bounds.now) result.target result.bound }
 {
     let e = highest(row, bounds, p);
-    let target = coef_at(row, 2 * e) % FORMS;
+    let target = if e < row.len() { row[e].signal as u32 } else { 0 };
     let limit = lesser(bound_at(bounds, target as usize, p), p);
     let bound = sum_at(row, bounds, p, e, limit);
     if limit <= bound {

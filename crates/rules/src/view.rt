@@ -4,7 +4,7 @@ ghost use Rattle.std.specs.Prelude.{◌≡◌, ◌<◌};
 ghost use Rattle.rules.specs.View.{coef_in, bound_in, mark_in, mark_past};
 ghost use Rattle.rules.specs.Rows.{entries, bound_on};
 
-use crate::rows::FORMS;
+use crate::rows::Entry;
 
 // The coefficient of signal s.
 pub(crate) fn coef_at(form: &[u32], s: usize) -> u32
@@ -24,11 +24,12 @@ pub fn bound_at(bounds: &[u32], s: usize, p: u32) -> u32
 }
 
 // The bound of the signal at place i of a row.
-pub(crate) fn bound_on(row: &[u32], bounds: &[u32], i: usize, p: u32) -> u32
+#[tactic(auto, unfolding(crate::specs::Rows::bound_on, crate::specs::Rows::signal_on, crate::specs::Rows::entry_at))]
+pub(crate) fn bound_on(row: &[Entry], bounds: &[u32], i: usize, p: u32) -> u32
     requires { i < entries row.now }
     ensures { result ≡ bound_on p bounds.now row.now i }
 {
-    bound_at(bounds, (row[2 * i] % FORMS) as usize, p)
+    row[i].bound(bounds, p)
 }
 
 // The mark of signal s; `past` is that of all signals past the end.
