@@ -1,7 +1,7 @@
 -- How a row is made: what stands in it, its entries put one after the other, and what is kept of the rows made before.
 use Prim.Native.Nat.{ℕ, zero, suc, ◌+◌, ◌*◌, ◌-◌, ◌≤◌, ◌<◌, min}
 use mathlib.Core.Path.{◌≡◌, refl, sym, ap, ◌∙◌}
-use mathlib.Core.Bool.{Bool, true, false, ◌||◌}
+use mathlib.Core.Bool.{Bool, true, false, cond, ◌||◌}
 use mathlib.Core.List.{List}
 use mathlib.Core.Logic.{◌⊎◌, inl, inr, ⊎_elim}
 use native.Mathlib.Numerals.{add-one}
@@ -10,7 +10,7 @@ use borrow.Author.Count.{below_more}
 use lib.Dec.{ltb, eqb}
 use lib.ListN.{length, get_or, set, take, drop, length-set, length-take, length-drop}
 use lib.Seq.{get_or-take, get_or-drop, get_or-set_same, get_or-set_other, ext_get_or}
-use borrow.Author.Tests.{ne_eqb, lt-ltb}
+use borrow.Author.Tests.{ne_eqb, lt-ltb, ltb-true, ltb-false}
 use Rattle.circuit.specs.Circuit.{Circuit, Constraint, constraint_at, names}
 use Rattle.circuit.specs.Reader.{signals_most, constraint_in}
 use Rattle.circuit.specs.Offsets.{Offsets, part_of}
@@ -19,10 +19,11 @@ use Rattle.circuit.specs.declared.reader.Sizes.{Sizes}
 use Rattle.circuit.proofs.OffsetLaws.{sized_part}
 use Rattle.laws.specs.Rules.{reduced}
 use Rattle.laws.specs.Sum.{keep}
-use Rattle.laws.proofs.Sum.{true_or_false, by_equal, by_order}
-use Rattle.rules.specs.View.{coef_in}
-use Rattle.rules.specs.Rows.{at, rank, involves, stands, forms_of, signal_on, forms_on, coef_on, Row, start_of, row_size, row_of, Rows, Roomy}
-use Rattle.rules.specs.Rows.{Reduces, Put, RowMade}
+use Rattle.laws.proofs.Sum.{true_or_false, by_test, by_equal, by_order}
+use Rattle.rules.specs.declared.rows.Entry.{Entry}
+use Rattle.rules.specs.Rows.{at, rank, involves, stands, forms_of, nothing, entry_of, entry_at, signal_on, forms_on, coef_on, Row}
+use Rattle.rules.specs.Rows.{start_of, row_size, row_of, Rows, Roomy}
+use Rattle.rules.specs.Rows.{Reduces, fits, Put, RowMade}
 use Rattle.rules.proofs.Ranks.{rank_zero, rank_passed, rank_failed, rank_below}
 use Rattle.rules.proofs.RowLaws.{constant_stands}
 use Rattle.rules.proofs.RoomLaws.{rows_apart, row_inside}
@@ -44,132 +45,131 @@ entry_stands K (suc s) =
 
 -- Entries put
 
-put_start : (p : ℕ) (K : Constraint) (start : ℕ) (rows : List ℕ) → Put p 0 K start start rows rows
+put_start : (p : ℕ) (K : Constraint) (start : ℕ) (rows : List Entry) → Put p 0 K start start rows rows
 put_start p K start rows =
     record {
       ends = omega (arith, rank_zero (stands K));
-      signal = λ s h e. absurd (omega arith);
-      coef = λ s h e. absurd (omega arith);
+      entry = λ s h e. absurd (omega arith);
       others = λ i h. refl;
     }
 
--- two stores side by side
-module _ (rows : List ℕ) (end s x : ℕ) (h : end + 1 < length rows) where
-  abbrev both : List ℕ
-  both = set (set rows end s) (end + 1) x
+-- a store
+module _ (rows : List Entry) (end : ℕ) (e : Entry) where
+  here : end < length rows → entry_at (set rows end e) end ≡ e
+  unfolding entry_at
+  here h = get_or-set_same rows end e nothing h
 
-  first : at both end ≡ s
-  unfolding at
-  first = get_or-set_other (set rows end s) (end + 1) end x 0 (λ (e : end ≡ end + 1). omega arith) ∙ get_or-set_same rows end s 0 (omega arith)
-
-  second : at both (end + 1) ≡ x
-  unfolding at
-  second = get_or-set_same (set rows end s) (end + 1) x 0 (omega (arith, length-set rows end s))
-
-  apart : (i : ℕ) → (i < end) ⊎ (end + 2 ≤ i) → at both i ≡ at rows i
-  unfolding at
-  apart i o = get_or-set_other (set rows end s) (end + 1) i x 0 (off (end + 1) o (omega arith)) ∙ get_or-set_other rows end i s 0 (off end o (omega arith))
-    where
-      off : (j : ℕ) → (i < end) ⊎ (end + 2 ≤ i) → (end ≤ j) × (j ≤ end + 1) → i ≡ j → ⊥
-      off j (inl l) n e = omega arith
-      off j (inr l) n e = omega arith
+  apart : (i : ℕ) → (i ≡ end → ⊥) → entry_at (set rows end e) i ≡ entry_at rows i
+  unfolding entry_at
+  apart i d = get_or-set_other rows end i e nothing d
 
 -- the signal s after those below it
-module _ {p s : ℕ} {K : Constraint} {start end : ℕ} {rows₀ rows : List ℕ} (P : Put p s K start end rows₀ rows) where
+module _ {p s : ℕ} {K : Constraint} {start end : ℕ} {rows₀ rows : List Entry} (P : Put p s K start end rows₀ rows) where
   pub put_on : stands K s ≡ false → Put p (s + 1) K start end rows₀ rows
   put_on f =
       record {
         ends = rw (add-one s) (omega (arith, P.ends, rank_failed (stands K) s f));
-        signal = below_more _ s P.signal (λ e. true_or_false (stands K s) e f);
-        coef = below_more _ s P.coef (λ e. true_or_false (stands K s) e f);
+        entry = below_more _ s P.entry (λ e. true_or_false (stands K s) e f);
         others = P.others;
       }
 
   module _ (e : stands K s ≡ true) where
     -- one more has room where all have
-    pub put_room : (n : ℕ) → s ≤ n → start + 2 * rank (stands K) (suc n) ≤ length rows → end + 1 < length rows
+    pub put_room : (n : ℕ) → s ≤ n → start + rank (stands K) (suc n) ≤ length rows → end < length rows
     put_room n l h = omega (arith, P.ends, rank_below (stands K) s (suc n) (omega arith) e)
 
-    pub put_one : (v x : ℕ) → v ≡ 512 * forms_of K s + s → x ≡ reduced p K s → end + 1 < length rows
-        → Put p (s + 1) K start (end + 2) rows₀ (set (set rows end v) (end + 1) x)
-    put_one v x is_v is h =
-        let here : start + 2 * rank (stands K) s ≡ end = sym P.ends in
+    pub put_one : (x : Entry) → x ≡ entry_of p K s → end < length rows → Put p (s + 1) K start (end + 1) rows₀ (set rows end x)
+    put_one x is h =
         record {
           ends = rw (add-one s) (omega (arith, P.ends, rank_passed (stands K) s e));
-          signal =
-              below_more _ s (λ u l f. apart rows end v x h _ (inl (omega (arith, P.ends, rank_below (stands K) u s l f))) ∙ P.signal u l f)
-              (λ f. rw here (first rows end v x h ∙ is_v));
-          coef =
-              below_more _ s (λ u l f. apart rows end v x h _ (inl (omega (arith, P.ends, rank_below (stands K) u s l f))) ∙ P.coef u l f)
-              (λ f. rw here (second rows end v x h ∙ is));
-          others = λ i o. ⊎_elim
-              (λ (l : i < start). apart rows end v x h i (inl (omega (arith, P.ends))) ∙ P.others i (inl l))
-              (λ (l : end + 2 ≤ i). apart rows end v x h i (inr l) ∙ P.others i (inr (omega arith)))
-              o;
+          entry =
+              below_more _ s (λ u l f. apart rows end x _ (off u l f) ∙ P.entry u l f)
+              (λ f. rw (sym P.ends) (here rows end x h ∙ is));
+          others = λ i o. apart rows end x i (outside i o) ∙ P.others i (⊎_elim inl (λ (l : end + 1 ≤ i). inr (omega arith)) o);
         }
+      where
+        off : (u : ℕ) → u < s → stands K u ≡ true → start + rank (stands K) u ≡ end → ⊥
+        off u l f g = omega (arith, P.ends, rank_below (stands K) u s l f)
+
+        outside : (i : ℕ) → (i < start) ⊎ (end + 1 ≤ i) → i ≡ end → ⊥
+        outside i (inl l) g = omega (arith, P.ends)
+        outside i (inr l) g = omega arith
 
 -- the entries of the signals below s are put, if there is room for all
-pub record Putting (p n : ℕ) (K : Constraint) (start : ℕ) (rows₀ : List ℕ) (s end : ℕ) (rows : List ℕ) : Type 0 where
-  pub upto : s ≤ n + 1
-  pub near : end ≤ start + 2 * s
+pub record Putting (p n : ℕ) (K : Constraint) (start : ℕ) (rows₀ : List Entry) (s end : ℕ) (rows : List Entry) : Type 0 where
+  pub near : end ≤ start + s
   pub sized : length rows ≡ length rows₀
-  pub put : 1 < p → start + 2 * rank (stands K) (suc n) ≤ length rows₀ → Put p s K start end rows₀ rows
+  pub put : 1 < p → start + rank (stands K) (suc n) ≤ length rows₀ → Put p s K start end rows₀ rows
 
-pub putting_start : (p n : ℕ) (K : Constraint) (start : ℕ) (rows : List ℕ) → Putting p n K start rows 0 start rows
+pub putting_start : (p n : ℕ) (K : Constraint) (start : ℕ) (rows : List Entry) → Putting p n K start rows 0 start rows
 putting_start p n K start rows =
-    record { upto = omega arith; near = omega arith; sized = refl; put = λ above room. put_start p K start rows }
+    record { near = omega arith; sized = refl; put = λ above room. put_start p K start rows }
 
 -- the turns of the code, which puts nothing where there is no room
-module _ {p n : ℕ} {K : Constraint} {start : ℕ} {rows₀ coefs forms : List ℕ} (small : n ≤ signals_most) (made : 1 < p → Reduces p K coefs forms)
-    {s end : ℕ} {rows : List ℕ} (P : Putting p n K start rows₀ s end rows) (l : s ≤ n) {b : Bool} (told : b ≡ (eqb s 0 || ltb 0 (get_or forms s 0))) where
-  tested : 1 < p → stands K s ≡ b
-  unfolding coef_in
-  tested h = entry_stands K s ∙ ap (λ (x : ℕ). eqb s 0 || ltb 0 x) (sym ((made h).named s (omega arith))) ∙ sym told
+module _ {p n : ℕ} {K : Constraint} {start : ℕ} {rows₀ reduced : List Entry} (small : n ≤ signals_most) (made : 1 < p → Reduces p K reduced)
+    {s end : ℕ} {rows : List Entry} (P : Putting p n K start rows₀ s end rows) (l : s ≤ n) where
+  tested : 1 < p → stands K s ≡ (eqb s 0 || ltb 0 (forms_on reduced s))
+  tested h = entry_stands K s ∙ ap (λ (x : ℕ). eqb s 0 || ltb 0 x) (sym ((made h).named s (omega arith)))
 
-  pub puts_one : b ≡ true → end + 1 < length rows → (v : ℕ) → v ≡ 512 * get_or forms s 0 + s
-      → Putting p n K start rows₀ (s + 1) (end + 2) (set (set rows end v) (end + 1) (get_or coefs s 0))
-  unfolding coef_in
-  puts_one e h v is_v =
+  pub puts_one : (eqb s 0 || ltb 0 (forms_on reduced s)) ≡ true → end < length rows
+      → (x : Entry) → x ≡ record { coefficient = coef_on reduced s; signal = s; forms = forms_on reduced s }
+      → Putting p n K start rows₀ (s + 1) (end + 1) (set rows end x)
+  unfolding entry_of
+  puts_one e h x is =
       record {
-        upto = omega arith;
         near = omega (arith, P.near);
         sized = simp length-set P.sized;
         put = λ above room.
-            put_one (P.put above room) (tested above ∙ e) v _ (is_v ∙ ap (λ (x : ℕ). 512 * x + s) ((made above).named s (omega arith)))
-            ((made above).coefficient s (omega arith)) h;
+            put_one (P.put above room) (tested above ∙ e) x
+            (is ∙ rw ((made above).coefficient s (omega arith), (made above).named s (omega arith))) h;
       }
 
-  pub puts_full : b ≡ true → length rows ≤ end + 1 → Putting p n K start rows₀ (s + 1) end rows
+  pub puts_full : (eqb s 0 || ltb 0 (forms_on reduced s)) ≡ true → length rows ≤ end → Putting p n K start rows₀ (s + 1) end rows
   puts_full e h =
       record {
-        upto = omega arith;
         near = omega (arith, P.near);
         sized = P.sized;
         put = λ above room. absurd (omega (arith, P.sized, put_room (P.put above room) (tested above ∙ e) n l (omega (arith, P.sized))));
       }
 
-  pub puts_on : b ≡ false → Putting p n K start rows₀ (s + 1) end rows
+  pub puts_on : (eqb s 0 || ltb 0 (forms_on reduced s)) ≡ false → Putting p n K start rows₀ (s + 1) end rows
   puts_on e =
       record {
-        upto = omega arith;
         near = omega (arith, P.near);
         sized = P.sized;
         put = λ above room. put_on (P.put above room) (tested above ∙ e);
       }
 
+  -- by the entry that the code puts
+  pub puts_next : (x : Entry) → x ≡ record { coefficient = coef_on reduced s; signal = s; forms = forms_on reduced s }
+      → Putting p n K start rows₀ (s + 1) (cond (fits x end rows) (end + 1) end) (cond (fits x end rows) (set rows end x) rows)
+  puts_next x is =
+      by_test (eqb x.signal 0 || ltb 0 x.forms)
+      (λ e.
+      by_test (ltb end (length rows))
+      (λ f. rw (e, f) (puts_one (rw is at e) (ltb-true _ _ f) x is))
+      (λ f. rw (e, f) (puts_full (rw is at e) (ltb-false _ _ f))))
+      (λ e. rw e (puts_on (rw is at e)))
+
+-- after the last turn
+pub puts_all : {p n s end start : ℕ} {K : Constraint} {rows₀ rows : List Entry} → s ≡ n → Putting p n K start rows₀ (s + 1) end rows
+    → (end ≤ start + (n + 1))
+    × (1 < p → start + rank (stands K) (suc n) ≤ length rows₀ → Put p (suc n) K start end rows₀ rows)
+puts_all {n = n} e P = (omega (arith, P.near), rw (e, add-one n) at P.put)
+
 -- Cuts
 
-cut_at : (n start : ℕ) (rows : List ℕ) (i : ℕ) → i < n → at (take n (drop start rows)) i ≡ at rows (start + i)
-unfolding at
-cut_at n start rows i h = get_or-take n (drop start rows) i 0 h ∙ get_or-drop start rows i 0
+cut_at : (n start : ℕ) (rows : List Entry) (i : ℕ) → i < n → entry_at (take n (drop start rows)) i ≡ entry_at rows (start + i)
+unfolding entry_at
+cut_at n start rows i h = get_or-take n (drop start rows) i nothing h ∙ get_or-drop start rows i nothing
 
 -- two cuts that agree
-cut_same : (n start m first : ℕ) (rows rows' : List ℕ) → min n (length rows - start) ≡ min m (length rows' - first)
-    → ((i : ℕ) → i < min n (length rows - start) → at rows (start + i) ≡ at rows' (first + i)) → take n (drop start rows) ≡ take m (drop first rows')
-unfolding at
+cut_same : (n start m first : ℕ) (rows rows' : List Entry) → min n (length rows - start) ≡ min m (length rows' - first)
+    → ((i : ℕ) → i < min n (length rows - start) → entry_at rows (start + i) ≡ entry_at rows' (first + i)) → take n (drop start rows) ≡ take m (drop first rows')
+unfolding entry_at
 cut_same n start m first rows rows' e f =
     let size : length (take n (drop start rows)) ≡ min n (length rows - start) = simp (length-take, length-drop) in
-    ext_get_or 0 (take n (drop start rows)) (take m (drop first rows'))
+    ext_get_or nothing (take n (drop start rows)) (take m (drop first rows'))
     (simp (length-take, length-drop) e)
     (λ i h. cut_at n start rows i (omega arith) ∙ f i (omega arith) ∙ sym (cut_at m first rows' i (omega arith)))
 
@@ -177,7 +177,7 @@ cut_same n start m first rows rows' e f =
 clip : (a e size : ℕ) → min (e - a) (size - a) ≡ min e size - a
 clip a e size = omega arith
 
-pub row_cut : (table ends rows : List ℕ) (k a e start end : ℕ) → a ≡ start_of table k → e ≡ at ends k → end ≡ min e (length rows) → start ≡ min a end
+pub row_cut : (table ends : List ℕ) (rows : List Entry) (k a e start end : ℕ) → a ≡ start_of table k → e ≡ at ends k → end ≡ min e (length rows) → start ≡ min a end
     → take (end - start) (drop start rows) ≡ row_of table ends rows k
 unfolding row_of
 row_cut table ends rows k a e start end is-a is-e is-end is-start =
@@ -185,28 +185,25 @@ row_cut table ends rows k a e start end is-a is-e is-end is-start =
     rw (← is-a, ← is-e)
     (cut_same (end - start) start (e - a) a rows rows
     (size ∙ ap (λ (x : ℕ). x - a) is-end ∙ sym (clip a e (length rows)))
-    (λ i h. ap (at rows) (omega (arith, rw size at h))))
+    (λ i h. ap (entry_at rows) (omega (arith, rw size at h))))
 
 -- Rows
 
-row_put : {p n : ℕ} {K : Constraint} {start end : ℕ} {rows₀ rows : List ℕ} → Put p (suc n) K start end rows₀ rows → end ≤ length rows → n ≤ 256
+row_put : {p n : ℕ} {K : Constraint} {start end : ℕ} {rows₀ rows : List Entry} → Put p (suc n) K start end rows₀ rows → end ≤ length rows
     → Row p n K (take (end - start) (drop start rows))
-unfolding signal_on forms_on coef_on
-row_put {p} {n} {K} {start} {end} {rows₀} {rows} P h few =
+unfolding signal_on forms_on coef_on entry_of
+row_put {p} {n} {K} {start} {end} {rows₀} {rows} P h =
     record {
       counted = simp (length-take, length-drop) (omega (arith, P.ends));
-      signal = λ s l e. omega (arith, entry s l e);
-      forms = λ s l e. omega (arith, entry s l e);
-      coef = λ s l e. cut_at (end - start) start rows _ (near s l e) ∙ ap (at rows) (omega arith) ∙ P.coef s (omega arith) e;
+      signal = λ s l e. ap (λ (x : Entry). x.signal) (put s l e);
+      forms = λ s l e. ap (λ (x : Entry). x.forms) (put s l e);
+      coef = λ s l e. ap (λ (x : Entry). x.coefficient) (put s l e);
     }
   where
-    near : (s : ℕ) → s ≤ n → stands K s ≡ true → 2 * rank (stands K) s + 1 < end - start
-    near s l e = omega (arith, P.ends, rank_below (stands K) s (suc n) (omega arith) e)
+    put : (s : ℕ) → s ≤ n → stands K s ≡ true → entry_at (take (end - start) (drop start rows)) (rank (stands K) s) ≡ entry_of p K s
+    put s l e = cut_at (end - start) start rows _ (omega (arith, P.ends, rank_below (stands K) s (suc n) (omega arith) e)) ∙ P.entry s (omega arith) e
 
-    entry : (s : ℕ) → s ≤ n → stands K s ≡ true → at (take (end - start) (drop start rows)) (2 * rank (stands K) s) ≡ 512 * forms_of K s + s
-    entry s l e = cut_at (end - start) start rows (2 * rank (stands K) s) (omega (arith, near s l e)) ∙ P.signal s (omega arith) e
-
-module _ {c : List ℕ} {z : Sizes} {table ends rows : List ℕ} (k : ℕ) (Z : Sized c z) (O : Offsets c z.m table) (R : Roomy (length c) z.m ends rows)
+module _ {c : List ℕ} {z : Sizes} {table ends : List ℕ} {rows : List Entry} (k : ℕ) (Z : Sized c z) (O : Offsets c z.m table) (R : Roomy (length c) z.m ends rows)
     (l : 1 ≤ k) (h : k ≤ z.m) (A : Rows (circuit_of c) table ends rows) where
   abbrev C : Circuit
   C = circuit_of c
@@ -222,7 +219,7 @@ module _ {c : List ℕ} {z : Sizes} {table ends rows : List ℕ} (k : ℕ) (Z : 
         others = λ i o. refl;
       }
 
-  module _ (fresh : at ends k ≡ 0) (end : ℕ) (rows' : List ℕ) (size : length rows' ≡ length rows)
+  module _ (fresh : at ends k ≡ 0) (end : ℕ) (rows' : List Entry) (size : length rows' ≡ length rows)
       (P : Put C.p (suc C.n) (constraint_at C k) (start_of table k) end rows rows') where
     abbrev ends' : List ℕ
     ends' = set ends k end
@@ -245,7 +242,7 @@ module _ {c : List ℕ} {z : Sizes} {table ends rows : List ℕ} (k : ℕ) (Z : 
 
     row_new : Row C.p C.n (constraint_at C k) (row_of table ends' rows' k)
     unfolding row_of
-    row_new = rw end_is (row_put P (omega (arith, row_inside Z O R k l h, end_place)) Z.formed.n_most)
+    row_new = rw end_is (row_put P (omega (arith, row_inside Z O R k l h, end_place)))
 
     -- a row that is there lies outside
     row_old : (j : ℕ) → 1 ≤ j → j ≤ C.m → (j ≡ k → ⊥) → Row C.p C.n (constraint_at C j) (row_of table ends rows j)
@@ -282,9 +279,9 @@ module _ {c : List ℕ} {z : Sizes} {table ends rows : List ℕ} (k : ℕ) (Z : 
         }
 
   -- what the code puts
-  pub row_made : at ends k ≡ 0 → (part : List ℕ) → part ≡ part_of c table k → (start : ℕ) → start ≡ start_of table k → (end : ℕ) (rows' : List ℕ)
+  pub row_made : at ends k ≡ 0 → (part : List ℕ) → part ≡ part_of c table k → (start : ℕ) → start ≡ start_of table k → (end : ℕ) (rows' : List Entry)
       → length rows' ≡ length rows
-      → (1 < z.p → start + 2 * rank (stands (constraint_in part)) (suc z.n) ≤ length rows → Put z.p (suc z.n) (constraint_in part) start end rows rows')
+      → (1 < z.p → start + rank (stands (constraint_in part)) (suc z.n) ≤ length rows → Put z.p (suc z.n) (constraint_in part) start end rows rows')
       → RowMade C table k ends rows (set ends k end) rows'
   unfolding row_size
   row_made fresh part is-part start is-start end rows' size put =

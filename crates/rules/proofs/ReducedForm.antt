@@ -7,7 +7,8 @@ use mathlib.Core.List.{List, []}
 use native.Mathlib.Nat.{zero-add, mod-lt, mod-mod, mod-add-mod, mod-eq_of_lt}
 use native.Mathlib.Omega.{arith}
 use lib.Dec.{leb, eqb}
-use lib.ListN.{length, set, length-set}
+use lib.ListN.{length, set, replicate, length-set}
+use lib.Seq.{get_or-set_same, get_or-set_other}
 use borrow.Author.Tests.{eq-eqb, ne_eqb, le-leb, lt-leb}
 use Rattle.field.specs.Residue.{Congruent, opposite}
 use Rattle.field.proofs.Residue.{congruent_multiples, congruent_refl, congruent_sym, congruent_trans, congruent_plus, congruent_times}
@@ -18,9 +19,9 @@ use Rattle.circuit.specs.Reader.{signals_most, after_form, form_in, constraint_i
 use Rattle.laws.specs.Sum.{keep}
 use Rattle.laws.specs.Rules.{constant, reduced}
 use Rattle.laws.proofs.Sum.{by_equal, by_order, or_false, keep_le}
-use Rattle.rules.specs.View.{coef_in}
-use Rattle.rules.specs.Rows.{forms_of, Addable, FormAdded, Reduces}
-use Rattle.rules.proofs.ViewLaws.{coef_set_same, coef_set_other}
+use Rattle.rules.specs.declared.rows.Entry.{Entry}
+use Rattle.rules.specs.Rows.{forms_of, nothing, entry_at, coef_on, forms_on, Addable, FormAdded, Reduces}
+use Rattle.rules.proofs.ViewLaws.{get_d_repeated}
 use Rattle.rules.proofs.Walk.{terms_from, form_start, terms_end, names_turn, coef_turn}
 
 -- A form added by a walk over its terms
@@ -91,68 +92,97 @@ module _ (part : List ℕ) (left offset : ℕ) (some : 0 < left) (signal : ℕ) 
         elsewhere : (leb signal signals_most && eqb signal s) ≡ false
         elsewhere = rw (ne_eqb signal s d) (and-false (leb signal signals_most))
 
--- a walk over the form at the start of a part, with so many terms left from an offset on
-pub record Walking (p k bit : ℕ) (part coefs₀ forms₀ coefs forms : List ℕ) (left offset : ℕ) : Type 0 where
-  pub near : offset + 6 * left ≤ 1531
-  pub coefs_wide : length coefs ≡ 1 + signals_most
-  pub forms_wide : length forms ≡ 1 + signals_most
-  pub each : (s : ℕ) → s ≤ signals_most
-      → Adding p k bit (form_in part) (terms_from part left offset) s (coef_in coefs₀ s) (coef_in forms₀ s) (coef_in coefs s) (coef_in forms s)
+-- a store at a signal
+module _ (form : List Entry) (t : ℕ) (e : Entry) where
+  abbrev stored : List Entry
+  stored = set form t e
 
-pub walk_start : {p k bit : ℕ} {part coefs forms : List ℕ} → Addable p bit coefs forms → (count : ℕ) → count ≡ byte_at part 0 → count < 256
-    → Walking p k bit part coefs forms coefs forms count 1
-walk_start {p} {k} {bit} {part} R count e h =
+  coef_same : t < length form → coef_on stored t ≡ e.coefficient
+  unfolding coef_on entry_at
+  coef_same h = ap (λ (x : Entry). x.coefficient) (get_or-set_same form t e nothing h)
+
+  forms_same : t < length form → forms_on stored t ≡ e.forms
+  unfolding forms_on entry_at
+  forms_same h = ap (λ (x : Entry). x.forms) (get_or-set_same form t e nothing h)
+
+  coef_other : (s : ℕ) → (s ≡ t → ⊥) → coef_on stored s ≡ coef_on form s
+  unfolding coef_on entry_at
+  coef_other s d = ap (λ (x : Entry). x.coefficient) (get_or-set_other form t s e nothing d)
+
+  forms_other : (s : ℕ) → (s ≡ t → ⊥) → forms_on stored s ≡ forms_on form s
+  unfolding forms_on entry_at
+  forms_other s d = ap (λ (x : Entry). x.forms) (get_or-set_other form t s e nothing d)
+
+-- a walk over the form at the start of a part, of whose terms so many are added
+pub record Walking (p k bit : ℕ) (part : List ℕ) (form₀ form : List Entry) (count i : ℕ) : Type 0 where
+  pub wide : length form ≡ 1 + signals_most
+  pub each : (s : ℕ) → s ≤ signals_most
+      → Adding p k bit (form_in part) (terms_from part (count - i) (1 + 6 * i)) s (coef_on form₀ s) (forms_on form₀ s) (coef_on form s) (forms_on form s)
+
+pub walk_start : {p k bit : ℕ} {part : List ℕ} {form : List Entry} → Addable p bit form → (count : ℕ) → count ≡ byte_at part 0
+    → Walking p k bit part form form count 0
+walk_start {p} {k} {bit} {part} R count e =
     record {
-      near = omega arith;
-      coefs_wide = R.coefs_wide;
-      forms_wide = R.forms_wide;
-      each = λ s low. adding_start p k bit _ _ (form_start part count e) s _ _;
+      wide = R.wide;
+      each = λ s low.
+          let whole : count ≡ count - 0 = omega arith in
+          adding_start p k bit _ _ (form_start part count e ∙ ap (λ (n : ℕ). terms_from part n 1) whole) s _ _;
     }
 
-module _ {p k bit : ℕ} {part coefs₀ forms₀ coefs forms : List ℕ} {left offset : ℕ} (W : Walking p k bit part coefs₀ forms₀ coefs forms left offset) where
-  module _ (some : 0 < left) (signal : ℕ) (known : signal ≡ u16_at part offset) where
-    pub walk_at : signal < length coefs → (v : ℕ) → v ≡ u32_at part (offset + 2) → (x : ℕ) → (x ≡ (coef_in coefs signal + k * v) % p) × (x < p)
-        → (f : ℕ) → (coef_in forms signal < bit → f ≡ coef_in forms signal + bit) × (bit ≤ coef_in forms signal → f ≡ coef_in forms signal)
-        → Walking p k bit part coefs₀ forms₀ (set coefs signal x) (set forms signal f) (left - 1) (offset + 6)
-    walk_at h v is_v x is_x f is_f =
+module _ {p k bit : ℕ} {part : List ℕ} {form₀ form : List Entry} {count i : ℕ} (W : Walking p k bit part form₀ form count i) where
+  module _ (some : i < count) (signal : ℕ) (known : signal ≡ u16_at part (1 + 6 * i)) where
+    left : count - i - 1 ≡ count - (i + 1)
+    left = omega arith
+
+    offset : 1 + 6 * i + 6 ≡ 1 + 6 * (i + 1)
+    offset = omega arith
+
+    pub walk_at : signal < length form → (v : ℕ) → v ≡ u32_at part (1 + 6 * i + 2) → (e : Entry)
+        → (e.coefficient ≡ (coef_on form signal + k * v) % p) × (e.coefficient < p)
+        → (forms_on form signal < bit → e.forms ≡ forms_on form signal + bit) × (bit ≤ forms_on form signal → e.forms ≡ forms_on form signal)
+        → Walking p k bit part form₀ (set form signal e) count (i + 1)
+    walk_at h v is_v e is_x is_f =
         record {
-          near = omega (arith, W.near);
-          coefs_wide = simp length-set W.coefs_wide;
-          forms_wide = simp length-set W.forms_wide;
-          each = λ s low.
-              by_equal signal s
-              (λ e. rw (← e)
-              (rw (coef_set_same coefs signal x h, coef_set_same forms signal f (omega (arith, W.coefs_wide, W.forms_wide)))
-              (adding_hit part left offset some signal known p k bit _ signal (omega arith) (W.each signal (omega arith)) refl v is_v x is_x f is_f)))
+          wide = simp length-set W.wide;
+          each = λ s low. rw (← left, ← offset)
+              (by_equal signal s
+              (λ same. rw (← same) (rw (coef_same form signal e h, forms_same form signal e h)
+              (adding_hit part (count - i) (1 + 6 * i) (omega arith) signal known p k bit _ signal (omega (arith, W.wide)) (W.each signal (omega (arith, W.wide)))
+              refl v is_v e.coefficient is_x e.forms is_f)))
               (λ d.
-              let off : s ≡ signal → ⊥ = λ e. d (sym e) in
-              rw (coef_set_other coefs signal s x off, coef_set_other forms signal s f off)
-              (adding_off part left offset some signal known p k bit _ s low (W.each s low) d));
+              let off : s ≡ signal → ⊥ = λ same. d (sym same) in
+              rw (coef_other form signal e s off, forms_other form signal e s off)
+              (adding_off part (count - i) (1 + 6 * i) (omega arith) signal known p k bit _ s low (W.each s low) d)));
         }
 
-    pub walk_past : length coefs ≤ signal → Walking p k bit part coefs₀ forms₀ coefs forms (left - 1) (offset + 6)
+    pub walk_past : length form ≤ signal → Walking p k bit part form₀ form count (i + 1)
     walk_past h =
         record {
-          near = omega (arith, W.near);
-          coefs_wide = W.coefs_wide;
-          forms_wide = W.forms_wide;
-          each = λ s low.
-              adding_off part left offset some signal known p k bit _ s low (W.each s low) (λ (e : signal ≡ s). omega (arith, W.coefs_wide));
+          wide = W.wide;
+          each = λ s low. rw (← left, ← offset)
+              (adding_off part (count - i) (1 + 6 * i) (omega arith) signal known p k bit _ s low (W.each s low)
+              (λ (e : signal ≡ s). omega (arith, W.wide)));
         }
 
   -- where no terms are left
-  pub walk_end : left ≤ 0 → FormAdded p k bit (form_in part) coefs₀ forms₀ coefs forms
+  pub walk_end : count ≤ i → FormAdded p k bit (form_in part) form₀ form
   unfolding coef names
   walk_end none =
       record {
         added = λ s low l. sym ((each s low).sum l ∙ ap (λ (n : ℕ). n % p) (omega arith) ∙ mod-eq_of_lt ((each s low).below l));
         named = λ s low l.
             (each s low).bit_added l
-            ∙ ap (λ (b : Bool). coef_in forms₀ s + keep b bit) (sym ((each s low).bit_left l ∙ or_false (leb bit (coef_in forms s))));
+            ∙ ap (λ (b : Bool). forms_on form₀ s + keep b bit) (sym ((each s low).bit_left l ∙ or_false (leb bit (forms_on form s))));
       }
     where
-      each : (s : ℕ) → s ≤ signals_most → Adding p k bit (form_in part) [] s (coef_in coefs₀ s) (coef_in forms₀ s) (coef_in coefs s) (coef_in forms s)
-      each s low = rw (terms_end part left offset none) at (W.each s low)
+      each : (s : ℕ) → s ≤ signals_most
+          → Adding p k bit (form_in part) [] s (coef_on form₀ s) (forms_on form₀ s) (coef_on form s) (forms_on form s)
+      each s low = rw (terms_end part (count - i) (1 + 6 * i) (omega arith)) at (W.each s low)
+
+-- what an array of `nothing` holds
+pub nothing_repeated : (n t : ℕ) → entry_at (replicate n nothing) t ≡ nothing
+unfolding entry_at
+nothing_repeated n t = get_d_repeated n t nothing
 
 -- The coefficients, modulo p
 
@@ -216,35 +246,50 @@ module _ (p : ℕ) (s : List ℕ) (h : 1 < p) where
   module _
       (b c : List ℕ) (b-is : b ≡ after_form s) (c-is : c ≡ after_form b)
       (a0 b0 : ℕ) (a0-is : a0 ≡ coef (form_in s) 0 % p) (b0-is : b0 ≡ coef (form_in b) 0 % p)
-      {c₀ c₁ c₂ c₃ f₀ f₁ f₂ f₃ : List ℕ} (no-coefs : (t : ℕ) → coef_in c₀ t ≡ 0) (no-forms : (t : ℕ) → coef_in f₀ t ≡ 0)
-      (first : FormAdded p b0 1 (form_in s) c₀ f₀ c₁ f₁) (second : FormAdded p a0 2 (form_in b) c₁ f₁ c₂ f₂)
-      (third : FormAdded p (p - 1) 4 (form_in c) c₂ f₂ c₃ f₃) where
+      {f₀ f₁ f₂ f₃ : List Entry} (none : (t : ℕ) → entry_at f₀ t ≡ nothing)
+      (first : FormAdded p b0 1 (form_in s) f₀ f₁) (second : FormAdded p a0 2 (form_in b) f₁ f₂)
+      (third : FormAdded p (p - 1) 4 (form_in c) f₂ f₃) where
+    no_coef : (t : ℕ) → coef_on f₀ t ≡ 0
+    unfolding coef_on nothing
+    no_coef t = ap (λ (e : Entry). e.coefficient) (none t)
+
+    no_forms : (t : ℕ) → forms_on f₀ t ≡ 0
+    unfolding forms_on nothing
+    no_forms t = ap (λ (e : Entry). e.forms) (none t)
+
     third_at : (t : ℕ) → t ≤ signals_most
-        → coef_in c₃ t
+        → coef_on f₃ t
         ≡ three_added p (coef (form_in s) 0) (coef (form_in (after_form s)) 0) (coef (form_in s) t) (coef (form_in (after_form s)) t)
         (coef (form_in (after_form (after_form s))) t)
     third_at t l =
-        let e₁ : coef_in c₁ t ≡ (0 + b0 * coef (form_in s) t) % p =
-        first.added t l (rw (no-coefs t) (omega arith)) ∙ ap (λ (x : ℕ). (x + b0 * coef (form_in s) t) % p) (no-coefs t) in
+        let e₁ : coef_on f₁ t ≡ (0 + b0 * coef (form_in s) t) % p =
+        first.added t l (rw (no_coef t) (omega arith)) ∙ ap (λ (x : ℕ). (x + b0 * coef (form_in s) t) % p) (no_coef t) in
         let e₂ = second.added t l (rw e₁ (mod-lt _ (omega arith))) in
         let e₃ = third.added t l (rw e₂ (mod-lt _ (omega arith))) in
         e₃ ∙ rw (e₂, e₁, a0-is, b0-is, c-is, b-is)
 
-    all_forms : (t : ℕ) → t ≤ signals_most → coef_in f₃ t ≡ forms_of (constraint_in s) t
+    all_forms : (t : ℕ) → t ≤ signals_most → forms_on f₃ t ≡ forms_of (constraint_in s) t
     unfolding forms_of constraint_in
     all_forms t l =
-        let one = first.named t l (omega (arith, no-forms t)) in
+        let one = first.named t l (omega (arith, no_forms t)) in
         let few = keep_le (names (form_in s) t) 1 in
-        let two = second.named t l (omega (arith, no-forms t)) in
+        let two = second.named t l (omega (arith, no_forms t)) in
         let few' = keep_le (names (form_in b) t) 2 in
-        let three = third.named t l (omega (arith, no-forms t)) in
-        let all : coef_in f₃ t ≡ keep (names (form_in s) t) 1 + keep (names (form_in b) t) 2 + keep (names (form_in c) t) 4 = omega (arith, no-forms t) in
+        let three = third.named t l (omega (arith, no_forms t)) in
+        let all : forms_on f₃ t ≡ keep (names (form_in s) t) 1 + keep (names (form_in b) t) 2 + keep (names (form_in c) t) 4 = omega (arith, no_forms t) in
         all ∙ rw (c-is, b-is) refl
 
-    pub reduced_made : (m x : ℕ) → m ≡ (0 + a0 * b0) % p → x ≡ (coef_in c₃ 0 + (p - m) * 1) % p → 0 < length c₃
-        → Reduces p (constraint_in s) (set c₃ 0 x) f₃
-    reduced_made m x m-is x-is wide = record { coefficient = value; named = all_forms }
+    pub reduced_made : (m x : ℕ) → m ≡ (0 + a0 * b0) % p → x ≡ (coef_on f₃ 0 + (p - m) * 1) % p → 0 < length f₃
+        → (e : Entry) → e.coefficient ≡ x → e.forms ≡ forms_on f₃ 0 → Reduces p (constraint_in s) (set f₃ 0 e)
+    reduced_made m x m-is x-is wide e e-is e-forms = record { coefficient = value; named = forms }
       where
-        value : (t : ℕ) → t ≤ signals_most → coef_in (set c₃ 0 x) t ≡ reduced p (constraint_in s) t
-        value zero l = coef_set_same c₃ 0 x wide ∙ x-is ∙ rw (m-is, third_at 0 l, a0-is, b0-is, b-is) (sym reduced_constant)
-        value (suc t) l = coef_set_other c₃ 0 (suc t) x (λ (e : suc t ≡ 0). omega arith) ∙ third_at (suc t) l ∙ sym (reduced_signal t)
+        value : (t : ℕ) → t ≤ signals_most → coef_on (set f₃ 0 e) t ≡ reduced p (constraint_in s) t
+        value zero l =
+            coef_same f₃ 0 e wide ∙ e-is ∙ x-is
+            ∙ rw (m-is, third_at 0 l, a0-is, b0-is, b-is) (sym reduced_constant)
+        value (suc t) l =
+            coef_other f₃ 0 e (suc t) (λ (d : suc t ≡ 0). omega arith) ∙ third_at (suc t) l ∙ sym (reduced_signal t)
+
+        forms : (t : ℕ) → t ≤ signals_most → forms_on (set f₃ 0 e) t ≡ forms_of (constraint_in s) t
+        forms zero l = forms_same f₃ 0 e wide ∙ e-forms ∙ all_forms 0 l
+        forms (suc t) l = forms_other f₃ 0 e (suc t) (λ (d : suc t ≡ 0). omega arith) ∙ all_forms (suc t) l

@@ -19,6 +19,7 @@ use Rattle.circuit.proofs.Stored.{form_offset, offset_near}
 use Rattle.circuit.proofs.OffsetLaws.{sized_part}
 use Rattle.laws.specs.Sum.{keep}
 use Rattle.laws.proofs.Sum.{or_right, true_or_false, by_test, by_order, keep_false, keep_le, sum_mono, sum_plus, sum_zeros, sum_one}
+use Rattle.rules.specs.declared.rows.Entry.{Entry}
 use Rattle.rules.specs.Rows.{at, one, rank, involves, stands, start_of, row_size, Roomy}
 
 -- How many signals stand
@@ -107,7 +108,7 @@ offset_grows c j (suc d) = omega (arith, offset_grows c j d, ap (offset_at c) (s
 -- Where rows start and end
 
 module _ {c : List ℕ} {z : Sizes} {table : List ℕ} (Z : Sized c z) (O : Offsets c z.m table) where
-  size_bytes : (k : ℕ) → 1 ≤ k → k ≤ z.m → at table k + 3 * row_size (circuit_of c) k ≤ offset_at c k + 6
+  size_bytes : (k : ℕ) → 1 ≤ k → k ≤ z.m → at table k + 6 * row_size (circuit_of c) k ≤ offset_at c k + 6
   unfolding at row_size part_of
   size_bytes k l h =
       let same : suc (k - 1) ≡ k = omega arith in
@@ -121,11 +122,11 @@ module _ {c : List ℕ} {z : Sizes} {table : List ℕ} (Z : Sized c z) (O : Offs
       let same : k - 1 - j + j ≡ k - 1 = omega arith in
       omega (arith, size_bytes j l (omega arith), O.entry k (omega arith) h, rw same at (offset_grows c j (k - 1 - j)))
 
-  pub row_within : (k : ℕ) → 1 ≤ k → k ≤ z.m → start_of table k + row_size (circuit_of c) k ≤ 2 * (length c / 6 + z.m + 1)
+  pub row_within : (k : ℕ) → 1 ≤ k → k ≤ z.m → start_of table k + row_size (circuit_of c) k ≤ length c / 6 + z.m + 1
   unfolding start_of row_size
   row_within k l h =
       omega (arith, size_bytes k l h, offset_near c (circuit_of c) (length c) Z.read k (omega (arith, Z.is_m)))
 
-  pub row_inside : {ends rows : List ℕ} → Roomy (length c) z.m ends rows → (k : ℕ) → 1 ≤ k → k ≤ z.m
+  pub row_inside : {ends : List ℕ} {rows : List Entry} → Roomy (length c) z.m ends rows → (k : ℕ) → 1 ≤ k → k ≤ z.m
       → start_of table k + row_size (circuit_of c) k ≤ length rows
   row_inside R k l h = omega (arith, row_within k l h, R.rows_room)

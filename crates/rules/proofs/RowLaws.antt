@@ -8,6 +8,7 @@ use Rattle.circuit.specs.Circuit.{Constraint, names}
 use Rattle.laws.specs.Rules.{reduced}
 use Rattle.laws.proofs.Sum.{true_or_false, by_test, by_order, or_false_left, or_false_right}
 use Rattle.laws.proofs.Reduced.{reduced_unnamed}
+use Rattle.rules.specs.declared.rows.Entry.{Entry}
 use Rattle.rules.specs.Rows.{entries, rank, involves, stands, forms_of, signal_on, forms_on, coef_on, Row}
 use Rattle.rules.proofs.Ranks.{rank_zero, rank_passed, rank_failed, rank_grows, rank_below}
 
@@ -66,14 +67,14 @@ module _ (q : ℕ → Bool) where
 -- Entries
 
 -- what stands at place i
-pub record EntryIs (p n : ℕ) (K : Constraint) (row : List ℕ) (i : ℕ) : Type 0 where
+pub record EntryIs (p n : ℕ) (K : Constraint) (row : List Entry) (i : ℕ) : Type 0 where
   pub within : signal_on row i ≤ n
   pub standing : stands K (signal_on row i) ≡ true
   pub place : rank (stands K) (signal_on row i) ≡ i
   pub forms : forms_on row i ≡ forms_of K (signal_on row i)
   pub coef : coef_on row i ≡ reduced p K (signal_on row i)
 
-module _ {p n : ℕ} {K : Constraint} {row : List ℕ} (R : Row p n K row) where
+module _ {p n : ℕ} {K : Constraint} {row : List Entry} (R : Row p n K row) where
   pub entries_are : entries row ≡ rank (stands K) (suc n)
   entries_are = omega (arith, R.counted)
 

@@ -1,12 +1,12 @@
 -- Rows: for a constraint the constant and the signals that it names, rising, each with the forms that name it and its coefficient in the reduced
 -- form, also where that is 0.
 -- A row is made once per call and then read. How calls run, not what they mean.
-use Rattle.std.specs.Prelude.{ℕ, zero, suc, ◌+◌, ◌*◌, ◌-◌, ◌/◌, ◌%◌, ◌≤◌, ◌<◌, ◌≡◌, Bool, true, ◌||◌, List, ◌⊎◌, length, get_or, take, drop}
+use Rattle.std.specs.Prelude.{ℕ, zero, suc, ◌+◌, ◌*◌, ◌-◌, ◌/◌, ◌%◌, ◌≤◌, ◌<◌, ◌≡◌, Bool, true, ◌&&◌, ◌||◌, List, ltb, eqb, ◌⊎◌, length, get_or, take, drop}
 use Rattle.circuit.specs.Circuit.{Form, Circuit, Constraint, constraint_at, coef, names}
 use Rattle.circuit.specs.Reader.{signals_most}
 use Rattle.laws.specs.Sum.{sum, keep}
 use Rattle.laws.specs.Rules.{reduced}
-use Rattle.rules.specs.View.{coef_in, bound_in, mark_in}
+use Rattle.rules.specs.View.{bound_in, mark_in}
 use Rattle.rules.specs.declared.rows.Entry.{Entry}
 
 -- the number at a place, 0 past the end
@@ -97,22 +97,25 @@ pub record Roomy (bytes m : ℕ) (ends : List ℕ) (rows : List Entry) : Type 0 
 
 -- Making rows
 
--- what a form is added with: a modulus, a bit, and room for every signal
-pub record Addable (p bit : ℕ) (coefs forms : List ℕ) : Type 0 where
+-- what a form is added with: a modulus, a bit, and an entry for every signal
+pub record Addable (p bit : ℕ) (form : List Entry) : Type 0 where
   pub modulus : 0 < p
   pub bit_most : bit ≤ 4
-  pub coefs_wide : length coefs ≡ 1 + signals_most
-  pub forms_wide : length forms ≡ 1 + signals_most
+  pub wide : length form ≡ 1 + signals_most
 
 -- A form has been added: its multiple by k to the coefficients, modulo p, and the bit to the forms of each signal that it names.
-pub record FormAdded (p k bit : ℕ) (F : Form) (coefs forms coefs' forms' : List ℕ) : Type 0 where
-  pub added : (s : ℕ) → s ≤ signals_most → coef_in coefs s < p → coef_in coefs' s ≡ (coef_in coefs s + k * coef F s) % p
-  pub named : (s : ℕ) → s ≤ signals_most → coef_in forms s < bit → coef_in forms' s ≡ coef_in forms s + keep (names F s) bit
+pub record FormAdded (p k bit : ℕ) (F : Form) (form form' : List Entry) : Type 0 where
+  pub added : (s : ℕ) → s ≤ signals_most → coef_on form s < p → coef_on form' s ≡ (coef_on form s + k * coef F s) % p
+  pub named : (s : ℕ) → s ≤ signals_most → forms_on form s < bit → forms_on form' s ≡ forms_on form s + keep (names F s) bit
 
 -- By signal: the coefficient in the reduced form, and the forms that name it.
-pub record Reduces (p : ℕ) (K : Constraint) (coefs forms : List ℕ) : Type 0 where
-  pub coefficient : (s : ℕ) → s ≤ signals_most → coef_in coefs s ≡ reduced p K s
-  pub named : (s : ℕ) → s ≤ signals_most → coef_in forms s ≡ forms_of K s
+pub record Reduces (p : ℕ) (K : Constraint) (form : List Entry) : Type 0 where
+  pub coefficient : (s : ℕ) → s ≤ signals_most → coef_on form s ≡ reduced p K s
+  pub named : (s : ℕ) → s ≤ signals_most → forms_on form s ≡ forms_of K s
+
+-- a row has the entry, and there is room for it at the end
+abbrev pub fits : Entry → ℕ → List Entry → Bool
+fits entry end rows = (eqb entry.signal 0 || ltb 0 entry.forms) && ltb end (length rows)
 
 -- From `start` to `end` the entries of the signals below n are put, and the other places are as before.
 pub record Put (p n : ℕ) (K : Constraint) (start end : ℕ) (rows rows' : List Entry) : Type 0 where

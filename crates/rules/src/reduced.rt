@@ -6,15 +6,9 @@ ghost use Rattle.rules.specs.Rows.{Addable, FormAdded, Reduces};
 
 use crate::arith::{add_multiple, multiply_add};
 use crate::form::coefficients;
+use crate::rows::Entry;
 use circuit::bytes::{byte_at, u16_at, u32_at};
 use circuit::reader::after_form;
-
-// By signal: its coefficient in the reduced form, and the forms that name it, 1 for A, 2 for B and 4 for C, added.
-#[derive(Clone, Copy)]
-pub(crate) struct Reduced {
-    pub coefs: [u32; 257],
-    pub forms: [u8; 257],
-}
 
 // The forms with this bit, the highest so far.
 fn with_bit(forms: u8, bit: u8) -> u8
@@ -26,40 +20,37 @@ fn with_bit(forms: u8, bit: u8) -> u8
 
 // Adds the form's multiple by the factor, modulo p, to the coefficients, and the bit to the forms of each signal that it names. Bits are added
 // from the lowest on. Signals above 256 are passed over.
-fn add_form(coefs: &mut [u32], forms: &mut [u8], part: &[u8], factor: u32, bit: u8, p: u32)
-    requires { Addable p bit coefs.old forms.old }
-    ensures { FormAdded p factor bit (form_in part.now) coefs.old forms.old coefs.new
-        forms.new }
+fn add_form(reduced: &mut [Entry], part: &[u8], factor: u32, bit: u8, p: u32)
+    requires { Addable p bit reduced.old }
+    ensures { FormAdded p factor bit (form_in part.now) reduced.old reduced.new }
 {
-    let mut left = byte_at(part, 0);
-    let mut at: usize = 1;
-    while 0 < left {
+    for term in 0..byte_at(part, 0) as usize {
+        let at = 1 + 6 * term;
         let signal = u16_at(part, at) as usize;
-        if signal < coefs.len() {
-            coefs[signal] = add_multiple(coefs[signal], factor, u32_at(part, at + 2), p);
-            forms[signal] = with_bit(forms[signal], bit);
+        if signal < reduced.len() {
+            let entry = &mut reduced[signal];
+            entry.coefficient = add_multiple(entry.coefficient, factor, u32_at(part, at + 2), p);
+            entry.forms = with_bit(entry.forms, bit);
         }
-        at = at + 6;
-        left = left - 1;
     }
 }
 
-// Rule 4.2: a0·B + b0·A - a0·b0 - C modulo p, nothing where p is 0 or 1.
-pub(crate) fn reduced_form(part: &[u8], p: u32) -> Reduced
-    ensures { 1 < p → Reduces p (constraint_in part.now) result.coefs result.forms }
+// Rule 4.2: a0·B + b0·A - a0·b0 - C modulo p by signal, nothing where p is 0 or 1. No entry has its signal yet.
+pub(crate) fn reduced_form(part: &[u8], p: u32) -> [Entry; 257]
+    ensures { 1 < p → Reduces p (constraint_in part.now) result }
 {
-    let mut coefs = [0u32; 257];
-    let mut forms = [0u8; 257];
+    let mut reduced = [Entry::NONE; 257];
     if p < 2 {
-        return Reduced { coefs, forms };
+        return reduced;
     }
     let b = after_form(part);
     let c = after_form(b);
     let a0 = coefficients(part, 0, p).constant;
     let b0 = coefficients(b, 0, p).constant;
-    add_form(&mut coefs, &mut forms, part, b0, 1, p);
-    add_form(&mut coefs, &mut forms, b, a0, 2, p);
-    add_form(&mut coefs, &mut forms, c, p - 1, 4, p);
-    coefs[0] = multiply_add(coefs[0], p - multiply_add(0, a0, b0, p), 1, p);
-    Reduced { coefs, forms }
+    add_form(&mut reduced, part, b0, 1, p);
+    add_form(&mut reduced, b, a0, 2, p);
+    add_form(&mut reduced, c, p - 1, 4, p);
+    let off = p - multiply_add(0, a0, b0, p);
+    reduced[0].coefficient = multiply_add(reduced[0].coefficient, off, 1, p);
+    reduced
 }

@@ -1,12 +1,12 @@
 // Rows of constraints, made when they are first asked for: the constant and the signals that a constraint names, each with the forms that name it
 // and its coefficient.
 
-ghost use Rattle.std.specs.Prelude.{◌≡◌, ◌||◌, ltb, eqb, suc, ◌+◌, ◌≤◌, ◌<◌, length};
+ghost use Rattle.std.specs.Prelude.{◌≡◌, ◌||◌, cond, ltb, eqb, suc, ◌+◌, ◌≤◌, ◌<◌, length, set};
 ghost use Rattle.circuit.specs.Reader.{signals_most, constraint_in};
 ghost use Rattle.circuit.specs.Offsets.{Offsets};
 ghost use Rattle.circuit.specs.Call.{circuit_of, Sized};
 ghost use Rattle.rules.specs.View.{bound_in, mark_in};
-ghost use Rattle.rules.specs.Rows.{rank, stands, start_of, row_of, Rows, Roomy, Put, RowMade};
+ghost use Rattle.rules.specs.Rows.{fits, rank, stands, start_of, row_of, Rows, Roomy, Put, RowMade};
 
 use crate::reduced::reduced_form;
 use crate::view::{bound_at, coef_at, mark_at};
@@ -30,6 +30,13 @@ impl Entry {
         forms: 0,
     };
 
+    // Whether a row has it: the constant, and each signal that a form names.
+    fn stands(self) -> bool
+        ensures { result ≡ (eqb self.signal 0 || ltb 0 self.forms) }
+    {
+        self.signal == 0 || 0 < self.forms
+    }
+
     // The bound of its signal.
     pub fn bound(self, bounds: &[u32], p: u32) -> u32
         ensures { result ≡ bound_in p bounds.now self.signal }
@@ -48,6 +55,18 @@ impl Entry {
 // Room for the rows of every circuit: one entry for each six of its at most 60,000 bytes, for each constraint, and one more.
 pub const MOST_ENTRIES: usize = 10513;
 
+// Puts an entry at the end, if a row has it and there is room, and answers the new end.
+fn put(rows: &mut [Entry], end: usize, entry: Entry) -> usize
+    ensures { (result ≡ cond (fits entry end rows.old) (end + 1) end)
+        × (rows.new ≡ cond (fits entry end rows.old) (set rows.old end entry) rows.old) }
+{
+    if entry.stands() && end < rows.len() {
+        rows[end] = entry;
+        return end + 1;
+    }
+    end
+}
+
 // Puts the row of the constraint at the start of the part, as far as there is room, and answers its end.
 fn put_row(rows: &mut [Entry], start: usize, part: &[u8], n: u32, p: u32) -> usize
     requires { (n ≤ signals_most) × (start < 4294967296) }
@@ -58,22 +77,17 @@ fn put_row(rows: &mut [Entry], start: usize, part: &[u8], n: u32, p: u32) -> usi
     let reduced = reduced_form(part, p);
     let mut end = start;
     for signal in 0..=n {
-        let forms = reduced.forms[signal as usize];
-        if (signal == 0) | (0 < forms) {
-            if end < rows.len() {
-                rows[end] = Entry {
-                    coefficient: reduced.coefs[signal as usize],
-                    signal: signal as u16,
-                    forms,
-                };
-                end = end + 1;
-            }
-        }
+        let entry = Entry {
+            signal: signal as u16,
+            ..reduced[signal as usize]
+        };
+        end = put(rows, end, entry);
     }
     end
 }
 
 // Where row k starts.
+#[tactic(auto, unfolding(crate::specs::Rows::start_of, crate::specs::Rows::at, crate::specs::View::coef_in))]
 pub fn start_of(table: &[u32], k: u32) -> usize
     ensures { (result ≡ start_of table.now k) × (result ≤ 715827882 + k) }
 {
@@ -119,7 +133,7 @@ pub fn make_row(
 pub fn row_of<'a>(table: &[u32], ends: &[u32], rows: &'a [Entry], k: u32) -> &'a [Entry]
     ensures { result.now ≡ row_of table.now ends.now rows.now k }
 {
-    let end = rows.len().min(coef_at(ends, k as usize) as usize);
-    let start = end.min(start_of(table, k));
+    let end = (coef_at(ends, k as usize) as usize).min(rows.len());
+    let start = start_of(table, k).min(end);
     &rows[start..end]
 }

@@ -7,20 +7,19 @@ ghost use Rattle.rules.specs.Rows.{entries, bound_on};
 use crate::rows::Entry;
 
 // The coefficient of signal s.
+#[tactic(auto, unfolding(crate::specs::View::coef_in))]
 pub(crate) fn coef_at(form: &[u32], s: usize) -> u32
     ensures { result ≡ coef_in form.now s }
 {
-    if s < form.len() { form[s] } else { 0 }
+    form.get(s).copied().unwrap_or(0)
 }
 
 // The bound of signal s.
+#[tactic(auto, unfolding(crate::specs::View::bound_in))]
 pub fn bound_at(bounds: &[u32], s: usize, p: u32) -> u32
     ensures { result ≡ bound_in p bounds.now s }
 {
-    if s < bounds.len() {
-        return bounds[s];
-    }
-    if p == 0 { 0 } else { p - 1 }
+    bounds.get(s).copied().unwrap_or(p.saturating_sub(1))
 }
 
 // The bound of the signal at place i of a row.
@@ -33,10 +32,11 @@ pub(crate) fn bound_on(row: &[Entry], bounds: &[u32], i: usize, p: u32) -> u32
 }
 
 // The mark of signal s; `past` is that of all signals past the end.
+#[tactic(auto, unfolding(crate::specs::View::mark_past))]
 pub(crate) fn mark_or(marks: &[bool], s: usize, past: bool) -> bool
     ensures { result ≡ mark_past past marks.now s }
 {
-    if s < marks.len() { marks[s] } else { past }
+    marks.get(s).copied().unwrap_or(past)
 }
 
 // The mark of signal s.
