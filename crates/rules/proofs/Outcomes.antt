@@ -18,7 +18,7 @@ use Rattle.rules.specs.View.{bound_in, mark_in, view_of}
 use Rattle.rules.specs.Promise.{Gives, Says, is_met, bound_after}
 use Rattle.rules.specs.declared.standing.Verdict.{Verdict}
 use Rattle.rules.specs.declared.standing.Verdict.TheVariants.{Unmet, AtMost}
-use Rattle.rules.proofs.ViewLaws.{bound_within, bound_largest, mark_within, mark_none, mark_set, view_lower, view_mark}
+use Rattle.rules.proofs.ViewLaws.{bound_within, bound_largest, mark_none, mark_set, view_lower, view_mark}
 
 module _ {told idle : Bool} {before after : laws.Standing} {t : ℕ} {x : Rule} where
   gives_no : told ≡ false → after ≡ before → x.met ≡ false → Gives told idle before after t x
@@ -60,7 +60,7 @@ pub gives_mark : (p : ℕ) (bounds : List ℕ) (marks : List Bool) (t : ℕ) (v 
     → b ≡ x.met → x.change ≡ laws.fixed → Gives b (get_or marks t false) (view_of p bounds marks) (view_of p bounds (set marks t v)) t x
 unfolding view_of
 gives_mark p bounds marks t v true h e met change =
-    gives_yes refl (mark_within false marks t h) (ap (λ (a : Bool). view_of p bounds (set marks t a)) (e ∙ or-true (get_or marks t false)) ∙ view_mark p bounds marks t h) (sym met, change)
+    gives_yes refl (mark_within marks t) (ap (λ (a : Bool). view_of p bounds (set marks t a)) (e ∙ or-true (get_or marks t false)) ∙ view_mark p bounds marks t h) (sym met, change)
 gives_mark p bounds marks t v false h e met change =
     gives_no refl
     (ap (λ (l : List Bool). view_of p bounds l) (ap (λ (a : Bool). set marks t a) (e ∙ or_false (get_or marks t false)) ∙ set-get_or marks t false)) (sym met)

@@ -10,21 +10,17 @@ use Rattle.laws.specs.Problem.{largest}
 use Rattle.laws.specs.Standing.{put, add, lower, mark}
 use Rattle.laws.proofs.Sum.{by_equal, by_order}
 use Rattle.laws.proofs.Order.{put_same, put_other, add_same, add_other}
-use Rattle.rules.specs.View.{coef_in, bound_in, mark_in, mark_past, view_of}
+use Rattle.rules.specs.View.{coef_in, bound_in, mark_in, view_of}
 
 -- past the end
-
-pub coef_past : (form : List ℕ) (s : ℕ) → length form ≤ s → coef_in form s ≡ 0
-unfolding coef_in
-coef_past form s h = get_or-eq_default form 0 h
 
 pub bound_past : (p : ℕ) (bounds : List ℕ) (s : ℕ) → length bounds ≤ s → bound_in p bounds s ≡ p - 1
 unfolding bound_in
 bound_past p bounds s h = get_or-eq_default bounds (p - 1) h
 
-pub mark_past_lem : (past : Bool) (marks : List Bool) (s : ℕ) → length marks ≤ s → mark_past past marks s ≡ past
-unfolding mark_past
-mark_past_lem past marks s h = get_or-eq_default marks past h
+pub mark_past : (marks : List Bool) (s : ℕ) → length marks ≤ s → mark_in marks s ≡ false
+unfolding mark_in
+mark_past marks s h = get_or-eq_default marks false h
 
 -- within, whatever stands past the end
 pub get_d_within : {A : Type 0} (l : List A) (i : ℕ) (d e : A) → i < length l → get_or l i d ≡ get_or l i e
@@ -32,9 +28,9 @@ get_d_within [] i d e h = absurd (omega arith)
 get_d_within (x ∷ l) zero d e h = refl
 get_d_within (x ∷ l) (suc i) d e h = get_d_within l i d e (omega arith)
 
-pub mark_within : (past : Bool) (marks : List Bool) (s : ℕ) → s < length marks → get_or marks s false ≡ mark_past past marks s
-unfolding mark_past
-mark_within past marks s h = get_d_within marks s false past h
+pub mark_within : (marks : List Bool) (s : ℕ) → get_or marks s false ≡ mark_in marks s
+unfolding mark_in
+mark_within marks s = refl
 
 pub bound_within : (p : ℕ) (bounds : List ℕ) (s : ℕ) → s < length bounds → get_or bounds s 0 ≡ bound_in p bounds s
 unfolding bound_in
@@ -46,17 +42,9 @@ pub get_d_repeated : {A : Type 0} (n i : ℕ) (a : A) → get_or (replicate n a)
 get_d_repeated n i a =
     by_order i n (λ h. get_or-replicate n i a a h) (λ h. get_or-eq_default (replicate n a) a (rw (length-replicate n a) h))
 
-pub coef_none : (n s : ℕ) → coef_in (replicate n 0) s ≡ 0
-unfolding coef_in
-coef_none n s = get_d_repeated n s 0
-
 pub mark_none : (n s : ℕ) → mark_in (replicate n false) s ≡ false
-unfolding mark_past
+unfolding mark_in
 mark_none n s = get_d_repeated n s false
-
-pub mark_all : (n s : ℕ) → mark_past true (replicate n true) s ≡ true
-unfolding mark_past
-mark_all n s = get_d_repeated n s true
 
 pub bound_largest : (p n : ℕ) → bound_in p (replicate n (p - 1)) ≡ largest p
 unfolding bound_in largest
@@ -80,7 +68,7 @@ bound_set p bounds t x h =
     (λ d. get_or-set_other bounds t s x (p - 1) d ∙ sym (put_other _ t x s d)))
 
 pub mark_set : (marks : List Bool) (t : ℕ) → t < length marks → mark_in (set marks t true) ≡ add (mark_in marks) t
-unfolding mark_past
+unfolding mark_in
 mark_set marks t h =
     fun_ext (λ s.
     by_equal s t (λ e. rw e (get_or-set_same marks t true false h ∙ sym (add_same _ t)))

@@ -1,8 +1,10 @@
--- Walks over the terms of a form in its bytes: what is left of the form at an offset, what one turn does, and the walk that asks all of a signal.
+-- Walks over the terms of a form in its bytes: what is left of the form at an offset, what one turn does, and the walks that ask of a signal whether
+-- it is named, and for its coefficient.
 use Prim.Native.Nat.{ℕ, suc, ◌+◌, ◌*◌, ◌-◌, ◌≤◌, ◌<◌}
 use mathlib.Core.Path.{◌≡◌, refl, sym, ap, ◌∙◌}
-use mathlib.Core.Bool.{Bool, true, false, cond, ◌&&◌, ◌||◌, or-true, or_assoc}
-use mathlib.Core.List.{List, [], ◌∷◌}
+use mathlib.Core.Bool.{Bool, true, false, cond, ◌&&◌, ◌||◌, or_assoc}
+use mathlib.Core.List.{List, []}
+use Rattle.std.specs.Prelude.{Some, None}
 use native.Mathlib.Nat.{add-zero, zero-add}
 use native.Mathlib.Omega.{arith}
 use lib.Dec.{leb, eqb}
@@ -16,7 +18,7 @@ use Rattle.circuit.proofs.ReaderLaws.{one_more}
 use Rattle.laws.specs.Sum.{keep}
 use Rattle.laws.specs.Rules.{others_marked}
 use Rattle.laws.proofs.Sum.{by_test, or_false, keep_le}
-use Rattle.rules.specs.Steps.{allowed, Surveyed}
+use Rattle.rules.specs.Steps.{allowed}
 
 -- the terms that are left from an offset on
 unfoldable pub terms_from : List ℕ → ℕ → ℕ → Form
@@ -72,61 +74,86 @@ module _ (s : List ℕ) (left at : ℕ) (none : left ≤ 0) where
   unfolding terms_from terms_in
   terms_end = let z : left ≡ 0 = omega arith in rw z
 
--- The walk that says of t whether it is named, whether all others are marked, the constant and the coefficient: what is found so far, and what is left.
-pub record Surveying (part : List ℕ) (m : ℕ → Bool) (t left at : ℕ) (found : Bool) (constant total : ℕ) : Type 0 where
-  pub near : at + 6 * left ≤ 1531
-  pub constant_fits : constant + 4294967296 * left ≤ 4294967296 * 255
-  pub total_fits : total + 4294967296 * left ≤ 4294967296 * 255
-  pub others : others_marked m t (form_in part) ≡ others_marked m t (terms_from part left at)
-  pub named : names (form_in part) t ≡ (found || names (terms_from part left at) t)
-  pub constant_is : coef (form_in part) 0 ≡ constant + coef (terms_from part left at) 0
-  pub total_is : coef (form_in part) t ≡ total + coef (terms_from part left at) t
+-- Walks over the form at the start of a part, of whose terms so many are passed: what is found so far, and what is left.
+abbrev pub left_of : List ℕ → ℕ → ℕ → Form
+left_of part count i = terms_from part (count - i) (1 + 6 * i)
 
-pub surveying_start : (part : List ℕ) (m : ℕ → Bool) (t count : ℕ) → count ≡ byte_at part 0 → count < 256 → Surveying part m t count 1 false 0 0
-surveying_start part m t count e h =
-    let start = form_start part count e in
-    record {
-      near = omega arith;
-      constant_fits = omega arith;
-      total_fits = omega arith;
-      others = ap (others_marked m t) start;
-      named = ap (λ (f : Form). names f t) start;
-      constant_is = omega (arith, ap (λ (f : Form). coef f 0) start);
-      total_is = omega (arith, ap (λ (f : Form). coef f t) start);
-    }
+module _ (part : List ℕ) (count : ℕ) where
+  pub left_start : count ≡ byte_at part 0 → form_in part ≡ left_of part count 0
+  left_start e =
+      let whole : count ≡ count - 0 = omega arith in
+      form_start part count e ∙ ap (λ (n : ℕ). terms_from part n 1) whole
 
-module _ {part : List ℕ} {m : ℕ → Bool} {t left at : ℕ} {found : Bool} {constant total : ℕ} (S : Surveying part m t left at found constant total) where
-  module _ (some : 0 < left) (signal : ℕ) (known : signal ≡ u16_at part at) {b : Bool} (told : b ≡ allowed m t signal) where
-    pub surveying_stop : b ≡ false → others_marked m t (form_in part) ≡ false
-    surveying_stop e = S.others ∙ others_turn part left at some signal known m t ∙ rw (sym told ∙ e)
+  pub left_end : (i : ℕ) → count ≤ i → left_of part count i ≡ []
+  left_end i none = terms_end part (count - i) (1 + 6 * i) (omega arith)
 
-    pub surveying_on : b ≡ true → (x : ℕ) → x ≡ u32_at part (at + 2) → x < 4294967296 → (c d : ℕ) (f : Bool)
-        → c ≡ constant + keep (leb signal signals_most && eqb signal 0) x → d ≡ total + keep (leb signal signals_most && eqb signal t) x
-        → f ≡ (leb signal signals_most && eqb signal t) → Surveying part m t (left - 1) (at + 6) (found || f) c d
-    surveying_on e x is_x small c d f is_c is-d is_f =
+  module _ (i : ℕ) (more : i < count) (signal : ℕ) (known : signal ≡ u16_at part (1 + 6 * i)) where
+    left_next : terms_from part (count - i - 1) (1 + 6 * i + 6) ≡ left_of part count (i + 1)
+    left_next =
+        let left : count - i - 1 ≡ count - (i + 1) = omega arith in
+        let offset : 1 + 6 * i + 6 ≡ 1 + 6 * (i + 1) = omega arith in
+        rw (left, offset)
+
+    pub names_next : (t : ℕ) → names (left_of part count i) t ≡ (on part (count - i) (1 + 6 * i) (omega arith) signal known t || names (left_of part count (i + 1)) t)
+    names_next t = names_turn part (count - i) (1 + 6 * i) (omega arith) signal known t ∙ rw left_next
+
+    pub others_next : (m : ℕ → Bool) (t : ℕ)
+        → others_marked m t (left_of part count i) ≡ (allowed m t signal && others_marked m t (left_of part count (i + 1)))
+    others_next m t = others_turn part (count - i) (1 + 6 * i) (omega arith) signal known m t ∙ rw left_next
+
+    pub coef_next : (t : ℕ) → coef (left_of part count i) t
+        ≡ keep (leb signal signals_most && eqb signal t) (u32_at part (1 + 6 * i + 2)) + coef (left_of part count (i + 1)) t
+    coef_next t = coef_turn part (count - i) (1 + 6 * i) (omega arith) signal known t ∙ rw left_next
+
+-- the walk that says whether t is named, and ends where another signal isn't marked
+pub record Naming (part : List ℕ) (m : ℕ → Bool) (t count i : ℕ) (found : Bool) : Type 0 where
+  pub others : others_marked m t (form_in part) ≡ others_marked m t (left_of part count i)
+  pub named : names (form_in part) t ≡ (found || names (left_of part count i) t)
+
+pub naming_start : {part : List ℕ} {m : ℕ → Bool} {t count : ℕ} → count ≡ byte_at part 0 → Naming part m t count 0 false
+naming_start {part} {m} {t} {count} e =
+    record { others = ap (others_marked m t) (left_start part count e); named = ap (λ (f : Form). names f t) (left_start part count e) }
+
+module _ {part : List ℕ} {m : ℕ → Bool} {t count i : ℕ} {found : Bool} (N : Naming part m t count i found) where
+  module _ (more : i < count) (signal : ℕ) (known : signal ≡ u16_at part (1 + 6 * i)) where
+    pub naming_stop : allowed m t signal ≡ false → None ≡ cond (others_marked m t (form_in part)) (Some (names (form_in part) t)) None
+    naming_stop e =
+        let stop : others_marked m t (form_in part) ≡ false = N.others ∙ others_next part count i more signal known m t ∙ rw e in
+        rw stop
+
+    pub naming_on : allowed m t signal ≡ true → Naming part m t count (i + 1) (found || (leb signal signals_most && eqb signal t))
+    naming_on e =
         record {
-          near = omega (arith, S.near);
-          constant_fits = omega (arith, S.constant_fits, keep_le (leb signal signals_most && eqb signal 0) x);
-          total_fits = omega (arith, S.total_fits, keep_le (leb signal signals_most && eqb signal t) x);
-          others = S.others ∙ others_turn part left at some signal known m t ∙ rw (sym told ∙ e);
-          named = S.named ∙ rw (names_turn part left at some signal known t, is_f) (sym (or_assoc found _ _));
-          constant_is = omega (arith, S.constant_is, rw (← is_x) at (coef_turn part left at some signal known 0));
-          total_is = omega (arith, S.total_is, rw (← is_x) at (coef_turn part left at some signal known t));
+          others = N.others ∙ others_next part count i more signal known m t ∙ rw e;
+          named = N.named ∙ rw (names_next part count i more signal known t) (sym (or_assoc found _ _));
         }
 
-  pub surveying_end : left ≤ 0 → Surveyed (form_in part) m t (record { names = found; others = true; constant = constant; coef = total })
-  unfolding coef names others_marked
-  surveying_end none =
-      let end = terms_end part left at none in
+  pub naming_end : count ≤ i → Some found ≡ cond (others_marked m t (form_in part)) (Some (names (form_in part) t)) None
+  unfolding others_marked names
+  naming_end none =
+      let end = left_end part count i none in
+      let all : others_marked m t (form_in part) ≡ true = rw end at N.others in
+      let is : names (form_in part) t ≡ found = rw end at N.named ∙ or_false found in
+      rw (all, is)
+
+-- the walk that adds up the coefficients of t
+pub record Adding (part : List ℕ) (t count i total : ℕ) : Type 0 where
+  pub fits : total + 4294967296 * (count - i) ≤ 4294967296 * 255
+  pub is : coef (form_in part) t ≡ total + coef (left_of part count i) t
+
+pub adding_start : {part : List ℕ} {t count : ℕ} → count ≡ byte_at part 0 → count < 256 → Adding part t count 0 0
+adding_start {part} {t} {count} e few =
+    record { fits = omega arith; is = omega (arith, ap (λ (f : Form). coef f t) (left_start part count e)) }
+
+module _ {part : List ℕ} {t count i total : ℕ} (A : Adding part t count i total) where
+  pub adding_on : i < count → (signal : ℕ) → signal ≡ u16_at part (1 + 6 * i) → (x y : ℕ) → x ≡ u32_at part (1 + 6 * i + 2)
+      → y ≡ keep (leb signal signals_most && eqb signal t) x → y < 4294967296 → Adding part t count (i + 1) (total + y)
+  adding_on more signal known x y is_x is_y small =
       record {
-        others_are = sym (rw end at S.others);
-        named = λ _. sym (rw end at S.named ∙ or_false found);
-        constant_is = λ _. omega (arith, rw end at S.constant_is);
-        coef_is = λ _. omega (arith, rw end at S.total_is);
+        fits = omega (arith, A.fits);
+        is = omega (arith, A.is, rw (← is_x, ← is_y) at (coef_next part count i more signal known t));
       }
 
--- where all signals are marked, so are the others
-pub others_all : (m : ℕ → Bool) (t : ℕ) (f : Form) → ((s : ℕ) → m s ≡ true) → others_marked m t f ≡ true
-unfolding others_marked
-others_all m t [] all = refl
-others_all m t (x ∷ f) all = rw (all x.signal, or-true (eqb x.signal 0 || eqb x.signal t)) (others_all m t f all)
+  pub adding_end : count ≤ i → coef (form_in part) t ≡ total
+  unfolding coef
+  adding_end none = omega (arith, rw (left_end part count i none) at A.is)

@@ -2,24 +2,16 @@
 use Rattle.std.specs.Prelude.{ℕ, ◌≤◌, ◌<◌, min, ◌≡◌, Bool, true, cond, not, ◌||◌, List, leb, eqb}
 use Rattle.field.specs.Residue.{opposite}
 use Rattle.field.specs.Inverse.{inverse}
-use Rattle.circuit.specs.Circuit.{Form, Constraint, coef, names}
+use Rattle.circuit.specs.Circuit.{Constraint}
 use Rattle.circuit.specs.Reader.{signals_most}
 use Rattle.laws.specs.Sum.{sum}
-use Rattle.laws.specs.Rules.{reduced, occurs, sum_term, sum_bound, sum_met, others_marked}
+use Rattle.laws.specs.Rules.{reduced, occurs, sum_term, sum_bound, sum_met}
 use Rattle.rules.specs.Rows.{entries, signal_on}
-use Rattle.rules.specs.declared.form.Seen.{Seen}
 use Rattle.rules.specs.declared.rows.Entry.{Entry}
 
 -- a term on this signal is passed over, or leaves all signals but t marked
 unfoldable pub allowed : (ℕ → Bool) → ℕ → ℕ → Bool
 allowed m t signal = not (leb signal signals_most) || (eqb signal 0 || eqb signal t || m signal)
-
--- What a walk over a form says of signal t: whether the others are marked, and, if so, whether t is named, the constant and t's coefficient.
-pub record Surveyed (F : Form) (m : ℕ → Bool) (t : ℕ) (seen : Seen) : Type 0 where
-  pub others_are : seen.others ≡ others_marked m t F
-  pub named : seen.others ≡ true → seen.names ≡ names F t
-  pub constant_is : seen.others ≡ true → seen.constant ≡ coef F 0
-  pub coef_is : seen.others ≡ true → seen.coef ≡ coef F t
 
 -- the bound that the sum rule gives, p where the rule isn't met
 abbrev pub sum_step : ℕ → ℕ → Constraint → (ℕ → ℕ) → ℕ → ℕ

@@ -8,12 +8,8 @@ coef_in form s = get_or form s 0
 unfoldable pub bound_in : ℕ → List ℕ → ℕ → ℕ
 bound_in p bounds s = get_or bounds s (p - 1)
 
--- marks, where all signals past the end are marked or none is
-unfoldable pub mark_past : Bool → List Bool → ℕ → Bool
-mark_past past marks s = get_or marks s past
-
-abbrev pub mark_in : List Bool → ℕ → Bool
-mark_in = mark_past false
+unfoldable pub mark_in : List Bool → ℕ → Bool
+mark_in marks s = get_or marks s false
 
 -- two arrays as a standing
 unfoldable pub view_of : ℕ → List ℕ → List Bool → Standing

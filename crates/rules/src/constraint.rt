@@ -7,7 +7,7 @@ ghost use Rattle.laws.specs.Rules.{names_none, linear, is_zero, names_only, root
 ghost use Rattle.rules.specs.View.{mark_in};
 
 use crate::arith::multiply_add;
-use crate::form::{coefficients, survey};
+use crate::form::{coefficients, names_beside};
 use circuit::reader::after_form;
 use field::modular::inverse;
 
@@ -15,11 +15,7 @@ use field::modular::inverse;
 fn stands_in(part: &[u8], marks: &[bool], t: u32) -> bool
     ensures { result ≡ (names (form_in part.now) t && others_marked (mark_in marks.now) t (form_in part.now)) }
 {
-    let seen = survey(part, marks, false, t);
-    if !seen.others {
-        return false;
-    }
-    seen.names
+    names_beside(part, marks, t) == Some(true)
 }
 
 // Whether it does not name t, and all its signals are marked.
@@ -27,60 +23,49 @@ fn stays_out(part: &[u8], marks: &[bool], t: u32) -> bool
     ensures { result
         ≡ (not (names (form_in part.now) t) && others_marked (mark_in marks.now) t (form_in part.now)) }
 {
-    let seen = survey(part, marks, false, t);
-    if !seen.others {
-        return false;
-    }
-    !seen.names
+    names_beside(part, marks, t) == Some(false)
 }
 
 // Whether the form names no signal: where none is marked, all others than the constant are.
+#[tactic(auto, using(crate::proofs::FormTests::unmarked_none))]
 fn names_none(part: &[u8]) -> bool
     ensures { result ≡ names_none (form_in part.now) }
 {
-    let unmarked = [false; 1];
-    let seen = survey(part, &unmarked, false, 0);
-    seen.others
+    names_beside(part, &[], 0).is_some()
 }
 
 // Whether the form has no terms.
+#[tactic(auto, using(crate::proofs::FormTests::unmarked_zero))]
 fn is_zero(part: &[u8]) -> bool
     ensures { result ≡ is_zero (form_in part.now) }
 {
-    let unmarked = [false; 1];
-    stays_out(part, &unmarked, 0)
+    stays_out(part, &[], 0)
 }
 
 // Whether the form names signal t and no other.
+#[tactic(auto, using(crate::proofs::FormTests::unmarked_only))]
 fn names_just(part: &[u8], t: u32) -> bool
     ensures { result ≡ (names (form_in part.now) t && names_only t (form_in part.now)) }
 {
-    let unmarked = [false; 1];
-    stands_in(part, &unmarked, t)
+    stands_in(part, &[], t)
 }
 
 // Rule 4.1: whether A or B names no signal.
+#[tactic(auto, unfolding(laws::specs::Rules::linear, circuit::specs::Reader::constraint_in))]
 pub fn is_linear(part: &[u8]) -> bool
     ensures { result ≡ linear (constraint_in part.now) }
 {
-    if names_none(part) {
-        return true;
-    }
-    names_none(after_form(part))
+    names_none(part) || names_none(after_form(part))
 }
 
 // Rule 4.3: whether the root rule is met for target t.
+#[tactic(auto, unfolding(laws::specs::Rules::root_met, circuit::specs::Reader::constraint_in))]
 pub fn root_met(part: &[u8], t: u32) -> bool
     ensures { result ≡ root_met (constraint_in part.now) t }
 {
     let b = after_form(part);
-    if !is_zero(after_form(b)) {
-        return false;
-    }
-    if !names_just(part, t) {
-        return false;
-    }
-    names_just(b, t)
+    let c = after_form(b);
+    is_zero(c) && names_just(part, t) && names_just(b, t)
 }
 
 // Where the form is 0, if it names only t.
@@ -95,28 +80,19 @@ fn root_of(part: &[u8], p: u32, t: u32) -> u32
 }
 
 // Rule 4.3: the larger of the two roots.
+#[tactic(auto, unfolding(laws::specs::Rules::root_bound, circuit::specs::Reader::constraint_in))]
 pub fn root_bound(part: &[u8], p: u32, t: u32) -> u32
     ensures { result ≡ root_bound p (constraint_in part.now) t }
 {
-    let a = root_of(part, p, t);
-    let b = root_of(after_form(part), p, t);
-    if a < b { b } else { a }
+    root_of(part, p, t).max(root_of(after_form(part), p, t))
 }
 
 // Rule 4.6: whether the product rule is met for target t.
+#[tactic(auto, using(crate::proofs::FormTests::product_is), unfolding(circuit::specs::Reader::constraint_in))]
 pub fn product_met(part: &[u8], marks: &[bool], t: u32) -> bool
     ensures { result ≡ product_met (constraint_in part.now) (mark_in marks.now) t }
 {
-    if is_linear(part) {
-        return false;
-    }
     let b = after_form(part);
     let c = after_form(b);
-    if !stands_in(c, marks, t) {
-        return false;
-    }
-    if !stays_out(part, marks, t) {
-        return false;
-    }
-    stays_out(b, marks, t)
+    !is_linear(part) && stands_in(c, marks, t) && stays_out(part, marks, t) && stays_out(b, marks, t)
 }

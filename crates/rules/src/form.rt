@@ -1,99 +1,56 @@
 // Forms in bytes: what a form names, and its coefficients.
 
-ghost use Rattle.std.specs.Prelude.{◌≡◌, ◌&&◌, ◌+◌, ◌*◌, ◌%◌, ◌≤◌, ◌<◌, leb, eqb};
-ghost use Rattle.circuit.specs.Circuit.{coef};
+ghost use Rattle.std.specs.Prelude.{◌≡◌, Some, None, cond, ◌&&◌, ◌%◌, ◌<◌, leb, eqb};
+ghost use Rattle.circuit.specs.Circuit.{coef, names};
 ghost use Rattle.circuit.specs.Reader.{signals_most, form_in};
 ghost use Rattle.laws.specs.Sum.{keep};
-ghost use Rattle.rules.specs.View.{mark_past};
-ghost use Rattle.rules.specs.Steps.{allowed, Surveyed};
+ghost use Rattle.laws.specs.Rules.{others_marked};
+ghost use Rattle.rules.specs.View.{mark_in};
+ghost use Rattle.rules.specs.Steps.{allowed};
 
-use crate::view::mark_or;
+use crate::view::mark_at;
 use circuit::bytes::{byte_at, u16_at, u32_at};
 
 // The most signals of a circuit.
 const SIGNALS_MOST: u32 = 256;
 
-// What a walk over a form's terms says of a signal t: whether the form names it, whether all its other signals are marked, the constant, and the
-// coefficient of t.
-#[derive(Clone, Copy)]
-pub(crate) struct Seen {
-    pub names: bool,
-    pub others: bool,
-    pub constant: u64,
-    pub coef: u64,
-}
-
 // Whether a term on this signal is one on t. A signal above 256 is passed over.
 fn is_on(signal: u32, t: u32) -> bool
     ensures { result ≡ (leb signal signals_most && eqb signal t) }
 {
-    if SIGNALS_MOST < signal {
-        return false;
-    }
-    signal == t
+    signal <= SIGNALS_MOST && signal == t
 }
 
 // Whether a term on this signal leaves all signals but t marked.
-fn other_marked(marks: &[bool], past: bool, t: u32, signal: u32) -> bool
-    ensures { result ≡ allowed (mark_past past marks.now) t signal }
+#[tactic(auto, unfolding(crate::specs::Steps::allowed))]
+fn other_marked(marks: &[bool], t: u32, signal: u32) -> bool
+    ensures { result ≡ allowed (mark_in marks.now) t signal }
 {
-    if SIGNALS_MOST < signal {
-        return true;
-    }
-    if signal == 0 {
-        return true;
-    }
-    if signal == t {
-        return true;
-    }
-    mark_or(marks, signal as usize, past)
+    SIGNALS_MOST < signal || signal == 0 || signal == t || mark_at(marks, signal as usize)
 }
 
-// A total and the coefficient of a term, if that is on t.
-fn with_term(total: u64, signal: u32, t: u32, coefficient: u32) -> u64
-    requires { total ≤ 4294967296 * 254 }
-    ensures { result ≡ total + keep (leb signal signals_most && eqb signal t) coefficient }
-{
-    if is_on(signal, t) {
-        total + coefficient as u64
-    } else {
-        total
-    }
-}
-
-// The one walk over the form at the start of the part; `past` is the mark of signals past the end of `marks`. It ends at the first other signal
-// that isn't marked; the rest is then as far as that.
-pub(crate) fn survey(part: &[u8], marks: &[bool], past: bool, t: u32) -> Seen
-    ensures { Surveyed (form_in part.now) (mark_past past marks.now) t result }
+// Whether the form at the start of the part names t, if all its other signals are marked.
+pub(crate) fn names_beside(part: &[u8], marks: &[bool], t: u32) -> Option<bool>
+    ensures { result
+        ≡ cond (others_marked (mark_in marks.now) t (form_in part.now)) (Some (names (form_in part.now) t)) None }
 {
     let mut names = false;
-    let mut constant: u64 = 0;
-    let mut coef: u64 = 0;
-    let mut left = byte_at(part, 0);
-    let mut at: usize = 1;
-    while 0 < left {
-        let signal = u16_at(part, at);
-        if !other_marked(marks, past, t, signal) {
-            return Seen {
-                names,
-                others: false,
-                constant,
-                coef,
-            };
+    for term in 0..byte_at(part, 0) as usize {
+        let signal = u16_at(part, 1 + 6 * term);
+        if !other_marked(marks, t, signal) {
+            return None;
         }
-        let coefficient = u32_at(part, at + 2);
-        constant = with_term(constant, signal, 0, coefficient);
-        coef = with_term(coef, signal, t, coefficient);
-        names = names | is_on(signal, t);
-        at = at + 6;
-        left = left - 1;
+        names |= is_on(signal, t);
     }
-    Seen {
-        names,
-        others: true,
-        constant,
-        coef,
-    }
+    Some(names)
+}
+
+// The coefficient of a term, if that is on t, else 0.
+#[tactic(auto, unfolding(laws::specs::Sum::keep))]
+fn term_on(signal: u32, t: u32, coefficient: u32) -> u64
+    ensures { (result ≡ keep (leb signal signals_most && eqb signal t) coefficient) × (result < 4294967296) }
+{
+    if is_on(signal, t) { coefficient as u64 } else { 0 }
 }
 
 // A form as a function of one signal: its constant and that signal's coefficient modulo p.
@@ -108,10 +65,17 @@ pub(crate) fn coefficients(part: &[u8], t: u32, p: u32) -> Affine
     requires { 0 < p }
     ensures { (result.constant ≡ coef (form_in part.now) 0 % p) × (result.coef ≡ coef (form_in part.now) t % p) }
 {
-    let marked = [true; 1];
-    let seen = survey(part, &marked, true, t);
+    let mut constant: u64 = 0;
+    let mut coef: u64 = 0;
+    for term in 0..byte_at(part, 0) as usize {
+        let at = 1 + 6 * term;
+        let signal = u16_at(part, at);
+        let coefficient = u32_at(part, at + 2);
+        constant += term_on(signal, 0, coefficient);
+        coef += term_on(signal, t, coefficient);
+    }
     Affine {
-        constant: (seen.constant % p as u64) as u32,
-        coef: (seen.coef % p as u64) as u32,
+        constant: (constant % p as u64) as u32,
+        coef: (coef % p as u64) as u32,
     }
 }

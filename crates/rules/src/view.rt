@@ -1,7 +1,7 @@
 // Elements of arrays by signal, also past the end.
 
 ghost use Rattle.std.specs.Prelude.{◌≡◌, ◌<◌};
-ghost use Rattle.rules.specs.View.{coef_in, bound_in, mark_in, mark_past};
+ghost use Rattle.rules.specs.View.{coef_in, bound_in, mark_in};
 ghost use Rattle.rules.specs.Rows.{entries, bound_on};
 
 use crate::rows::Entry;
@@ -31,17 +31,10 @@ pub(crate) fn bound_on(row: &[Entry], bounds: &[u32], i: usize, p: u32) -> u32
     row[i].bound(bounds, p)
 }
 
-// The mark of signal s; `past` is that of all signals past the end.
-#[tactic(auto, unfolding(crate::specs::View::mark_past))]
-pub(crate) fn mark_or(marks: &[bool], s: usize, past: bool) -> bool
-    ensures { result ≡ mark_past past marks.now s }
-{
-    marks.get(s).copied().unwrap_or(past)
-}
-
 // The mark of signal s.
+#[tactic(auto, unfolding(crate::specs::View::mark_in))]
 pub fn mark_at(marks: &[bool], s: usize) -> bool
     ensures { result ≡ mark_in marks.now s }
 {
-    mark_or(marks, s, false)
+    marks.get(s).copied().unwrap_or(false)
 }
