@@ -8,7 +8,11 @@ fn residue(v: u64, p: u32) -> u32
     requires { 0 < p }
     ensures { (result ≡ v % p) × (result < p) }
 {
-    if v < p as u64 { v as u32 } else { (v % p as u64) as u32 }
+    if v < p as u64 {
+        v as u32
+    } else {
+        (v % p as u64) as u32
+    }
 }
 
 // -x modulo p, from 1 to p.

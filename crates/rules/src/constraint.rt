@@ -94,5 +94,8 @@ pub fn product_met(part: &[u8], marks: &[bool], t: u32) -> bool
 {
     let b = after_form(part);
     let c = after_form(b);
-    !is_linear(part) && stands_in(c, marks, t) && stays_out(part, marks, t) && stays_out(b, marks, t)
+    !is_linear(part)
+        && stands_in(c, marks, t)
+        && stays_out(part, marks, t)
+        && stays_out(b, marks, t)
 }

@@ -50,7 +50,11 @@ pub(crate) fn names_beside(part: &[u8], marks: &[bool], t: u32) -> Option<bool>
 fn term_on(signal: u32, t: u32, coefficient: u32) -> u64
     ensures { (result ≡ keep (leb signal signals_most && eqb signal t) coefficient) × (result < 4294967296) }
 {
-    if is_on(signal, t) { coefficient as u64 } else { 0 }
+    if is_on(signal, t) {
+        coefficient as u64
+    } else {
+        0
+    }
 }
 
 // A form as a function of one signal: its constant and that signal's coefficient modulo p.

@@ -3,15 +3,13 @@
 
 ghost use Rattle.std.specs.Prelude.{◌≡◌, ◌||◌, cond, ltb, eqb, suc, ◌+◌, ◌≤◌, ◌<◌, length, set};
 ghost use Rattle.circuit.specs.Reader.{signals_most, constraint_in};
-ghost use Rattle.circuit.specs.Offsets.{Offsets};
-ghost use Rattle.circuit.specs.Call.{circuit_of, Sized};
+ghost use Rattle.circuit.specs.Call.{circuit_of};
 ghost use Rattle.rules.specs.View.{bound_in, mark_in};
 ghost use Rattle.rules.specs.Rows.{fits, rank, stands, start_of, row_of, Rows, Roomy, Put, RowMade};
 
 use crate::reduced::reduced_form;
 use crate::view::{bound_at, coef_at, mark_at};
-use circuit::offsets::part_of;
-use circuit::reader::Sizes;
+use circuit::file::Constraints;
 
 // What a row holds of a signal, 0 for the constant: its coefficient in the reduced form, and the forms that name it, 1 for A, 2 for B and
 // 4 for C, added.
@@ -88,52 +86,35 @@ fn put_row(rows: &mut [Entry], start: usize, part: &[u8], n: u32, p: u32) -> usi
 
 // Where row k starts.
 #[tactic(auto, unfolding(crate::specs::Rows::start_of, crate::specs::Rows::at, crate::specs::View::coef_in))]
-pub fn start_of(table: &[u32], k: u32) -> usize
-    ensures { (result ≡ start_of table.now k) × (result ≤ 715827882 + k) }
+pub fn start_of(constraints: &Constraints, k: u32) -> usize
+    ensures { (result ≡ start_of constraints.now.offsets k) × (result ≤ 715827882 + k) }
 {
-    coef_at(table, k as usize) as usize / 6 + k as usize
+    coef_at(&constraints.offsets, k as usize) as usize / 6 + k as usize
 }
 
 // Makes the row of constraint k, unless it has been made.
-pub fn make_row(
-    circuit: &[u8],
-    table: &[u32],
-    ends: &mut [u32],
-    rows: &mut [Entry],
-    sizes: Sizes,
-    k: u32,
-)
-    ensures { Sized circuit.now sizes → Offsets circuit.now sizes.m table.now
-        → Roomy (length circuit.now) sizes.m ends.old rows.old → 1 ≤ k → k ≤ sizes.m
-        → Rows (circuit_of circuit.now) table.now ends.old rows.old
-        → RowMade (circuit_of circuit.now) table.now k ends.old rows.old ends.new
+pub fn make_row(constraints: &Constraints, ends: &mut [u32], rows: &mut [Entry], k: u32)
+    ensures { Roomy (length constraints.now.file.bytes.now) constraints.now.file.sizes.m ends.old rows.old → 1 ≤ k → k ≤ constraints.now.file.sizes.m
+        → Rows (circuit_of constraints.now.file.bytes.now) constraints.now.offsets ends.old rows.old
+        → RowMade (circuit_of constraints.now.file.bytes.now) constraints.now.offsets k ends.old rows.old ends.new
         rows.new }
 {
-    let n = sizes.n;
+    let sizes = constraints.file.sizes;
     let place = k as usize;
-    if 256 < n {
+    if 512 < k || ends.len() <= place || ends[place] != 0 {
         return;
     }
-    if 512 < k {
-        return;
-    }
-    if ends.len() <= place {
-        return;
-    }
-    if ends[place] != 0 {
-        return;
-    }
-    let part = part_of(circuit, table, k);
-    let start = start_of(table, k);
-    let end = put_row(rows, start, part, n, sizes.p);
+    let part = constraints.part(k);
+    let start = start_of(constraints, k);
+    let end = put_row(rows, start, part, sizes.n, sizes.p);
     ends[place] = end as u32;
 }
 
 // The entries of row k; for all arguments.
-pub fn row_of<'a>(table: &[u32], ends: &[u32], rows: &'a [Entry], k: u32) -> &'a [Entry]
-    ensures { result.now ≡ row_of table.now ends.now rows.now k }
+pub fn row_of<'a>(constraints: &Constraints, ends: &[u32], rows: &'a [Entry], k: u32) -> &'a [Entry]
+    ensures { result.now ≡ row_of constraints.now.offsets ends.now rows.now k }
 {
     let end = (coef_at(ends, k as usize) as usize).min(rows.len());
-    let start = start_of(table, k).min(end);
+    let start = start_of(constraints, k).min(end);
     &rows[start..end]
 }

@@ -159,7 +159,11 @@ pub fn lowering_sum(row: &[Entry], bounds: &[u32], p: u32) -> Lowering
         → OneSum p n (reduced p K) (bound_in p bounds.now) result.target result.bound }
 {
     let e = highest(row, bounds, p);
-    let target = if e < row.len() { row[e].signal as u32 } else { 0 };
+    let target = if e < row.len() {
+        row[e].signal as u32
+    } else {
+        0
+    };
     let limit = lesser(bound_at(bounds, target as usize, p), p);
     let bound = sum_at(row, bounds, p, e, limit);
     if limit <= bound {

@@ -12,9 +12,10 @@ loop-term-preserved c =
     let walks = c.loop-term.invariant in
     let more = c.loop-term-test.true in
     let signal = c.u16_at-signal.ensures.0 in
-    let x = c.u32_at-coefficient.ensures in
-    (walk.adding_on walks.0 more _ signal _ _ x c.term_on-constant.ensures.0 c.term_on-constant.ensures.1,
-      walk.adding_on walks.1 more _ signal _ _ x c.term_on-coef.ensures.0 c.term_on-coef.ensures.1)
+    let x = c.u32_at-coefficient.ensures in (
+      walk.adding_on walks.0 more _ signal _ _ x c.term_on-constant.ensures.0 c.term_on-constant.ensures.1,
+      walk.adding_on walks.1 more _ signal _ _ x c.term_on-coef.ensures.0 c.term_on-coef.ensures.1,
+    )
 
 pub returns : goal.returns
 returns c =

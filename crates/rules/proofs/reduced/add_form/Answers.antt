@@ -14,9 +14,9 @@ loop-term-preserved c =
     let more = c.loop-term-test.true in
     let known = c.u16_at-signal.ensures.0 in
     elim c.if-signal-reduced.branch [
-      then-signal-reduced w ↦
-        rw (w.reduced-is)
-        (laws.walk_at walk more _ known w.if-signal-reduced.true _ w.u32_at.ensures _ w.add_multiple-entry.ensures w.with_bit-entry.ensures)
+      | then-signal-reduced w ↦
+          rw (w.reduced-is)
+          (laws.walk_at walk more _ known w.if-signal-reduced.true _ w.u32_at.ensures _ w.add_multiple-entry.ensures w.with_bit-entry.ensures)
       | else-signal-reduced w ↦ rw (w.reduced-is) (laws.walk_past walk more _ known w.if-signal-reduced.false)
     ]
 
