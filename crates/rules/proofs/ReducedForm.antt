@@ -22,7 +22,7 @@ use Rattle.laws.proofs.Sum.{by_equal, by_order, or_false, keep_le}
 use Rattle.rules.specs.declared.rows.Entry.{Entry}
 use Rattle.rules.specs.Rows.{forms_of, nothing, entry_at, coef_on, forms_on, Addable, FormAdded, Reduces}
 use Rattle.rules.proofs.ViewLaws.{get_d_repeated}
-use Rattle.rules.proofs.Walk.{terms_from, form_start, terms_end, names_turn, coef_turn}
+use Rattle.rules.proofs.Walk.{left_of, left_start, left_end, names_next, coef_next}
 
 -- A form added by a walk over its terms
 
@@ -44,24 +44,24 @@ adding_start p k bit F rest e s x f =
     }
 
 -- a turn
-module _ (part : List ℕ) (left offset : ℕ) (some : 0 < left) (signal : ℕ) (known : signal ≡ u16_at part offset) (p k bit : ℕ) where
+module _ (part : List ℕ) (count i : ℕ) (more : i < count) (signal : ℕ) (known : signal ≡ u16_at part (1 + 6 * i)) (p k bit : ℕ) where
   abbrev next : Form
-  next = terms_from part (left - 1) (offset + 6)
+  next = left_of part count (i + 1)
 
-  module _ (F : Form) (s : ℕ) (low : s ≤ signals_most) {x₀ f₀ x f : ℕ} (A : Adding p k bit F (terms_from part left offset) s x₀ f₀ x f) where
-    adding_hit : signal ≡ s → (v : ℕ) → v ≡ u32_at part (offset + 2) → (x' : ℕ) → (x' ≡ (x + k * v) % p) × (x' < p)
+  module _ (F : Form) (s : ℕ) (low : s ≤ signals_most) {x₀ f₀ x f : ℕ} (A : Adding p k bit F (left_of part count i) s x₀ f₀ x f) where
+    adding_hit : signal ≡ s → (v : ℕ) → v ≡ u32_at part (1 + 6 * i + 2) → (x' : ℕ) → (x' ≡ (x + k * v) % p) × (x' < p)
         → (f' : ℕ) → (f < bit → f' ≡ f + bit) × (bit ≤ f → f' ≡ f) → Adding p k bit F next s x₀ f₀ x' f'
     unfolding keep
     adding_hit e v is_v x' is_x f' is_f =
         record {
           sum = λ l.
-              let turned : coef (terms_from part left offset) s ≡ v + coef next s =
-              coef_turn part left offset some signal known s ∙ rw (here, is_v) in
+              let turned : coef (left_of part count i) s ≡ v + coef next s =
+              coef_next part count i more signal known s ∙ rw (here, is_v) in
               let apart : x + k * (v + coef next s) ≡ x + k * v + k * coef next s = omega arith in
               A.sum l ∙ rw (turned, apart, is_x.0) (sym (mod-add-mod (x + k * v) p (k * coef next s)));
           below = λ l. is_x.1;
           bit_added = λ l. rw (there l) (omega (arith, with l));
-          bit_left = λ l. rw (there l) (A.bit_left l ∙ rw (names_turn part left offset some signal known s, here) (or-true (leb bit f)));
+          bit_left = λ l. rw (there l) (A.bit_left l ∙ rw (names_next part count i more signal known s, here) (or-true (leb bit f)));
         }
       where
         with : f₀ < bit → f' ≡ f₀ + bit
@@ -81,12 +81,12 @@ module _ (part : List ℕ) (left offset : ℕ) (some : 0 < left) (signal : ℕ) 
     adding_off d =
         record {
           sum = λ l.
-              let turned : coef (terms_from part left offset) s ≡ coef next s =
-              coef_turn part left offset some signal known s ∙ rw (elsewhere, zero-add) in
+              let turned : coef (left_of part count i) s ≡ coef next s =
+              coef_next part count i more signal known s ∙ rw (elsewhere, zero-add) in
               A.sum l ∙ rw turned;
           below = A.below;
           bit_added = A.bit_added;
-          bit_left = λ l. A.bit_left l ∙ rw (names_turn part left offset some signal known s, elsewhere);
+          bit_left = λ l. A.bit_left l ∙ rw (names_next part count i more signal known s, elsewhere);
         }
       where
         elsewhere : (leb signal signals_most && eqb signal s) ≡ false
@@ -117,26 +117,18 @@ module _ (form : List Entry) (t : ℕ) (e : Entry) where
 pub record Walking (p k bit : ℕ) (part : List ℕ) (form₀ form : List Entry) (count i : ℕ) : Type 0 where
   pub wide : length form ≡ 1 + signals_most
   pub each : (s : ℕ) → s ≤ signals_most
-      → Adding p k bit (form_in part) (terms_from part (count - i) (1 + 6 * i)) s (coef_on form₀ s) (forms_on form₀ s) (coef_on form s) (forms_on form s)
+      → Adding p k bit (form_in part) (left_of part count i) s (coef_on form₀ s) (forms_on form₀ s) (coef_on form s) (forms_on form s)
 
 pub walk_start : {p k bit : ℕ} {part : List ℕ} {form : List Entry} → Addable p bit form → (count : ℕ) → count ≡ byte_at part 0
     → Walking p k bit part form form count 0
 walk_start {p} {k} {bit} {part} R count e =
     record {
       wide = R.wide;
-      each = λ s low.
-          let whole : count ≡ count - 0 = omega arith in
-          adding_start p k bit _ _ (form_start part count e ∙ ap (λ (n : ℕ). terms_from part n 1) whole) s _ _;
+      each = λ s low. adding_start p k bit _ _ (left_start part count e) s _ _;
     }
 
 module _ {p k bit : ℕ} {part : List ℕ} {form₀ form : List Entry} {count i : ℕ} (W : Walking p k bit part form₀ form count i) where
-  module _ (some : i < count) (signal : ℕ) (known : signal ≡ u16_at part (1 + 6 * i)) where
-    left : count - i - 1 ≡ count - (i + 1)
-    left = omega arith
-
-    offset : 1 + 6 * i + 6 ≡ 1 + 6 * (i + 1)
-    offset = omega arith
-
+  module _ (more : i < count) (signal : ℕ) (known : signal ≡ u16_at part (1 + 6 * i)) where
     pub walk_at : signal < length form → (v : ℕ) → v ≡ u32_at part (1 + 6 * i + 2) → (e : Entry)
         → (e.coefficient ≡ (coef_on form signal + k * v) % p) × (e.coefficient < p)
         → (forms_on form signal < bit → e.forms ≡ forms_on form signal + bit) × (bit ≤ forms_on form signal → e.forms ≡ forms_on form signal)
@@ -144,24 +136,22 @@ module _ {p k bit : ℕ} {part : List ℕ} {form₀ form : List Entry} {count i 
     walk_at h v is_v e is_x is_f =
         record {
           wide = simp length-set W.wide;
-          each = λ s low. rw (← left, ← offset)
-              (by_equal signal s
+          each = λ s low.
+              by_equal signal s
               (λ same. rw (← same) (rw (coef_same form signal e h, forms_same form signal e h)
-              (adding_hit part (count - i) (1 + 6 * i) (omega arith) signal known p k bit _ signal (omega (arith, W.wide)) (W.each signal (omega (arith, W.wide)))
+              (adding_hit part count i more signal known p k bit _ signal (omega (arith, W.wide)) (W.each signal (omega (arith, W.wide)))
               refl v is_v e.coefficient is_x e.forms is_f)))
               (λ d.
               let off : s ≡ signal → ⊥ = λ same. d (sym same) in
               rw (coef_other form signal e s off, forms_other form signal e s off)
-              (adding_off part (count - i) (1 + 6 * i) (omega arith) signal known p k bit _ s low (W.each s low) d)));
+              (adding_off part count i more signal known p k bit _ s low (W.each s low) d));
         }
 
     pub walk_past : length form ≤ signal → Walking p k bit part form₀ form count (i + 1)
     walk_past h =
         record {
           wide = W.wide;
-          each = λ s low. rw (← left, ← offset)
-              (adding_off part (count - i) (1 + 6 * i) (omega arith) signal known p k bit _ s low (W.each s low)
-              (λ (e : signal ≡ s). omega (arith, W.wide)));
+          each = λ s low. adding_off part count i more signal known p k bit _ s low (W.each s low) (λ (e : signal ≡ s). omega (arith, W.wide));
         }
 
   -- where no terms are left
@@ -177,7 +167,7 @@ module _ {p k bit : ℕ} {part : List ℕ} {form₀ form : List Entry} {count i 
     where
       each : (s : ℕ) → s ≤ signals_most
           → Adding p k bit (form_in part) [] s (coef_on form₀ s) (forms_on form₀ s) (coef_on form s) (forms_on form s)
-      each s low = rw (terms_end part (count - i) (1 + 6 * i) (omega arith)) at (W.each s low)
+      each s low = rw (left_end part count i none) at (W.each s low)
 
 -- what an array of `nothing` holds
 pub nothing_repeated : (n t : ℕ) → entry_at (replicate n nothing) t ≡ nothing

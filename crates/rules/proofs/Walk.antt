@@ -48,7 +48,7 @@ module _ (s : List ℕ) (left at : ℕ) (some : 0 < left) (signal : ℕ) (known 
   abbrev on : ℕ → Bool
   on t = leb signal signals_most && eqb signal t
 
-  pub names_turn : (t : ℕ) → names (terms_from s left at) t ≡ (on t || names next t)
+  names_turn : (t : ℕ) → names (terms_from s left at) t ≡ (on t || names next t)
   unfolding names
   names_turn t = rw turn (by_test (leb signal signals_most) (λ e. rw e) (λ e. rw e))
 
@@ -56,7 +56,7 @@ module _ (s : List ℕ) (left at : ℕ) (some : 0 < left) (signal : ℕ) (known 
   unfolding allowed others_marked
   others_turn m t = rw turn (by_test (leb signal signals_most) (λ e. rw e) (λ e. rw e))
 
-  pub coef_turn : (t : ℕ) → coef (terms_from s left at) t ≡ keep (on t) (u32_at s (at + 2)) + coef next t
+  coef_turn : (t : ℕ) → coef (terms_from s left at) t ≡ keep (on t) (u32_at s (at + 2)) + coef next t
   unfolding coef keep
   coef_turn t =
       rw turn

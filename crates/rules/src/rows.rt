@@ -50,7 +50,7 @@ impl Entry {
     }
 }
 
-// Room for the rows of every circuit: one entry for each six of its at most 60,000 bytes, for each constraint, and one more.
+// Room for the rows of every circuit: an entry for each six of at most 60,000 bytes, for each of at most 512 constraints, and one more.
 pub const MOST_ENTRIES: usize = 10513;
 
 // Puts an entry at the end, if a row has it and there is room, and answers the new end.
@@ -60,9 +60,10 @@ fn put(rows: &mut [Entry], end: usize, entry: Entry) -> usize
 {
     if entry.stands() && end < rows.len() {
         rows[end] = entry;
-        return end + 1;
+        end + 1
+    } else {
+        end
     }
-    end
 }
 
 // Puts the row of the constraint at the start of the part, as far as there is room, and answers its end.
