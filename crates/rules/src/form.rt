@@ -1,6 +1,7 @@
 // Forms in bytes: what a form names, and its coefficients.
 
-ghost use Rattle.std.specs.Prelude.{◌≡◌, Some, None, cond, ◌&&◌, ◌%◌, ◌<◌, leb, eqb};
+ghost use Rattle.std.specs.Prelude.{◌≡◌, Some, None, cond, ◌&&◌, ◌+◌, ◌*◌, ◌%◌, ◌<◌, leb, eqb};
+ghost use Rattle.circuit.specs.Bytes.{byte_at, u16_at, u32_at};
 ghost use Rattle.circuit.specs.Circuit.{coef, names};
 ghost use Rattle.circuit.specs.Reader.{signals_most, form_in};
 ghost use Rattle.laws.specs.Sum.{keep};
@@ -13,6 +14,32 @@ use circuit::bytes::{byte_at, u16_at, u32_at};
 
 // The most signals of a circuit.
 const SIGNALS_MOST: u32 = 256;
+
+// A term of a form: its signal and its coefficient.
+#[derive(Clone, Copy)]
+pub(crate) struct Term {
+    pub signal: u32,
+    pub coefficient: u32,
+}
+
+// How many terms the form at the start of the part has.
+pub(crate) fn term_count(part: &[u8]) -> usize
+    ensures { (result ≡ byte_at part.now 0) × (result < 256) }
+{
+    byte_at(part, 0) as usize
+}
+
+// Its term i, counted from 0: after the count byte, six bytes for each.
+pub(crate) fn term_at(part: &[u8], i: usize) -> Term
+    requires { i < 256 }
+    ensures { (result.signal ≡ u16_at part.now (1 + 6 * i)) × (result.coefficient ≡ u32_at part.now (1 + 6 * i + 2)) }
+{
+    let at = 1 + 6 * i;
+    Term {
+        signal: u16_at(part, at),
+        coefficient: u32_at(part, at + 2),
+    }
+}
 
 // Whether a term on this signal is one on t. A signal above 256 is passed over.
 fn is_on(signal: u32, t: u32) -> bool
@@ -35,23 +62,23 @@ pub(crate) fn names_beside(part: &[u8], marks: &[bool], t: u32) -> Option<bool>
         ≡ cond (others_marked (mark_in marks.now) t (form_in part.now)) (Some (names (form_in part.now) t)) None }
 {
     let mut names = false;
-    for term in 0..byte_at(part, 0) as usize {
-        let signal = u16_at(part, 1 + 6 * term);
-        if !other_marked(marks, t, signal) {
+    for i in 0..term_count(part) {
+        let term = term_at(part, i);
+        if !other_marked(marks, t, term.signal) {
             return None;
         }
-        names |= is_on(signal, t);
+        names |= is_on(term.signal, t);
     }
     Some(names)
 }
 
 // The coefficient of a term, if that is on t, else 0.
 #[tactic(auto, unfolding(laws::specs::Sum::keep))]
-fn term_on(signal: u32, t: u32, coefficient: u32) -> u64
-    ensures { (result ≡ keep (leb signal signals_most && eqb signal t) coefficient) × (result < 4294967296) }
+fn term_on(term: Term, t: u32) -> u64
+    ensures { (result ≡ keep (leb term.signal signals_most && eqb term.signal t) term.coefficient) × (result < 4294967296) }
 {
-    if is_on(signal, t) {
-        coefficient as u64
+    if is_on(term.signal, t) {
+        term.coefficient as u64
     } else {
         0
     }
@@ -71,12 +98,10 @@ pub(crate) fn coefficients(part: &[u8], t: u32, p: u32) -> Affine
 {
     let mut constant: u64 = 0;
     let mut coef: u64 = 0;
-    for term in 0..byte_at(part, 0) as usize {
-        let at = 1 + 6 * term;
-        let signal = u16_at(part, at);
-        let coefficient = u32_at(part, at + 2);
-        constant += term_on(signal, 0, coefficient);
-        coef += term_on(signal, t, coefficient);
+    for i in 0..term_count(part) {
+        let term = term_at(part, i);
+        constant += term_on(term, 0);
+        coef += term_on(term, t);
     }
     Affine {
         constant: (constant % p as u64) as u32,

@@ -5,9 +5,8 @@ ghost use Rattle.circuit.specs.Reader.{form_in, constraint_in};
 ghost use Rattle.rules.specs.Rows.{Addable, FormAdded, Reduces};
 
 use crate::arith::{add_multiple, multiply_add};
-use crate::form::coefficients;
+use crate::form::{coefficients, term_at, term_count};
 use crate::rows::Entry;
-use circuit::bytes::{byte_at, u16_at, u32_at};
 use circuit::reader::after_form;
 
 // The forms with this bit, the highest so far.
@@ -24,12 +23,12 @@ fn add_form(reduced: &mut [Entry], part: &[u8], factor: u32, bit: u8, p: u32)
     requires { Addable p bit reduced.old }
     ensures { FormAdded p factor bit (form_in part.now) reduced.old reduced.new }
 {
-    for term in 0..byte_at(part, 0) as usize {
-        let at = 1 + 6 * term;
-        let signal = u16_at(part, at) as usize;
+    for i in 0..term_count(part) {
+        let term = term_at(part, i);
+        let signal = term.signal as usize;
         if signal < reduced.len() {
             let entry = &mut reduced[signal];
-            entry.coefficient = add_multiple(entry.coefficient, factor, u32_at(part, at + 2), p);
+            entry.coefficient = add_multiple(entry.coefficient, factor, term.coefficient, p);
             entry.forms = with_bit(entry.forms, bit);
         }
     }
