@@ -87,10 +87,10 @@ fn put_row(rows: &mut [Entry], start: usize, part: &[u8], n: u32, p: u32) -> usi
 
 // Where row k starts.
 #[tactic(auto, unfolding(crate::specs::Rows::start_of, crate::specs::Rows::at, crate::specs::View::coef_in))]
-pub fn start_of(constraints: &Constraints, k: u32) -> usize
-    ensures { (result ≡ start_of constraints.now.offsets k) × (result ≤ 715827882 + k) }
+pub fn start_of(table: &[u32], k: u32) -> usize
+    ensures { (result ≡ start_of table.now k) × (result ≤ 715827882 + k) }
 {
-    coef_at(&constraints.offsets, k as usize) as usize / 6 + k as usize
+    coef_at(table, k as usize) as usize / 6 + k as usize
 }
 
 // Makes the row of constraint k, unless it has been made.
@@ -106,16 +106,16 @@ pub fn make_row(constraints: &Constraints, ends: &mut [u32], rows: &mut [Entry],
         return;
     }
     let part = constraints.part(k);
-    let start = start_of(constraints, k);
+    let start = start_of(&constraints.offsets, k);
     let end = put_row(rows, start, part, sizes.n, sizes.p);
     ends[place] = end as u32;
 }
 
 // The entries of row k; for all arguments.
-pub fn row_of<'a>(constraints: &Constraints, ends: &[u32], rows: &'a [Entry], k: u32) -> &'a [Entry]
-    ensures { result.now ≡ row_of constraints.now.offsets ends.now rows.now k }
+pub fn row_of<'a>(table: &[u32], ends: &[u32], rows: &'a [Entry], k: u32) -> &'a [Entry]
+    ensures { result.now ≡ row_of table.now ends.now rows.now k }
 {
     let end = (coef_at(ends, k as usize) as usize).min(rows.len());
-    let start = start_of(constraints, k).min(end);
+    let start = start_of(table, k).min(end);
     &rows[start..end]
 }
