@@ -1,13 +1,15 @@
 -- The digits test by gathered weights, over any indices: what each loop of the code has shown, and that the test is the rule's.
-use Prim.Native.Nat.{ℕ, suc, ◌+◌, ◌*◌, ◌≤◌, ◌<◌}
+use Prim.Native.Nat.{ℕ, suc, ◌+◌, ◌*◌, ◌%◌, ◌≤◌, ◌<◌}
 use mathlib.Core.Path.{◌≡◌, refl, sym, ap, ◌∙◌}
 use mathlib.Core.Bool.{Bool, true, false, not, ◌&&◌}
-use mathlib.Core.List.{List}
+use mathlib.Core.List.{List, [], ◌∷◌}
 use native.Mathlib.Nat.{mul-zero, mul-le-mul_right, pos_of_ne-zero}
 use native.Mathlib.Numerals.{add-one}
 use native.Mathlib.Omega.{arith}
 use lib.Dec.{ltb, eqb}
-use lib.ListN.{length, set, length-set}
+use lib.ListN.{length, get_or, set, length-set}
+use lib.Seq.{get_or-set_same, get_or-set_other}
+use Rattle.std.specs.List.{list_all}
 use borrow.Author.Count.{below_more}
 use borrow.Author.Tests.{ne_eqb, eqb-false, lt-ltb, le-ltb, ltb-true, ltb-false, not-true}
 use Rattle.field.specs.Inverse.{inverse}
@@ -17,28 +19,22 @@ use Rattle.laws.proofs.Sum.{and_left, and_right, and_both, by_test, true_or_fals
 use Rattle.laws.proofs.Sum.{and-true, keep_le, keep_mono, keep_zero, all_at, all_from, sum_cong, sum_mono}
 use Rattle.rules.specs.View.{coef_in}
 use Rattle.rules.specs.Rows.{rank}
-use Rattle.rules.specs.Weights.{scaled, positive, Gathered, smaller, smaller_at, Fitting, exceeds}
-use Rattle.rules.proofs.SumLaws.{sum_grows, sum_on, sum_over}
+use Rattle.rules.specs.Live.{is_live, positive}
+use Rattle.rules.specs.Weights.{scaled, digit_at, Gathered, Many, smaller, smaller_at, exceeds, Held}
+use Rattle.rules.specs.declared.rows.Entry.{Entry}
+use Rattle.rules.specs.declared.gathered.Digit.{Digit}
+use Rattle.rules.specs.declared.gathered.Weighed.{Weighed}
+use Rattle.rules.proofs.SumLaws.{sum_grows, sum_on}
 use Rattle.rules.proofs.Ranks.{all_last, rank_zero, rank_passed, rank_failed, rank_below, rank_grows, sum_rank}
 use Rattle.rules.proofs.RowLaws.{rank_onto, rank_distinct}
 use Rattle.rules.proofs.Few.{few}
 use Rattle.rules.proofs.ViewLaws.{coef_set_same, coef_set_other}
 
--- A bounded test, index by index
-
-module _ (q : ℕ → Bool) where
-  pub all_start : all 0 q ≡ true
-  unfolding all
-  all_start = refl
-
-  pub all_on : (k : ℕ) → all k q ≡ true → (b : Bool) → b ≡ q k → b ≡ true → all (k + 1) q ≡ true
-  all_on k e b b-is g = rw (add-one k) (all_last k q ∙ and_both (all k q) (q k) e (sym b-is ∙ g))
-
-  pub all_stop : (k n : ℕ) → k < n → (b : Bool) → b ≡ q k → b ≡ false → all n q ≡ false
-  all_stop k n h b b-is g = false_by (all n q) (λ e. true_or_false (q k) (all_at n q e k h) (sym b-is ∙ g))
-
-  pub all_end : (k n : ℕ) → n ≤ k → k ≤ n → all k q ≡ true → all n q ≡ true
-  all_end k n h l e = ap (λ (m : ℕ). all m q) (omega arith) ∙ e
+-- a test of every element, by index
+pub all_is : {A : Type 0} (p : A → Bool) (xs : List A) (d : A) → list_all p xs ≡ all (length xs) (λ i. p (get_or xs i d))
+unfolding all
+all_is p [] d = refl
+all_is p (x ∷ xs) d = ap (λ (b : Bool). p x && b) (all_is p xs d)
 
 both_ways : (a b : Bool) → (a ≡ true → b ≡ true) → (b ≡ true → a ≡ true) → a ≡ b
 both_ways true b f g = sym (f refl)
@@ -71,17 +67,15 @@ module _ (W X : ℕ → ℕ) (w : ℕ) where
         sum_grows (j + 1) count X (omega arith),
       )
 
-  pub smaller_end : (j count : ℕ) → j ≤ count → count ≤ j → (below : ℕ) → below ≡ sum j (smaller_at W X w) → below ≡ sum count (smaller_at W X w)
-  smaller_end j count h l below e = e ∙ ap (λ (k : ℕ). sum k (smaller_at W X w)) (omega arith)
-
-module _ (p : ℕ) (R : ℕ → ℕ) (m : ℕ → Bool) (k : ℕ) (W X : ℕ → ℕ) (count s : ℕ) (b : Bool) (b-is : b ≡ live R m s) where
-  pub exceeds_dead : b ≡ false → true ≡ exceeds p R m k W X count s
+module _ (weighed : Weighed) (marks : List Bool) (x : Entry) where
+  pub exceeds_dead : is_live marks x ≡ false → true ≡ exceeds weighed marks x
   unfolding exceeds implies
-  exceeds_dead e = sym (rw (sym b-is ∙ e))
+  exceeds_dead e = sym (rw e)
 
-  pub exceeds_live : b ≡ true → (w y : ℕ) → w ≡ scaled p R k s → y ≡ sum count (smaller_at W X w) → ltb y w ≡ exceeds p R m k W X count s
+  pub exceeds_live : is_live marks x ≡ true → (w y : ℕ) → w ≡ x.coefficient * weighed.scale % weighed.p
+      → y ≡ sum weighed.count (smaller_at (coef_in weighed.weights) (coef_in weighed.products) w) → ltb y w ≡ exceeds weighed marks x
   unfolding exceeds implies
-  exceeds_live e w y w-is y-is = sym (rw (sym b-is ∙ e, sym w-is, sym y-is))
+  exceeds_live e w y w-is y-is = sym (rw (e, sym w-is, sym y-is))
 
 -- The rule, by any weights
 
@@ -216,59 +210,55 @@ pub positive_no : (c : ℕ → ℕ) (s x : ℕ) → x ≡ c s → x ≡ 0 → po
 unfolding positive
 positive_no c s x x-is z = rw (sym x-is ∙ z)
 
-module _ (q : ℕ → Bool) (f g : ℕ → ℕ) where
-  pub gathered_start : (xs ys : List ℕ) → length xs ≡ 32 → length ys ≡ 32 → Gathered q f g 0 xs ys 0
-  gathered_start xs ys wide-x wide-y =
-      record {
-        first_wide = wide-x;
-        second_wide = wide-y;
-        ranked = sym (rank_zero q);
-        first = λ s l e. absurd (omega arith);
-        second = λ s l e. absurd (omega arith);
-      }
+abbrev pub made : ℕ → ℕ → Digit
+made c x = record { coefficient = c; bound = x }
 
-  module _ (k : ℕ) (xs ys : List ℕ) (count : ℕ) (G : Gathered q f g k xs ys count) where
-    pub gathered_skip : q k ≡ false → Gathered q f g (k + 1) xs ys count
+digit_set_same : (digits : List Digit) (i : ℕ) (x : Digit) → i < length digits → digit_at (set digits i x) i ≡ x
+unfolding digit_at
+digit_set_same digits i x h = get_or-set_same digits i x _ h
+
+digit_set_other : (digits : List Digit) (i j : ℕ) (x : Digit) → (j ≡ i → ⊥) → digit_at (set digits i x) j ≡ digit_at digits j
+unfolding digit_at
+digit_set_other digits i j x d = get_or-set_other digits i j x _ d
+
+pub digit_is : (c x y : ℕ) → x ≡ y → record { coefficient = c; bound = x } ≡ made c y
+digit_is c x y e = ap (made c) e
+
+module _ (q : ℕ → Bool) (f g : ℕ → ℕ) where
+  pub gathered_start : (digits : List Digit) → length digits ≡ 31 → Gathered q f g 0 digits 0
+  gathered_start digits wide = record { wide = wide; ranked = sym (rank_zero q); held = λ s l e. absurd (omega arith) }
+
+  module _ (k : ℕ) (digits : List Digit) (count : ℕ) (G : Gathered q f g k digits count) where
+    pub gathered_skip : q k ≡ false → Gathered q f g (k + 1) digits count
     gathered_skip e =
         record {
-          first_wide = G.first_wide;
-          second_wide = G.second_wide;
+          wide = G.wide;
           ranked = rw (add-one k) (G.ranked ∙ sym (rank_failed q k e));
-          first = below_more _ k G.first (λ i. true_or_false _ i e);
-          second = below_more _ k G.second (λ i. true_or_false _ i e);
+          held = below_more _ k G.held (λ i. true_or_false _ i e);
         }
 
-    pub gathered_on : q k ≡ true → (x y : ℕ) → x ≡ f k → y ≡ g k → count < 32
-        → Gathered q f g (k + 1) (set xs count x) (set ys count y) (count + 1)
-    gathered_on e x y x-is y-is room =
+    pub gathered_on : q k ≡ true → (x : Digit) → x ≡ record { coefficient = f k; bound = g k } → count < 31
+        → Gathered q f g (k + 1) (set digits count x) (count + 1)
+    gathered_on e x x-is room =
         record {
-          first_wide = simp length-set G.first_wide;
-          second_wide = simp length-set G.second_wide;
+          wide = simp length-set G.wide;
           ranked = rw (add-one k) (omega (arith, G.ranked, rank_passed q k e));
-          first = below_more _ k (λ s l i. coef_set_other xs count (rank q s) x (elsewhere s l i) ∙ G.first s l i)
-              (λ i. rw (sym G.ranked) (coef_set_same xs count x (omega (arith, G.first_wide)) ∙ x-is));
-          second = below_more _ k (λ s l i. coef_set_other ys count (rank q s) y (elsewhere s l i) ∙ G.second s l i)
-              (λ i. rw (sym G.ranked) (coef_set_same ys count y (omega (arith, G.second_wide)) ∙ y-is));
+          held = below_more _ k (λ s l i. digit_set_other digits count (rank q s) x (elsewhere s l i) ∙ G.held s l i)
+              (λ i. rw (sym G.ranked) (digit_set_same digits count x (omega (arith, G.wide)) ∙ x-is));
         }
       where
         elsewhere : (s : ℕ) → s < k → q s ≡ true → rank q s ≡ count → ⊥
         elsewhere s l i z = omega (arith, rank_below q s k l i, G.ranked)
 
+    -- one more makes 32
+    pub gathered_many : (n : ℕ) → k < n → q k ≡ true → 31 ≤ count → Many q n
+    gathered_many n h e full =
+        record { upto = k + 1; within = omega arith; many = rw (add-one k) (omega (arith, G.ranked, rank_passed q k e)) }
+
 -- Weights and products of what was gathered
 
-unfoldable pub times : (ℕ → ℕ) → (ℕ → ℕ) → ℕ → ℕ
-times f g j = f j * g j
-
-pub record Weighed (p : ℕ) (W X : ℕ → ℕ) (j : ℕ) (weights products : List ℕ) (total : ℕ) : Type 0 where
-  pub weights_wide : length weights ≡ 32
-  pub products_wide : length products ≡ 32
-  pub weighs : (i : ℕ) → i < j → coef_in weights i ≡ W i
-  pub takes : (i : ℕ) → i < j → coef_in products i ≡ X i
-  pub totalled : total ≡ sum j X
-  pub below : total < p
-
 module _ (p : ℕ) (W X : ℕ → ℕ) where
-  pub weighed_start : (weights products : List ℕ) → length weights ≡ 32 → length products ≡ 32 → 0 < p → Weighed p W X 0 weights products 0
+  pub weighed_start : (weights products : List ℕ) → length weights ≡ 31 → length products ≡ 31 → 0 < p → Held p W X 0 weights products 0
   unfolding sum
   weighed_start weights products wide-w wide-x h =
       record {
@@ -280,9 +270,9 @@ module _ (p : ℕ) (W X : ℕ → ℕ) where
         below = h;
       }
 
-  module _ (j : ℕ) (weights products : List ℕ) (total : ℕ) (G : Weighed p W X j weights products total) where
-    pub weighed_on : (w x : ℕ) → w ≡ W j → x ≡ X j → total + x < p → j < 32
-        → Weighed p W X (j + 1) (set weights j w) (set products j x) (total + x)
+  module _ (j : ℕ) (weights products : List ℕ) (total : ℕ) (G : Held p W X j weights products total) where
+    pub weighed_on : (w x : ℕ) → w ≡ W j → x ≡ X j → total + x < p → j < 31
+        → Held p W X (j + 1) (set weights j w) (set products j x) (total + x)
     weighed_on w x w-is x-is h room =
         record {
           weights_wide = simp length-set G.weights_wide;
@@ -295,9 +285,8 @@ module _ (p : ℕ) (W X : ℕ → ℕ) where
           below = h;
         }
 
-    pub weighed_products : j ≤ 32 → p < 4294967296 → Fitting j products
-    weighed_products few small =
-        record { few = few; fits = omega (arith, sum_cong j (coef_in products) X G.takes, G.totalled, G.below) }
+    pub weighed_products : p < 4294967296 → sum j (coef_in products) < 4294967296
+    weighed_products small = omega (arith, sum_cong j (coef_in products) X G.takes, G.totalled, G.below)
 
     weighed_smaller : (x : ℕ) → sum j (smaller_at (coef_in weights) (coef_in products) x) ≡ sum j (smaller_at W X x)
     unfolding smaller_at
@@ -379,10 +368,10 @@ module _ (p n : ℕ) (q : ℕ → Bool) (w b : ℕ → ℕ) where
     low_held x =
         sum_rank counts n _ (smaller_at W X x) (λ u l e. rw (counts_passes u e, weighs u l e, takes u l e)) (λ u l e. counts_none u _ e)
 
-    pub held_over : (j total x : ℕ) → j < rank counts n → total ≡ sum j X → x ≡ X j → p ≤ total + x → separated_by p n q w b ≡ false
-    held_over j total x h e x-is over = total_over (rw total_held (sum_over X j (rank counts n) total x p e x-is h over))
+    pub held_over : p ≤ sum (rank counts n) X → separated_by p n q w b ≡ false
+    held_over h = total_over (rw total_held h)
 
-    module _ (weights products : List ℕ) (total : ℕ) (G : Weighed p W X (rank counts n) weights products total) where
+    module _ (weights products : List ℕ) (total : ℕ) (G : Held p W X (rank counts n) weights products total) where
       abbrev outstanding : ℕ → Bool
       outstanding s = implies (q s) (ltb (sum (rank counts n) (smaller_at (coef_in weights) (coef_in products) (w s))) (w s))
 

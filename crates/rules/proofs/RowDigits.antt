@@ -3,6 +3,8 @@ use Prim.Native.Nat.{ℕ, suc, ◌+◌, ◌*◌, ◌%◌, ◌≤◌, ◌<◌}
 use mathlib.Core.Path.{◌≡◌, refl, sym, ap, ◌∙◌}
 use mathlib.Core.Bool.{Bool, true, false, not, and-false}
 use mathlib.Core.List.{List}
+use Rattle.std.specs.Prelude.{Option, None, Some}
+use Rattle.std.specs.List.{list_all}
 use native.Mathlib.Nat.{mod-lt}
 use native.Mathlib.Omega.{arith}
 use lib.Dec.{eqb}
@@ -16,26 +18,25 @@ use Rattle.laws.specs.Rules.{linear, reduced, occurs, live, separated, digits_me
 use Rattle.laws.proofs.Sum.{and_left, and_right, and_both, by_test, by_order, true_or_false, true_by, false_by}
 use Rattle.laws.proofs.Reduced.{reduced_below, occurs_yes, occurs_no, occurs_nonzero}
 use Rattle.rules.specs.View.{coef_in, bound_in, mark_in}
-use Rattle.rules.specs.Rows.{entries, rank, stands, signal_on, coef_on, bound_on, mark_on, Row}
-use Rattle.rules.specs.Weights.{scaled, live_bound, bounds_on, positive, Differ, Gathers, Ready, Hopeless, Prepared, exceeds}
-use Rattle.rules.specs.Weights.{Tells, FirstReference, FirstLive}
-use Rattle.rules.specs.declared.digits.Few.{Few}
+use Rattle.rules.specs.Rows.{entries, entry_at, nothing, rank, stands, signal_on, coef_on, bound_on, Row}
+use Rattle.rules.specs.Live.{live_on, live_bound, bounds_on, positive, Differ}
+use Rattle.rules.specs.Weights.{scaled, times, weights_of, products_of, WeighedBy, Many, Gathers, Ready, Hopeless, Prepared, exceeds}
+use Rattle.rules.specs.Weights.{Tells, FirstReference, LowestLive}
+use Rattle.rules.specs.declared.rows.Entry.{Entry}
+use Rattle.rules.specs.declared.gathered.Digit.{Digit}
+use Rattle.rules.specs.declared.gathered.Few.{Few}
+use Rattle.rules.specs.declared.gathered.Weighed.{Weighed}
 use Rattle.rules.proofs.Ranks.{rank_zero, rank_below}
 use Rattle.rules.proofs.RowLaws.{uninvolved, constant_stands, entries_are, row_entry, row_first, row_rising}
-use Rattle.rules.proofs.WeightLaws.{live_least, live_some, live_absent, live_alike, weight_back, weight_some, differ_two}
-use Rattle.rules.proofs.DigitsLaws.{separated_by, separated_by_lem, parts, by_places, Weighed, times, counts_bound, bounds_over, many_over}
+use Rattle.rules.proofs.WeightLaws.{live_entry, live_least, live_some, live_absent, weight_back, weight_some, differ_two}
+use Rattle.rules.proofs.DigitsLaws.{all_is, separated_by, separated_by_lem, parts, by_places, counts_bound, bounds_over, many_over}
 use Rattle.rules.proofs.DigitsLaws.{held_over, held_end}
 
-module _ {p n : ℕ} {K : Constraint} {row : List ℕ} (L : Row p n K row) where
+module _ {p n : ℕ} {K : Constraint} {row : List Entry} (L : Row p n K row) where
   pub live_at : (marks : List Bool) (s : ℕ) → s ≤ n → stands K s ≡ true
-      → live (reduced p K) (mark_in marks) s ≡ live (coef_on row) (mark_on marks row) (rank (stands K) s)
-  unfolding mark_on
-  live_at marks s h e =
-      live_alike _ _ _ _ s _ (λ z. rw z (rank_zero (stands K))) back (sym (L.coef s h e)) (ap (mark_in marks) (sym (L.signal s h e)))
-    where
-      -- the constant has place 0, signals have places from 1
-      back : rank (stands K) s ≡ 0 → s ≡ 0
-      back z = by_order 0 s (λ l. absurd (omega (arith, rank_below (stands K) 0 s l (constant_stands K)))) (λ l. omega arith)
+      → live (reduced p K) (mark_in marks) s ≡ live_on marks row (rank (stands K) s)
+  unfolding live_on signal_on coef_on
+  live_at marks s h e = live_entry (reduced p K) marks s _ (L.signal s h e) (L.coef s h e)
 
   pub live_off : (m : ℕ → Bool) (s : ℕ) → 0 < p → stands K s ≡ false → live (reduced p K) m s ≡ false
   live_off m s pos e = live_absent _ _ s (uninvolved p K s pos e)
@@ -45,8 +46,8 @@ module _ {p n : ℕ} {K : Constraint} {row : List ℕ} (L : Row p n K row) where
     abbrev R : ℕ → ℕ
     R = coef_on row
 
-    abbrev M : ℕ → Bool
-    M = mark_on marks row
+    abbrev Q : ℕ → Bool
+    Q = live_on marks row
 
     abbrev B : ℕ → ℕ
     B = bound_on p bounds row
@@ -58,17 +59,17 @@ module _ {p n : ℕ} {K : Constraint} {row : List ℕ} (L : Row p n K row) where
     above = omega (arith, P.above)
 
     -- the rule over the places of the row
-    answer_is : answer ≡ separated_by p (entries row) (live R M) (scaled p R scale) B
+    answer_is : answer ≡ separated_by p (entries row) Q (scaled p R scale) B
     unfolding scaled bound_on
     answer_is =
         separated_by_lem p n (reduced p K) (bound_in p bounds) (mark_in marks) r scale scale-is
-        ∙ by_places p (suc n) (stands K) _ (live R M) _ (scaled p R scale) _ B (λ s l. live_off (mark_in marks) s above)
+        ∙ by_places p (suc n) (stands K) _ Q _ (scaled p R scale) _ B (λ s l. live_off (mark_in marks) s above)
         (λ s l e. record {
           test = live_at marks s (omega arith) e;
           weight = ap (λ (c : ℕ). c * scale % p) (sym (L.coef s (omega arith) e));
           bound = ap (bound_in p bounds) (sym (L.signal s (omega arith) e));
         })
-        ∙ ap (λ (e : ℕ). separated_by p e (live R M) (scaled p R scale) B) (sym (entries_are L))
+        ∙ ap (λ (e : ℕ). separated_by p e Q (scaled p R scale) B) (sym (entries_are L))
 
     coef_below : (i : ℕ) → i < entries row → R i < p
     coef_below i h = let E = row_entry L i h in rw E.coef (reduced_below p K _ above)
@@ -77,92 +78,84 @@ module _ {p n : ℕ} {K : Constraint} {row : List ℕ} (L : Row p n K row) where
     reference = occurs_nonzero K r above er
 
     -- weights differ as coefficients do
-    weights_differ : Differ R M (entries row) → (s u : ℕ) → s < entries row → u < entries row → live R M s ≡ true → live R M u ≡ true → (s ≡ u → ⊥)
+    weights_differ : Differ R Q (entries row) → (s u : ℕ) → s < entries row → u < entries row → Q s ≡ true → Q u ≡ true → (s ≡ u → ⊥)
         → scaled p R scale s ≡ scaled p R scale u → ⊥
     unfolding scaled
     weights_differ D s u l h e g d same =
-        differ_two R M (entries row) s u D l h e g d
+        differ_two R Q (entries row) s u D l h e g d
         (weight_back p (reduced p K r) (R s) (R u) P reference (coef_below s l) (coef_below u h) (rw scale-is at same))
 
     pub fails_crowded : p ≤ sum (entries row) (bounds_on p bounds marks row) → answer ≡ false
-    unfolding bounds_on live_bound scaled
+    unfolding bounds_on live_bound live_on bound_on signal_on scaled
     fails_crowded h =
         answer_is
-        ∙ bounds_over p (entries row) (live R M) (scaled p R scale) B
-        (λ u l e. rw scale-is (weight_some p (reduced p K r) (R u) P reference (coef_below u l) (live_some R M u e))) h
+        ∙ bounds_over p (entries row) Q (scaled p R scale) B
+        (λ u l e. rw scale-is (weight_some p (reduced p K r) (R u) P reference (coef_below u l) (live_some marks row u e))) h
 
-    pub fails_alike : (Differ R M (entries row) → ⊥) → answer ≡ false
+    pub fails_alike : (Differ R Q (entries row) → ⊥) → answer ≡ false
     unfolding scaled
     fails_alike d =
         false_by _
         (λ e.
-        let W = parts p (entries row) (live R M) (scaled p R scale) B (sym answer_is ∙ e) in
+        let W = parts p (entries row) Q (scaled p R scale) B (sym answer_is ∙ e) in
         d (record {
           alone = λ s l i.
               record { apart = λ u h j same. W.differ u s (omega arith) l j i (λ z. omega arith) (ap (λ (c : ℕ). c * scale % p) same) };
         }))
 
     pub fails_many : (k : ℕ) → k ≤ entries row → p < 4294967296 → 32 ≤ rank (positive (bounds_on p bounds marks row)) k → answer ≡ false
-    unfolding bounds_on live_bound positive scaled
-    fails_many k h fits many = answer_is ∙ many_over p (entries row) (live R M) (scaled p R scale) B k h fits (λ s. mod-lt _ above) many
+    unfolding bounds_on live_bound live_on bound_on signal_on positive scaled
+    fails_many k h fits many = answer_is ∙ many_over p (entries row) Q (scaled p R scale) B k h fits (λ s. mod-lt _ above) many
 
-    module _ (coefs ceilings : List ℕ) (count : ℕ) (D : Ready p row bounds marks coefs ceilings count) where
+    module _ (few : Few) (D : Ready p row bounds marks few) where
       abbrev W : ℕ → ℕ
-      W = scaled p (coef_in coefs) scale
+      W = weights_of p few.digits scale
 
       abbrev X : ℕ → ℕ
-      X = times W (coef_in ceilings)
+      X = products_of p few.digits scale
 
       abbrev counts : ℕ → Bool
       counts = positive (bounds_on p bounds marks row)
 
       weighs : (s : ℕ) → s < entries row → counts s ≡ true → W (rank counts s) ≡ scaled p R scale s
       unfolding scaled
-      weighs s l e = ap (λ (c : ℕ). c * scale % p) (D.gathered.first s l e)
+      weighs s l e = ap (λ (x : Digit). x.coefficient * scale % p) (D.gathered.held s l e)
 
       takes : (s : ℕ) → s < entries row → counts s ≡ true → X (rank counts s) ≡ scaled p R scale s * B s
-      unfolding bounds_on live_bound positive times
-      takes s l e = rw (weighs s l e, D.gathered.second s l e, counts_bound p (entries row) (live R M) (scaled p R scale) B s e)
+      unfolding bounds_on live_bound live_on bound_on signal_on positive times
+      takes s l e =
+          rw (weighs s l e, ap (λ (x : Digit). x.bound) (D.gathered.held s l e), counts_bound p (entries row) Q (scaled p R scale) B s e)
 
-      pub ready_over : (j total x : ℕ) → j < count → total ≡ sum j X → x ≡ X j → p ≤ total + x → false ≡ answer
-      unfolding bounds_on live_bound positive
-      ready_over j total x h e x-is over =
-          sym
-          (answer_is
-          ∙ held_over p (entries row) (live R M) (scaled p R scale) B W X weighs takes j total x (omega (arith, D.gathered.ranked)) e x-is over)
+      pub ready_over : p ≤ sum few.count X → false ≡ answer
+      unfolding bounds_on live_bound live_on bound_on signal_on positive
+      ready_over h =
+          sym (answer_is ∙ held_over p (entries row) Q (scaled p R scale) B W X weighs takes (rw D.gathered.ranked at h))
 
-      pub ready_end : (weights products : List ℕ) (total : ℕ) → Weighed p W X count weights products total → (x : Bool)
-          → x ≡ all (entries row) (exceeds p R M scale (coef_in weights) (coef_in products) count) → x ≡ answer
-      unfolding bounds_on live_bound positive exceeds
-      ready_end weights products total G x x-is =
-          x-is
-          ∙ rw D.gathered.ranked
-          (held_end p (entries row) (live R M) (scaled p R scale) B W X weighs takes weights products total (rw D.gathered.ranked at G)
-          (weights_differ D.differ))
+      pub ready_end : (weighed : Weighed) → WeighedBy p few scale weighed → list_all (exceeds weighed marks) row ≡ answer
+      unfolding bounds_on live_bound live_on bound_on signal_on positive exceeds scaled coef_on entry_at
+      ready_end weighed G =
+          all_is (exceeds weighed marks) row nothing
+          ∙ rw (G.counted, G.by_scale, G.modulo, D.gathered.ranked)
+          (held_end p (entries row) Q (scaled p R scale) B W X weighs takes weighed.weights weighed.products G.total
+          (rw D.gathered.ranked at G.held) (weights_differ D.differ))
           ∙ sym answer_is
 
 -- What the code says of a row
 
-module _ (p : ℕ) (row bounds : List ℕ) (marks : List Bool) (few : Few) where
-  pub prepared_none : few.count ≡ 32 → Hopeless p row bounds marks → Prepared p row bounds marks few
-  prepared_none e H = record { ready = λ l. absurd (omega arith); hopeless = λ l. H }
+module _ (p : ℕ) (row : List Entry) (bounds : List ℕ) (marks : List Bool) where
+  pub hopeless_many : p < 4294967296 → Many (positive (bounds_on p bounds marks row)) (entries row) → Hopeless p row bounds marks
+  hopeless_many fits M =
+      record { fails = λ n K P L r er. fails_many L P bounds marks r er _ refl M.upto M.within fits M.many }
 
-  pub prepared_made : p < 4294967296 → Differ (coef_on row) (mark_on marks row) (entries row) → Gathers p row bounds marks few → Prepared p row bounds marks few
-  prepared_made fits D G =
-      record {
-        ready = λ l.
-            let whole : G.upto ≡ entries row = omega (arith, G.within, G.whole l) in
-            record { differ = D; gathered = rw whole at G.gathered };
-        hopeless = λ l.
-            record {
-              fails = λ n K P L r er.
-                  fails_many L P bounds marks r er _ refl G.upto G.within fits (omega (arith, G.gathered.ranked));
-            };
-      }
+  -- what is gathered where coefficients differ
+  pub prepared : p < 4294967296 → Differ (coef_on row) (live_on marks row) (entries row) → (x : Option Few) → Gathers p row bounds marks x
+      → Prepared p row bounds marks x
+  prepared fits D None M = hopeless_many fits M
+  prepared fits D (Some few) G = record { differ = D; gathered = G }
 
 -- Walks along a row
 
-module _ {p n : ℕ} {K : Constraint} {row : List ℕ} (L : Row p n K row) where
+module _ {p n : ℕ} {K : Constraint} {row : List Entry} (L : Row p n K row) where
   -- what holds of the entries passed and of signals off the row holds of all signals, or of those before an entry
   module _ (Q : ℕ → Type 0) (off : (u : ℕ) → stands K u ≡ false → Q u) where
     pub row_before : (i u : ℕ) → i < entries row → ((j : ℕ) → j < i → Q (signal_on row j)) → u < signal_on row i → Q u
@@ -181,52 +174,43 @@ module _ {p n : ℕ} {K : Constraint} {row : List ℕ} (L : Row p n K row) where
 
   -- Unmarked signals
 
-  live_on : (marks : List Bool) (i : ℕ) → i < entries row
-      → live (reduced p K) (mark_in marks) (signal_on row i) ≡ live (coef_on row) (mark_on marks row) i
-  live_on marks i h = let E = row_entry L i h in rw E.place at (live_at L marks (signal_on row i) E.within E.standing)
-
   module _ (pos : 0 < p) (marks : List Bool) where
-    dead_before : (i : ℕ) → i ≤ entries row → ((j : ℕ) → j < i → live (coef_on row) (mark_on marks row) j ≡ false)
-        → (j : ℕ) → j < i → live (reduced p K) (mark_in marks) (signal_on row j) ≡ false
-    dead_before i h passed j l = live_on marks j (omega arith) ∙ passed j l
+    abbrev unmarked : ℕ → Bool
+    unmarked = live (reduced p K) (mark_in marks)
 
-    pub first_found : (i t : ℕ) → i < entries row → t ≡ signal_on row i → live (coef_on row) (mark_on marks row) i ≡ true
-        → ((j : ℕ) → j < i → live (coef_on row) (mark_on marks row) j ≡ false) → FirstLive n (reduced p K) (mark_in marks) t
-    first_found i t h t-is e passed =
-        record {
-          low = λ s l g f. (omega (arith, here), at_least s f);
-          found = λ l. rw t-is ((row_entry L i h).within, live_on marks i h ∙ e);
-        }
+    live_there : (i : ℕ) → i < entries row → unmarked (signal_on row i) ≡ live_on marks row i
+    live_there i h = let E = row_entry L i h in rw E.place at (live_at L marks (signal_on row i) E.within E.standing)
+
+    dead_off : (u : ℕ) → stands K u ≡ false → unmarked u ≡ false
+    dead_off u = live_off L (mark_in marks) u pos
+
+    dead_before : (i : ℕ) → i ≤ entries row → ((j : ℕ) → j < i → live_on marks row j ≡ false)
+        → (j : ℕ) → j < i → unmarked (signal_on row j) ≡ false
+    dead_before i h passed j l = live_there j (omega arith) ∙ passed j l
+
+    pub first_found : (i : ℕ) → i < entries row → live_on marks row i ≡ true
+        → ((j : ℕ) → j < i → live_on marks row j ≡ false) → LowestLive n (reduced p K) (mark_in marks) (signal_on row i)
+    first_found i h e passed =
+        let here = live_there i h ∙ e in
+        record { least = live_least _ _ _ here; most = (row_entry L i h).within; is = here; low = low }
       where
-        here : 1 ≤ t
-        here = rw t-is (live_least _ _ _ (live_on marks i h ∙ e))
-
-        at_least : (s : ℕ) → live (reduced p K) (mark_in marks) s ≡ true → t ≤ s
-        at_least s f =
-            by_order s t
-            (λ a.
-            true_or_false _ f
-            (row_before (λ (u : ℕ). live (reduced p K) (mark_in marks) u ≡ false) (λ u. live_off L (mark_in marks) u pos) i s h
-            (dead_before i (omega arith) passed) (omega (arith, t-is))))
+        low : (s : ℕ) → 1 ≤ s → s ≤ n → unmarked s ≡ true → signal_on row i ≤ s
+        low s l g f =
+            by_order s (signal_on row i)
+            (λ a. true_or_false _ f (row_before (λ (u : ℕ). unmarked u ≡ false) dead_off i s h (dead_before i (omega arith) passed) a))
             (λ a. a)
 
-    pub first_none : ((j : ℕ) → j < entries row → live (coef_on row) (mark_on marks row) j ≡ false) → FirstLive n (reduced p K) (mark_in marks) 0
-    first_none passed =
-        record {
-          low = λ s l h f.
-              true_or_false _ f
-              (row_all (λ (u : ℕ). live (reduced p K) (mark_in marks) u ≡ false) (λ u. live_off L (mark_in marks) u pos) s
-              (dead_before (entries row) (omega arith) passed) h);
-          found = λ l. absurd (omega arith);
-        }
+    pub first_none : ((j : ℕ) → j < entries row → live_on marks row j ≡ false) → (s : ℕ) → 1 ≤ s → s ≤ n → unmarked s ≡ false
+    first_none passed s l h =
+        row_all (λ (u : ℕ). unmarked u ≡ false) dead_off s (dead_before (entries row) (omega arith) passed) h
 
   -- Coefficients
 
-  pub coef_found : (s i c : ℕ) → i < entries row → c ≡ coef_on row i → signal_on row i ≡ s → c ≡ reduced p K s
-  coef_found s i c h c-is e = c-is ∙ (row_entry L i h).coef ∙ ap (reduced p K) e
+  pub coef_found : (s i : ℕ) → i < entries row → signal_on row i ≡ s → coef_on row i ≡ reduced p K s
+  coef_found s i h e = (row_entry L i h).coef ∙ ap (reduced p K) e
 
-  pub coef_missed : (s : ℕ) → 0 < p → 1 ≤ s → s ≤ n → ((i : ℕ) → i < entries row → signal_on row i ≡ s → ⊥) → 0 ≡ reduced p K s
-  coef_missed s pos l h none =
+  pub coef_missed : (s : ℕ) → 0 < p → s ≤ n → ((i : ℕ) → i < entries row → signal_on row i ≡ s → ⊥) → 0 ≡ reduced p K s
+  coef_missed s pos h none =
       row_all (λ (u : ℕ). u ≡ s → 0 ≡ reduced p K s) (λ u g e. sym (uninvolved p K s pos (ap (stands K) (sym e) ∙ g))) s (λ j a e. absurd (none j a e))
       h refl
 
@@ -238,10 +222,10 @@ Fails p n K bounds marks u =
     1 ≤ u → occurs (reduced p K) u ≡ true → separated p n (reduced p K) (bound_in p bounds) (mark_in marks) u ≡ false
 
 -- none of the first i entries separates
-pub record Tried (p : ℕ) (row bounds : List ℕ) (marks : List Bool) (i : ℕ) : Type 0 where
+pub record Tried (p : ℕ) (row : List Entry) (bounds : List ℕ) (marks : List Bool) (i : ℕ) : Type 0 where
   pub fails : (n : ℕ) (K : Constraint) → Prime p → Row p n K row → (j : ℕ) → j < i → Fails p n K bounds marks (signal_on row j)
 
-module _ (p : ℕ) (row bounds : List ℕ) (marks : List Bool) where
+module _ (p : ℕ) (row : List Entry) (bounds : List ℕ) (marks : List Bool) where
   pub tried_start : Tried p row bounds marks 1
   tried_start =
       record {
@@ -285,16 +269,8 @@ module _ (p : ℕ) (row bounds : List ℕ) (marks : List Bool) where
   hopeless_none H n K P L =
       record { none = λ z u l g. H.fails n K P L u; found = λ a. absurd (omega arith); first = λ u a b. absurd (omega arith) }
 
-  -- the end of a search, which for a hopeless row may come at once
-  pub searched : (few : Few) → Prepared p row bounds marks few → (end i : ℕ) → (few.count < 32 → end ≡ entries row) → Tried p row bounds marks i → end ≤ i
-      → (n : ℕ) (K : Constraint) → Prime p → Row p n K row → FirstReference p n (reduced p K) (bound_in p bounds) (mark_in marks) 0
-  searched few D end i e T h = by_order few.count 32 (λ l. tried_none i T (omega (arith, e l))) (λ m. hopeless_none (D.hopeless m))
-
   -- what the code says of entry i
   module _ (i : ℕ) where
-    pub tells_hopeless : Hopeless p row bounds marks → Tells p row bounds marks i false
-    tells_hopeless H n K P L = sym (false_by _ (λ e. true_or_false _ (and_right (occurs (reduced p K) _) _ e) (H.fails n K P L _ (and_left _ _ e))))
-
     module _ (h : i < entries row) (c : ℕ) (c-is : c ≡ coef_on row i) where
       pub tells_absent : c ≡ 0 → Tells p row bounds marks i false
       tells_absent z n K P L =

@@ -2,7 +2,7 @@
 use Prim.Native.Nat.{ℕ, zero, suc, ◌+◌, ◌*◌, ◌-◌, ◌%◌, ◌≤◌, ◌<◌}
 use mathlib.Core.Path.{◌≡◌, refl, sym, ap, ◌∙◌}
 use mathlib.Core.Bool.{not}
-use native.Mathlib.Nat.{mod-lt, zero-mod, zero-add, sub-zero, mul-mod_right, mul-zero, mul_comm}
+use native.Mathlib.Nat.{zero-mod, zero-add, sub-zero, mul-mod_right, mul-zero, mul_comm}
 use native.Mathlib.Decide.{ℕ_discrete}
 use native.Mathlib.Numerals.{add-one}
 use native.Mathlib.Omega.{arith}
@@ -14,7 +14,8 @@ use Rattle.field.proofs.Residue.{opposite_times}
 use Rattle.laws.specs.Sum.{sum, keep}
 use Rattle.laws.specs.Rules.{sum_weight, ceiling, sum_term}
 use Rattle.laws.proofs.Sum.{by_order, sum_last, keep_true, keep_false, keep_zero, none_times}
-use Rattle.rules.specs.Steps.{Target, Highest, Scale, Summed}
+use Rattle.std.specs.Prelude.{Option, None, Some}
+use Rattle.rules.specs.Steps.{Target, Highest, Scale}
 
 -- Sums
 
@@ -38,13 +39,10 @@ sum_on f k total x e g = rw (add-one k) (omega (arith, sum_last k f))
 pub sum_over : (f : ℕ → ℕ) (k n total x limit : ℕ) → total ≡ sum k f → x ≡ f k → k < n → limit ≤ total + x → limit ≤ sum n f
 sum_over f k n total x limit e x-is h over = omega (arith, sum_on f k total x e x-is, sum_grows (k + 1) n f (omega arith))
 
--- A term
+pub sum_whole : (f : ℕ → ℕ) (k n total : ℕ) → total ≡ sum k f → k ≡ n → total ≡ sum n f
+sum_whole f k n total e end = omega (arith, sum_at_end k n f end)
 
-pub scale_made : {p : ℕ} {R : ℕ → ℕ} {count e scale : ℕ} → 0 < p → Target R count e → scale ≡ opposite p (inverse p (R e))
-    → ((scale ≡ 0 → ⊥) → Scale p R count e scale) × (scale ≡ 0 → 0 < p → Target R count e → ⊥)
-unfolding opposite
-scale_made {p} {R} {count} {e} h T s-is =
-    (λ d. record { modulus = h; target = T; is = s-is }, λ z l T. omega (arith, mod-lt (inverse p (R e)) h))
+-- A term
 
 pub weight_none : (p : ℕ) (R : ℕ → ℕ) (t s : ℕ) → R s ≡ 0 → sum_weight p R t s ≡ 0
 unfolding sum_weight opposite
@@ -85,43 +83,28 @@ module _ (p : ℕ) (R b : ℕ → ℕ) (t s : ℕ) where
     pub term_is : (m r : ℕ) → m ≡ ceiling b s → r ≡ w * m → r ≡ sum_term p R b t s
     term_is m r m-is r-is = r-is ∙ rw m-is (sym term_other)
 
--- The sum as far as a limit
-
-module _ {p : ℕ} {R : ℕ → ℕ} (b : ℕ → ℕ) {count e : ℕ} (limit : ℕ) where
-  pub summed_none : (0 < p → Target R count e → ⊥) → Summed p R b count e limit limit
-  summed_none d = record { most = omega arith; target = λ h. absurd (omega arith); is = λ h T. absurd (d h T) }
-
-  module _ {scale : ℕ} (S : Scale p R count e scale) (k total : ℕ) (total_is : total ≡ sum k (sum_term p R b e)) where
-    pub summed_over : k < count → (x : ℕ) → x ≡ sum_term p R b e k → limit ≤ total + x → Summed p R b count e limit limit
-    summed_over h x x-is over =
-        record { most = omega arith; target = λ l. S.target; is = λ l T. omega (arith, sum_over (sum_term p R b e) k count total x limit total_is x-is h over) }
-
-    pub summed_whole : k ≡ count → total ≤ limit → Summed p R b count e limit total
-    summed_whole end h =
-        record { most = h; target = λ l. S.target; is = λ l T. omega (arith, sum_at_end k count (sum_term p R b e) end) }
-
 -- The highest bound
 
 -- the place e with the highest bound is not among those below i, or found
-pub data Sought (b : ℕ → ℕ) (i found top e : ℕ) : Type 0 where
+pub data Sought (b : ℕ → ℕ) (i : ℕ) (found : Option ℕ) (top e : ℕ) : Type 0 where
   ahead : i ≤ e → top < b e → Sought b i found top e
-  behind : e < i → found ≡ e → top ≡ b e → Sought b i found top e
+  behind : e < i → found ≡ Some e → top ≡ b e → Sought b i found top e
 
-pub record Seen (R b : ℕ → ℕ) (count i found top : ℕ) : Type 0 where
+pub record Seen (R b : ℕ → ℕ) (count i : ℕ) (found : Option ℕ) (top : ℕ) : Type 0 where
   pub each : (e : ℕ) → Highest R b count e → Sought b i found top e
 
 module _ {R b : ℕ → ℕ} {count : ℕ} where
-  pub seen_start : Seen R b count 1 0 0
+  pub seen_start : Seen R b count 1 None 0
   seen_start = record { each = λ e H. ahead H.target.least H.positive }
 
-  pub seen_end : {i found top : ℕ} → Seen R b count i found top → count ≤ i → (e : ℕ) → Highest R b count e → found ≡ e
+  pub seen_end : {i : ℕ} {found : Option ℕ} {top : ℕ} → Seen R b count i found top → count ≤ i → (e : ℕ) → Highest R b count e → found ≡ Some e
   seen_end {i} {found} {top} F h e H = go (F.each e H)
     where
-      go : Sought b i found top e → found ≡ e
+      go : Sought b i found top e → found ≡ Some e
       go (ahead l t) = absurd (omega (arith, H.target.before))
       go (behind l f t) = f
 
-  module _ {i found top : ℕ} (F : Seen R b count i found top) where
+  module _ {i : ℕ} {found : Option ℕ} {top : ℕ} (F : Seen R b count i found top) where
     pub seen_same : ((R i ≡ 0 → ⊥) → b i < top) → Seen R b count (i + 1) found top
     seen_same low = record { each = λ e H. go e H (F.each e H) (ℕ_discrete i e) }
       where
@@ -131,27 +114,27 @@ module _ {R b : ℕ → ℕ} {count : ℕ} where
         go e H (behind l f t) d = behind (omega arith) f t
 
     module _ (T : Target R count i) where
-      pub seen_new : top < b i → Seen R b count (i + 1) i (b i)
+      pub seen_new : top < b i → Seen R b count (i + 1) (Some i) (b i)
       seen_new high = record { each = λ e H. go e H (F.each e H) (ℕ_discrete i e) }
         where
-          go : (e : ℕ) → Highest R b count e → Sought b i found top e → Dec (i ≡ e) → Sought b (i + 1) i (b i) e
-          go e H s (yes q) = behind (omega arith) q (ap b q)
+          go : (e : ℕ) → Highest R b count e → Sought b i found top e → Dec (i ≡ e) → Sought b (i + 1) (Some i) (b i) e
+          go e H s (yes q) = behind (omega arith) (ap Some q) (ap b q)
           go e H (ahead l t) (no d) = ahead (omega arith) (H.above i T d)
           go e H (behind l f t) (no d) = absurd (omega (arith, H.above i T d))
 
-      pub seen_tied : b i ≡ top → Seen R b count (i + 1) 0 top
+      pub seen_tied : b i ≡ top → Seen R b count (i + 1) None top
       seen_tied tied = record { each = λ e H. go e H (F.each e H) (ℕ_discrete i e) }
         where
-          go : (e : ℕ) → Highest R b count e → Sought b i found top e → Dec (i ≡ e) → Sought b (i + 1) 0 top e
+          go : (e : ℕ) → Highest R b count e → Sought b i found top e → Dec (i ≡ e) → Sought b (i + 1) None top e
           go e H (ahead l t) (yes q) = absurd (omega (arith, ap b q))
           go e H (ahead l t) (no d) = ahead (omega arith) t
           go e H (behind l f t) (yes q) = absurd (omega arith)
           go e H (behind l f t) (no d) = absurd (omega (arith, H.above i T d))
 
       -- where p - 1 stands twice, no bound below p is above all others
-      pub seen_full : b i ≡ top → {p : ℕ} → p - 1 ≤ b i → (e : ℕ) → Highest R b count e → b e < p → 0 ≡ e
+      pub seen_full : b i ≡ top → {p : ℕ} → p - 1 ≤ b i → (e : ℕ) → Highest R b count e → b e < p → None ≡ Some e
       seen_full tied {p} full e H below = go ((seen_tied tied).each e H)
         where
-          go : Sought b (i + 1) 0 top e → 0 ≡ e
+          go : Sought b (i + 1) None top e → None ≡ Some e
           go (ahead l t) = absurd (omega arith)
           go (behind l f t) = f

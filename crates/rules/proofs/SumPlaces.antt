@@ -1,12 +1,19 @@
 -- Sums by a row are those by the constraint's reduced form: signals and their places, the sum for a target, the bound that a step gives,
 -- and the one sum that lowers a bound.
 use Prim.Native.Nat.{ℕ, zero, suc, ◌≤◌, ◌<◌, min}
-use mathlib.Core.Path.{◌≡◌, sym, ap, ◌∙◌}
+use mathlib.Core.Path.{◌≡◌, refl, sym, ap, ◌∙◌}
 use mathlib.Core.Bool.{Bool, true, false, cond}
 use mathlib.Core.List.{List}
+use Rattle.std.specs.Prelude.{Option, None, Some, nat_eq, position}
+use Rattle.std.specs.List.{position_or_len}
+use Rattle.std.proofs.lemmas.List.Sums.{fails_before_first}
+use Rattle.std.proofs.lemmas.List.Quantifiers.{position-Some}
+use Rattle.rules.specs.declared.rows.Entry.{Entry}
+use Rattle.rules.specs.declared.sums.Lowering.{Lowering}
 use native.Mathlib.Omega.{arith}
 use lib.Dec.{eqb}
-use borrow.Author.Tests.{eq-eqb, ne_eqb, lt-ltb}
+use lib.ListN.{length}
+use borrow.Author.Tests.{eq-eqb, ne_eqb, lt-ltb, eqb-true, ltb-false}
 use Rattle.field.specs.Prime.{Prime}
 use Rattle.circuit.specs.Circuit.{Constraint}
 use Rattle.laws.specs.Sum.{sum}
@@ -16,32 +23,44 @@ use Rattle.laws.proofs.Reduced.{occurs_yes, occurs_no}
 use Rattle.laws.proofs.SumRule.{sum_met_lem}
 use Rattle.laws.proofs.Maximum.{strict_maximum}
 use Rattle.rules.specs.View.{bound_in}
-use Rattle.rules.specs.Rows.{entries, rank, stands, signal_on, coef_on, bound_on, Row}
-use Rattle.rules.specs.Steps.{sum_step, OneSum, Placed, Target, Highest, Summed}
+use Rattle.rules.specs.Rows.{entries, entry_at, nothing, rank, stands, signal_on, coef_on, bound_on, Row}
+use Rattle.rules.specs.Steps.{sum_step, OneSum, Target, Highest, Total, Summed}
 use Rattle.rules.proofs.Ranks.{rank_zero, rank_grows, rank_below, sum_rank}
 use Rattle.rules.proofs.RowLaws.{uninvolved, constant_stands, rank_distinct, entries_are, row_entry}
 use Rattle.rules.proofs.SumLaws.{term_absent, ceiling_signal}
+use Rattle.rules.proofs.Outcomes.{none_given}
+
+-- Places
+
+abbrev signal_is : ℕ → Entry → Bool
+signal_is t x = nat_eq x.signal t
+
+-- t stands nowhere
+pub place_none : (row : List Entry) (t : ℕ) → position (signal_is t) row ≡ None → (i : ℕ) → i < entries row → signal_on row i ≡ t → ⊥
+unfolding signal_on entry_at
+place_none row t none i h e =
+    let past = ltb-false (position_or_len (signal_is t) row) (length row) (none_given _ _ (sym none)) in
+    true_or_false _ (eq-eqb (entry_at row i).signal t e) (fails_before_first (signal_is t) row i nothing (omega arith))
+
+-- t stands at place e
+pub place_some : (row : List Entry) (t e : ℕ) → position (signal_is t) row ≡ Some e → (e < entries row) × (signal_on row e ≡ t)
+unfolding signal_on entry_at
+place_some row t e some =
+    let found = position-Some (signal_is t) row e nothing some in
+    (found.0, eqb-true (entry_at row e).signal t found.1)
 
 -- The bound that a step gives
 
+given_none : {A : Type 0} (b : Bool) (x : A) → b ≡ false → None ≡ cond b (Some x) None
+given_none b x e = rw e refl
+
+given_some : {A : Type 0} (b : Bool) (x y : A) → b ≡ true → x ≡ y → Some x ≡ cond b (Some y) None
+given_some b x y e q = rw (e, q) refl
+
 -- a constraint that isn't linear
-pub step_crooked : (p n : ℕ) (K : Constraint) (b : ℕ → ℕ) (t : ℕ) → linear K ≡ false → p ≡ sum_step p n K b t
+pub step_crooked : (p n : ℕ) (K : Constraint) (b : ℕ → ℕ) (t : ℕ) → linear K ≡ false → None ≡ sum_step p n K b t
 unfolding sum_met
-step_crooked p n K b t e = sym (rw e)
-
--- it is below p exactly if the rule is met
-module _ (p n : ℕ) (K : Constraint) (b : ℕ → ℕ) (t x : ℕ) (x-is : x ≡ sum_step p n K b t) where
-  step_met : sum_met p n K b t ≡ true → x ≡ sum_bound p n (reduced p K) b t
-  step_met e = x-is ∙ ap (λ (m : Bool). cond m (sum_bound p n (reduced p K) b t) p) e
-
-  pub step_over : p ≤ x → sum_met p n K b t ≡ false
-  step_over h = false_by _ (λ e. omega (arith, (sum_met_lem p n K b t e).below, step_met e))
-
-  pub step_below : x < p → sum_met p n K b t ≡ true
-  step_below h = true_by _ (λ e. omega (arith, x-is ∙ ap (λ (m : Bool). cond m (sum_bound p n (reduced p K) b t) p) e))
-
-  pub step_value : x < p → x ≡ sum_bound p n (reduced p K) b t
-  step_value h = step_met (step_below h)
+step_crooked p n K b t e = given_none _ _ (rw e refl)
 
 sum_meets : (p n : ℕ) (K : Constraint) (b : ℕ → ℕ) (t : ℕ) → linear K ≡ true → occurs (reduced p K) t ≡ true
     → sum_bound p n (reduced p K) b t < p → sum_met p n K b t ≡ true
@@ -58,7 +77,7 @@ record Signal (p n : ℕ) (K : Constraint) (i s : ℕ) : Type 0 where
   present : occurs (reduced p K) s ≡ true
   place : rank (stands K) s ≡ i
 
-module _ {p n : ℕ} {K : Constraint} {row : List ℕ} (P : Prime p) (L : Row p n K row) (bounds : List ℕ) where
+module _ {p n : ℕ} {K : Constraint} {row : List Entry} (P : Prime p) (L : Row p n K row) (bounds : List ℕ) where
   abbrev R : ℕ → ℕ
   R = reduced p K
 
@@ -143,75 +162,98 @@ module _ {p n : ℕ} {K : Constraint} {row : List ℕ} (P : Prime p) (L : Row p 
         ∙ sym (sum_rank (stands K) (suc n) (sum_term p R b t) (sum_term p R' b' i) (λ u h. term_same u (omega arith))
         (λ u h e. term_absent p R b t u (uninvolved p K u (omega (arith, P.above)) e)))
 
-    sum_is : {limit x : ℕ} → Summed p R' b' (entries row) i limit x → x ≡ min limit (sum_bound p n R b t)
-    sum_is {limit} F = F.is (omega (arith, P.above)) T ∙ ap (min limit) sum_same
+    sum_is : {limit x : ℕ} → Total p R' b' (entries row) i limit x → x ≡ sum_bound p n R b t
+    sum_is F = F.is ∙ sum_same
+
+    sum_over : {limit : ℕ} → (0 < p → Target R' (entries row) i → limit ≤ sum (entries row) (sum_term p R' b' i)) → limit ≤ sum_bound p n R b t
+    sum_over h = omega (arith, sum_same, h (omega (arith, P.above)) T)
 
   -- The bound that a step gives
-  module _ {t e x : ℕ} (is_linear : linear K ≡ true) (l : 1 ≤ t) (m : t ≤ n) (G : Placed row t e) (F : Summed p R' b' (entries row) e p x) where
-    placed : occurs R t ≡ true → e ≡ place t
-    placed o =
-        let T = signal_target t l m o in
-        by_order 0 e (λ h. let w = G.found h in sym (row_entry L e w.0).place ∙ ap place w.1)
-        (λ h. absurd (G.none (omega arith) (place t) T.least T.before (L.signal t m (named t l m o))))
+  module _ {t : ℕ} (is_linear : linear K ≡ true) (l : 1 ≤ t) (m : t ≤ n) where
+    unmet : (occurs R t ≡ true → sum_bound p n R b t < p → ⊥) → None ≡ sum_step p n K b t
+    unmet d =
+        given_none _ _
+        (false_by _ (λ g. let M = sum_met_lem p n K b t g in d M.has_target M.below))
 
-    pub step_is : x ≡ sum_step p n K b t
-    step_is = by_test (sum_met p n K b t) met unmet
-      where
-        met : sum_met p n K b t ≡ true → x ≡ sum_step p n K b t
-        met g =
-            let M = sum_met_lem p n K b t g in
-            let at_place = placed M.has_target in
-            let T : Target R' (entries row) e = rw at_place (signal_target t l m M.has_target) in
-            let signal : signal_on row e ≡ t = rw at_place (L.signal t m (named t l m M.has_target)) in
-            let is : x ≡ min p (sum_bound p n R b t) = rw signal at (sum_is e T F) in
-            rw g (omega (arith, M.below))
+    pub step_absent : position (signal_is t) row ≡ None → None ≡ sum_step p n K b t
+    step_absent none =
+        unmet (λ o h. place_none row t none (place t) (signal_target t l m o).before (L.signal t m (named t l m o)))
 
-        unmet : sum_met p n K b t ≡ false → x ≡ sum_step p n K b t
-        unmet g =
-            rw g
-            (by_order x p
-            (λ h.
-            let T = F.target h in
-            let signal = (G.found T.least).1 in
-            let is : x ≡ min p (sum_bound p n R b t) = rw signal at (sum_is e T F) in
-            let present : occurs R t ≡ true = rw signal at (target_signal e T).present in
-            true_or_false _ (sum_meets p n K b t is_linear present (omega arith)) g)
-            (λ h. omega (arith, F.most)))
+    module _ {e : ℕ} (before : e < entries row) (signal : signal_on row e ≡ t) where
+      target_there : occurs R t ≡ true → Target R' (entries row) e
+      target_there o =
+          let placed : e ≡ place t = sym (row_entry L e before).place ∙ ap place signal in
+          rw placed (signal_target t l m o)
+
+      -- t stands at place e
+      pub step_is : (x : Option ℕ) → Summed p R' b' (entries row) e p x → x ≡ sum_step p n K b t
+      step_is None h = unmet (λ o below. omega (arith, rw signal at (sum_over e (target_there o) h)))
+      step_is (Some x) F =
+          let is : x ≡ sum_bound p n R b t = rw signal at (sum_is e F.target F) in
+          let present : occurs R t ≡ true = rw signal at (target_signal e F.target).present in
+          given_some _ _ _ (sum_meets p n K b t is_linear present (omega (arith, F.below))) is
 
   -- The one sum that lowers a bound
-  module _ {found limit x : ℕ} (low : (s : ℕ) → b s < p) (H : (e : ℕ) → Highest R' b' (entries row) e → b' e < p → found ≡ e)
-      (F : Summed p R' b' (entries row) found limit x)
-      (limit_is : limit ≡ min (b (signal_on row found)) p) where
-    -- the sum that the search comes to
-    record Met (t : ℕ) : Type 0 where
-      is_target : t ≡ signal_on row found
-      is_bound : sum_bound p n R b t ≡ x
-      lowers : x < limit
+  module _ (low : (s : ℕ) → b s < p) where
+    -- such a sum is that of the place with the highest bound
+    module _ (t : ℕ) (l : 1 ≤ t) (m : t ≤ n) (o : occurs R t ≡ true) (less : sum_bound p n R b t < b t) where
+      signal_there : signal_on row (place t) ≡ t
+      signal_there = L.signal t m (named t l m o)
 
-    lowering : (t : ℕ) → 1 ≤ t → t ≤ n → occurs R t ≡ true → sum_bound p n R b t < p → sum_bound p n R b t < b t → Met t
-    unfolding bound_on
-    lowering t l m o below less =
-        let signal : signal_on row (place t) ≡ t = L.signal t m (named t l m o) in
-        let at_place = H (place t) (highest_at t l m o less) (low _) in
-        let T : Target R' (entries row) found = rw at_place (signal_target t l m o) in
-        let is_target : signal_on row found ≡ t = rw at_place signal in
-        let is : x ≡ min limit (sum_bound p n R b t) = rw is_target at (sum_is found T F) in
-        let high : limit ≡ min (b t) p = rw is_target at limit_is in
-        record { is_target = sym is_target; is_bound = omega arith; lowers = omega arith }
+      pub lowers_highest : {found : Option ℕ} → ((e : ℕ) → Highest R' b' (entries row) e → b' e < p → found ≡ Some e) → found ≡ Some (place t)
+      unfolding bound_on
+      lowers_highest H = H (place t) (highest_at t l m o less) (low _)
 
-    pub lowering_none : limit ≤ x → OneSum p n R b 0 0
-    lowering_none h =
-        record {
-          only = λ t l m o below less. absurd (omega (arith, (lowering t l m o below less).lowers));
-          held = λ l. absurd (omega arith);
-        }
+    pub lowering_none : ((e : ℕ) → Highest R' b' (entries row) e → b' e < p → None ≡ Some e) → OneSum p n R b None
+    lowering_none H =
+        record { only = λ t l m o below less. absurd (none_some _ (lowers_highest t l m o less H)); held = tt }
+      where
+        none_some : (e : ℕ) → None ≡ Some e → ⊥
+        none_some e q = cc
 
-    pub lowering_found : x < limit → OneSum p n R b (signal_on row found) x
-    lowering_found h =
-        let T = F.target h in
-        let S = target_signal found T in
-        let is = sum_is found T F in
-        record {
-          only = λ t l m o below less. (let M = lowering t l m o below less in (M.is_target, M.is_bound));
-          held = λ l. record { most = S.most; present = S.present; is = omega arith; below = omega arith; lower = omega arith };
-        }
+    module _ {found : ℕ} (H : (e : ℕ) → Highest R' b' (entries row) e → b' e < p → Some found ≡ Some e) where
+      there : (t : ℕ) → 1 ≤ t → t ≤ n → occurs R t ≡ true → sum_bound p n R b t < b t → found ≡ place t
+      there t l m o less = same _ _ (lowers_highest t l m o less H)
+        where
+          same : (x y : ℕ) → Some x ≡ Some y → x ≡ y
+          same x y q = cc
+
+      pub lowering_over :
+          (0 < p → Target R' (entries row) found → b (signal_on row found) ≤ sum (entries row) (sum_term p R' b' found))
+          → OneSum p n R b None
+      lowering_over h =
+          record {
+            only = λ t l m o below less. absurd (omega (arith, over t l m o less));
+            held = tt;
+          }
+        where
+          over : (t : ℕ) → 1 ≤ t → t ≤ n → occurs R t ≡ true → sum_bound p n R b t < b t → b t ≤ sum_bound p n R b t
+          over t l m o less =
+              let q = there t l m o less in
+              let signal : signal_on row found ≡ t = rw q (signal_there t l m o less) in
+              let T : Target R' (entries row) found = rw q (signal_target t l m o) in
+              rw signal at (sum_over found T h)
+
+      pub lowering_found : {x : ℕ} → Total p R' b' (entries row) found (b (signal_on row found)) x
+          → OneSum p n R b (Some (record { target = signal_on row found; bound = x }))
+      lowering_found {x} F =
+          let S = target_signal found F.target in
+          let is = sum_is found F.target F in
+          record {
+            only = λ t l m o below less. only t (rw (there t l m o less) (signal_there t l m o less));
+            held = record {
+              least = S.least;
+              most = S.most;
+              present = S.present;
+              is = sym is;
+              below = omega (arith, F.below, low (signal_on row found));
+              lower = F.below;
+            };
+          }
+        where
+          given_by : ℕ → ℕ → Option Lowering
+          given_by target bound = Some (record { target = target; bound = bound })
+
+          only : (t : ℕ) → signal_on row found ≡ t
+              → given_by (signal_on row found) x ≡ given_by t (sum_bound p n R b t)
+          only t signal = rw signal (ap (given_by t) (rw signal at (sum_is found F.target F)))

@@ -1,5 +1,5 @@
--- What a step on the arrays of a standing promises: what it is asked with, what a verdict says, and what it gives. How it runs, not what it means.
-use Rattle.std.specs.Prelude.{ℕ, ◌≤◌, min, ◌≡◌, Bool, true, false, cond, List}
+-- What a step on the arrays of a standing promises: what it is asked with, and what it gives. How it runs, not what it means.
+use Rattle.std.specs.Prelude.{ℕ, ◌≤◌, ◌≡◌, Bool, true, false, cond, List, Option, None, Some}
 use Rattle.field.specs.Prime.{Prime}
 use Rattle.circuit.specs.Reader.{signals_most, constraint_in}
 use Rattle.laws.specs.Problem.{Subject, a_constraint}
@@ -9,8 +9,7 @@ use Rattle.rules.specs.View.{view_of}
 use Rattle.rules.specs.Rows.{Row}
 use Rattle.rules.specs.declared.rows.Entry.{Entry}
 use Rattle.rules.specs.declared.standing.Standing.{Standing}
-use Rattle.rules.specs.declared.standing.Verdict.{Verdict}
-use Rattle.rules.specs.declared.standing.Verdict.TheVariants.{Unmet, AtMost}
+use Rattle.rules.specs.declared.standing.Outcome.{Outcome}
 use Rattle.rules.specs.declared.standing.Kind.{Kind}
 use Rattle.rules.specs.declared.standing.Kind.TheVariants.{Root, Sum, Zero, Product, Digits}
 
@@ -22,25 +21,24 @@ view p st = view_of p st.bounds st.marks
 abbrev pub subject_in : ℕ → ℕ → List ℕ → Subject
 subject_in p n part = record { p = p; n = n; equation = constraint_in part }
 
--- Rules 3.3 and 3.4: it is told whether the rule is met and, if it is, whether the step is idle; target t has the rule's change if it is met.
-pub record Gives (told idle : Bool) (before after : laws.Standing) (t : ℕ) (x : step.Rule) : Type 0 where
-  pub told_met : told ≡ x.met
-  pub told_idle : x.met ≡ true → idle ≡ laws.idle x.change before t
-  pub next : after ≡ cond x.met (laws.apply x.change before t) before
+-- a rule that is met, with this change
+abbrev pub met_with : laws.Change → step.Rule
+met_with change = record { met = true; change = change }
 
--- what a verdict says of a rule that gives bounds
-abbrev pub Says : Verdict → step.Rule → Type 0
-Says Unmet x = x.met ≡ false
-Says (AtMost bound) x = (x.met ≡ true) × (x.change ≡ laws.at_most bound)
+-- Rules 3.3 and 3.4: the step meets the rule, target t has its change, and it is told whether the step is idle.
+pub record Taken (p : ℕ) (outcome : Outcome) (before : laws.Standing) (t : ℕ) (x : step.Rule) : Type 0 where
+  pub met : x.met ≡ true
+  pub idle : outcome.idle ≡ laws.idle x.change before t
+  pub next : view p outcome.next ≡ laws.apply x.change before t
 
-abbrev pub is_met : Verdict → Bool
-is_met Unmet = false
-is_met (AtMost bound) = true
+-- what a step gives: nothing where the rule isn't met
+abbrev pub Gives : ℕ → Option Outcome → laws.Standing → ℕ → step.Rule → Type 0
+Gives p None before t x = x.met ≡ false
+Gives p (Some outcome) before t x = Taken p outcome before t x
 
--- what it makes of its target's bound
-abbrev pub bound_after : Verdict → ℕ → ℕ
-bound_after Unmet bound = bound
-bound_after (AtMost most) bound = min bound most
+-- the bound that a rule of bounds gives, None where it isn't met
+abbrev pub bound_given : step.Rule → Option ℕ
+bound_given x = cond x.met (Some (laws.value x.change)) None
 
 -- the enum's cases as the kinds of the rules
 abbrev pub kind_of : Kind → step.Kind

@@ -1,42 +1,37 @@
 -- What single functions of the code give: how the rules run, not what they mean.
-use Rattle.std.specs.Prelude.{ℕ, ◌≤◌, ◌<◌, min, ◌≡◌, Bool, true, cond, not, ◌||◌, List, leb, eqb}
+use Rattle.std.specs.Prelude.{ℕ, ◌≤◌, ◌<◌, ◌≡◌, Bool, true, cond, not, ◌||◌, Option, None, Some, IfSome, MatchOption, leb, eqb}
 use Rattle.field.specs.Residue.{opposite}
 use Rattle.field.specs.Inverse.{inverse}
 use Rattle.circuit.specs.Circuit.{Constraint}
 use Rattle.circuit.specs.Reader.{signals_most}
 use Rattle.laws.specs.Sum.{sum}
 use Rattle.laws.specs.Rules.{reduced, occurs, sum_term, sum_bound, sum_met}
-use Rattle.rules.specs.Rows.{entries, signal_on}
-use Rattle.rules.specs.declared.rows.Entry.{Entry}
+use Rattle.rules.specs.declared.sums.Lowering.{Lowering}
 
 -- a term on this signal is passed over, or leaves all signals but t marked
 unfoldable pub allowed : (ℕ → Bool) → ℕ → ℕ → Bool
 allowed m t signal = not (leb signal signals_most) || (eqb signal 0 || eqb signal t || m signal)
 
--- the bound that the sum rule gives, p where the rule isn't met
-abbrev pub sum_step : ℕ → ℕ → Constraint → (ℕ → ℕ) → ℕ → ℕ
-sum_step p n K b t = cond (sum_met p n K b t) (sum_bound p n (reduced p K) b t) p
+-- the bound that the sum rule gives, None where the rule isn't met
+abbrev pub sum_step : ℕ → ℕ → Constraint → (ℕ → ℕ) → ℕ → Option ℕ
+sum_step p n K b t = cond (sum_met p n K b t) (Some (sum_bound p n (reduced p K) b t)) None
 
 -- A sum by a form R lowers the target's bound.
 pub record SumLowers (p n : ℕ) (R b : ℕ → ℕ) (target bound : ℕ) : Type 0 where
+  pub least : 1 ≤ target
   pub most : target ≤ n
   pub present : occurs R target ≡ true
   pub is : sum_bound p n R b target ≡ bound
   pub below : bound < p
   pub lower : bound < b target
 
--- The one sum by a form R that lowers a bound: its target, 0 where there is none, and the bound that it gives.
-pub record OneSum (p n : ℕ) (R b : ℕ → ℕ) (target bound : ℕ) : Type 0 where
+-- The one sum by a form R that lowers a bound, None where there is none.
+pub record OneSum (p n : ℕ) (R b : ℕ → ℕ) (x : Option Lowering) : Type 0 where
   pub only : (t : ℕ) → 1 ≤ t → t ≤ n → occurs R t ≡ true → sum_bound p n R b t < p → sum_bound p n R b t < b t
-      → (t ≡ target) × (sum_bound p n R b t ≡ bound)
-  pub held : 1 ≤ target → SumLowers p n R b target bound
+      → x ≡ Some (record { target = t; bound = sum_bound p n R b t })
+  pub held : IfSome x (λ l. SumLowers p n R b l.target l.bound)
 
 -- Sums by a row, of which R and b are coefficients and bounds by place
-
--- where t stands, 0 where it doesn't
-pub record Placed (row : List Entry) (t e : ℕ) : Type 0 where
-  pub found : 1 ≤ e → (e < entries row) × (signal_on row e ≡ t)
-  pub none : e ≡ 0 → (i : ℕ) → 1 ≤ i → i < entries row → signal_on row i ≡ t → ⊥
 
 -- place e has a signal with a coefficient ..
 pub record Target (R : ℕ → ℕ) (count e : ℕ) : Type 0 where
@@ -56,8 +51,16 @@ pub record Scale (p : ℕ) (R : ℕ → ℕ) (count e scale : ℕ) : Type 0 wher
   pub target : Target R count e
   pub is : scale ≡ opposite p (inverse p (R e))
 
--- the sum for place e as far as a limit, the limit where that is no target
-pub record Summed (p : ℕ) (R b : ℕ → ℕ) (count e limit x : ℕ) : Type 0 where
-  pub most : x ≤ limit
-  pub target : x < limit → Target R count e
-  pub is : 0 < p → Target R count e → x ≡ min limit (sum count (sum_term p R b e))
+-- the scale, None where place e has no target
+abbrev pub Scaled : ℕ → (ℕ → ℕ) → ℕ → ℕ → Option ℕ → Type 0
+Scaled p R count e x = MatchOption x (0 < p → Target R count e → ⊥) (λ scale. Scale p R count e scale)
+
+-- the sum for place e, if it is below a limit
+pub record Total (p : ℕ) (R b : ℕ → ℕ) (count e limit x : ℕ) : Type 0 where
+  pub target : Target R count e
+  pub below : x < limit
+  pub is : x ≡ sum count (sum_term p R b e)
+
+abbrev pub Summed : ℕ → (ℕ → ℕ) → (ℕ → ℕ) → ℕ → ℕ → ℕ → Option ℕ → Type 0
+Summed p R b count e limit x =
+    MatchOption x (0 < p → Target R count e → limit ≤ sum count (sum_term p R b e)) (λ total. Total p R b count e limit total)

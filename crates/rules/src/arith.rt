@@ -1,6 +1,6 @@
 // Arithmetic on 32-bit numbers that is exact in 64 bits.
 
-ghost use Rattle.std.specs.Prelude.{◌≡◌, ◌+◌, ◌*◌, ◌%◌, ◌≤◌, ◌<◌, min, max};
+ghost use Rattle.std.specs.Prelude.{◌≡◌, ◌+◌, ◌*◌, ◌%◌, ◌≤◌, ◌<◌};
 ghost use Rattle.field.specs.Residue as field;
 
 // v modulo p, without a division where v is below p, as it often is.
@@ -52,18 +52,4 @@ pub(crate) fn product(a: u32, b: u32) -> u64
     ensures { (result ≡ a * b) × (result ≤ 18446744065119617025) }
 {
     a as u64 * b as u64
-}
-
-// The larger of two numbers.
-pub(crate) fn larger(a: u32, b: u32) -> u32
-    ensures { result ≡ max a b }
-{
-    if a < b { b } else { a }
-}
-
-// The lesser of two numbers.
-pub(crate) fn lesser(a: u32, b: u32) -> u32
-    ensures { result ≡ min a b }
-{
-    if a < b { a } else { b }
 }

@@ -6,6 +6,7 @@ mod arith;
 pub mod constraint;
 pub mod digits;
 mod form;
+pub mod gathered;
 mod reduced;
 pub mod rows;
 pub mod standing;

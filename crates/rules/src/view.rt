@@ -1,10 +1,7 @@
 // Elements of arrays by signal, also past the end.
 
-ghost use Rattle.std.specs.Prelude.{◌≡◌, ◌<◌};
+ghost use Rattle.std.specs.Prelude.{◌≡◌};
 ghost use Rattle.rules.specs.View.{coef_in, bound_in, mark_in};
-ghost use Rattle.rules.specs.Rows.{entries, bound_on};
-
-use crate::rows::Entry;
 
 // The coefficient of signal s.
 #[tactic(auto, unfolding(crate::specs::View::coef_in))]
@@ -20,15 +17,6 @@ pub fn bound_at(bounds: &[u32], s: usize, p: u32) -> u32
     ensures { result ≡ bound_in p bounds.now s }
 {
     bounds.get(s).copied().unwrap_or(p.saturating_sub(1))
-}
-
-// The bound of the signal at place i of a row.
-#[tactic(auto, unfolding(crate::specs::Rows::bound_on, crate::specs::Rows::signal_on, crate::specs::Rows::entry_at))]
-pub(crate) fn bound_on(row: &[Entry], bounds: &[u32], i: usize, p: u32) -> u32
-    requires { i < entries row.now }
-    ensures { result ≡ bound_on p bounds.now row.now i }
-{
-    row[i].bound(bounds, p)
 }
 
 // The mark of signal s.
