@@ -57,6 +57,7 @@ impl<'a> Sums<'a> {
     }
 
     // What place i adds to the sum for place e. Where the bound is 0 the weight doesn't matter, and isn't computed.
+    #[tactic(auto, using(crate::proofs::SumLaws::term_target, crate::proofs::SumLaws::term_zero))]
     fn term(self, e: usize, scale: u32, i: usize) -> u64
         requires { Scale self.p (coef_on self.row.now) (entries self.row.now) e scale × (i < entries self.row.now) }
         ensures { (result ≡ sum_term self.entry.p (coef_on self.entry.row.now) (bound_on self.entry.p self.entry.bounds.now self.entry.row.now) e i)
@@ -85,7 +86,7 @@ impl<'a> Sums<'a> {
         for i in 0..self.row.len() {
             total += self.term(e, scale, i);
             if u64::from(limit) <= total {
-                return None;
+                return None; // the sum isn't below the limit
             }
         }
         Some(total as u32)

@@ -6,4 +6,4 @@ use Rattle.rules.proofs.standing.Standing.lowered.Goals as goal
 pub returns-then-at-lt257 : goal.returns-then-at-lt257
 returns-then-at-lt257 c p h =
     let sized : length c.args.self.bounds ≡ 257 = search rules in
-    taken_lower _ _ _ _ _ _ (omega arith) c.min.ensures
+    taken_lower _ _ _ _ _ _ (omega arith) (omega arith)
