@@ -7,7 +7,8 @@ use native.Mathlib.Nat.{mul-zero, mul-le-mul_right, pos_of_ne-zero}
 use native.Mathlib.Numerals.{add-one}
 use native.Mathlib.Omega.{arith}
 use lib.Dec.{ltb, eqb}
-use lib.ListN.{length, get_or, set, length-set}
+use lib.ListN.{length, get_or, set, take, length-set}
+use Rattle.std.proofs.lemmas.List.{get_or-take, length-take-le}
 use lib.Seq.{get_or-set_same, get_or-set_other}
 use Rattle.std.specs.List.{list_all}
 use borrow.Author.Count.{below_more}
@@ -73,7 +74,7 @@ module _ (weighed : Weighed) (marks : List Bool) (x : Entry) where
   exceeds_dead e = sym (rw e)
 
   pub exceeds_live : is_live marks x ≡ true → (w y : ℕ) → w ≡ x.coefficient * weighed.scale % weighed.p
-      → y ≡ sum weighed.count (smaller_at (coef_in weighed.weights) (coef_in weighed.products) w) → ltb y w ≡ exceeds weighed marks x
+      → y ≡ sum (length weighed.weights.now) (smaller_at (coef_in weighed.weights.now) (coef_in weighed.products.now) w) → ltb y w ≡ exceeds weighed marks x
   unfolding exceeds implies
   exceeds_live e w y w-is y-is = sym (rw (e, sym w-is, sym y-is))
 
@@ -257,8 +258,13 @@ module _ (q : ℕ → Bool) (f g : ℕ → ℕ) where
 
 -- Weights and products of what was gathered
 
-module _ (p : ℕ) (W X : ℕ → ℕ) where
-  pub weighed_start : (weights products : List ℕ) → length weights ≡ 31 → length products ≡ 31 → 0 < p → Held p W X 0 weights products 0
+coef_take : (j : ℕ) (xs : List ℕ) (i : ℕ) → i < j → coef_in (take j xs) i ≡ coef_in xs i
+unfolding coef_in
+coef_take j xs i l = get_or-take j xs i 0 l
+
+module _ (p : ℕ) (W X : ℕ → ℕ) (places : ℕ) where
+  pub weighed_start : (weights products : List ℕ) → length weights ≡ places → length products ≡ places → 0 < p
+      → Held p W X places 0 weights products 0
   unfolding sum
   weighed_start weights products wide-w wide-x h =
       record {
@@ -270,9 +276,9 @@ module _ (p : ℕ) (W X : ℕ → ℕ) where
         below = h;
       }
 
-  module _ (j : ℕ) (weights products : List ℕ) (total : ℕ) (G : Held p W X j weights products total) where
-    pub weighed_on : (w x : ℕ) → w ≡ W j → x ≡ X j → total + x < p → j < 31
-        → Held p W X (j + 1) (set weights j w) (set products j x) (total + x)
+  module _ (j : ℕ) (weights products : List ℕ) (total : ℕ) (G : Held p W X places j weights products total) where
+    pub weighed_on : (w x : ℕ) → w ≡ W j → x ≡ X j → total + x < p → j < places
+        → Held p W X places (j + 1) (set weights j w) (set products j x) (total + x)
     weighed_on w x w-is x-is h room =
         record {
           weights_wide = simp length-set G.weights_wide;
@@ -287,6 +293,18 @@ module _ (p : ℕ) (W X : ℕ → ℕ) where
 
     pub weighed_products : p < 4294967296 → sum j (coef_in products) < 4294967296
     weighed_products small = omega (arith, sum_cong j (coef_in products) X G.takes, G.totalled, G.below)
+
+    -- the places below j alone
+    pub weighed_take : j ≤ places → Held p W X j j (take j weights) (take j products) total
+    weighed_take h =
+        record {
+          weights_wide = length-take-le j weights (omega (arith, G.weights_wide));
+          products_wide = length-take-le j products (omega (arith, G.products_wide));
+          weighs = λ i l. coef_take j weights i l ∙ G.weighs i l;
+          takes = λ i l. coef_take j products i l ∙ G.takes i l;
+          totalled = G.totalled;
+          below = G.below;
+        }
 
     weighed_smaller : (x : ℕ) → sum j (smaller_at (coef_in weights) (coef_in products) x) ≡ sum j (smaller_at W X x)
     unfolding smaller_at
@@ -371,12 +389,12 @@ module _ (p n : ℕ) (q : ℕ → Bool) (w b : ℕ → ℕ) where
     pub held_over : p ≤ sum (rank counts n) X → separated_by p n q w b ≡ false
     held_over h = total_over (rw total_held h)
 
-    module _ (weights products : List ℕ) (total : ℕ) (G : Held p W X (rank counts n) weights products total) where
+    module _ (weights products : List ℕ) (total : ℕ) (places : ℕ) (G : Held p W X places (rank counts n) weights products total) where
       abbrev outstanding : ℕ → Bool
       outstanding s = implies (q s) (ltb (sum (rank counts n) (smaller_at (coef_in weights) (coef_in products) (w s))) (w s))
 
       low_here : (x : ℕ) → low_sum n q w b x ≡ sum (rank counts n) (smaller_at (coef_in weights) (coef_in products) x)
-      low_here x = low_held x ∙ sym (weighed_smaller p W X _ weights products total G x)
+      low_here x = low_held x ∙ sym (weighed_smaller p W X places _ weights products total G x)
 
       pub held_end : ((s u : ℕ) → s < n → u < n → q s ≡ true → q u ≡ true → (s ≡ u → ⊥) → w s ≡ w u → ⊥)
           → all n outstanding ≡ separated_by p n q w b

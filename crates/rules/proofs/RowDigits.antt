@@ -20,7 +20,7 @@ use Rattle.laws.proofs.Reduced.{reduced_below, occurs_yes, occurs_no, occurs_non
 use Rattle.rules.specs.View.{coef_in, bound_in, mark_in}
 use Rattle.rules.specs.Rows.{entries, entry_at, nothing, rank, stands, signal_on, coef_on, bound_on, Row}
 use Rattle.rules.specs.Live.{live_on, live_bound, bounds_on, positive, Differ}
-use Rattle.rules.specs.Weights.{scaled, times, weights_of, products_of, WeighedBy, Many, Gathers, Ready, Hopeless, Prepared, exceeds}
+use Rattle.rules.specs.Weights.{scaled, times, weights_of, products_of, Held, Many, Gathers, Ready, Hopeless, Prepared, exceeds}
 use Rattle.rules.specs.Weights.{Tells, FirstReference, LowestLive}
 use Rattle.rules.specs.declared.rows.Entry.{Entry}
 use Rattle.rules.specs.declared.gathered.Digit.{Digit}
@@ -131,13 +131,14 @@ module _ {p n : ℕ} {K : Constraint} {row : List Entry} (L : Row p n K row) whe
       ready_over h =
           sym (answer_is ∙ held_over p (entries row) Q (scaled p R scale) B W X weighs takes (rw D.gathered.ranked at h))
 
-      pub ready_end : (weighed : Weighed) → WeighedBy p few scale weighed → list_all (exceeds weighed marks) row ≡ answer
+      pub ready_end : (weighed : Weighed) (total : ℕ) → Held p W X few.count few.count weighed.weights.now weighed.products.now total
+          → weighed.scale ≡ scale → weighed.p ≡ p → list_all (exceeds weighed marks) row ≡ answer
       unfolding bounds_on live_bound live_on bound_on signal_on positive exceeds scaled coef_on entry_at
-      ready_end weighed G =
+      ready_end weighed total G by_scale modulo =
           all_is (exceeds weighed marks) row nothing
-          ∙ rw (G.counted, G.by_scale, G.modulo, D.gathered.ranked)
-          (held_end p (entries row) Q (scaled p R scale) B W X weighs takes weighed.weights weighed.products G.total
-          (rw D.gathered.ranked at G.held) (weights_differ D.differ))
+          ∙ rw (G.weights_wide, by_scale, modulo, D.gathered.ranked)
+          (held_end p (entries row) Q (scaled p R scale) B W X weighs takes weighed.weights.now weighed.products.now total _
+          (rw D.gathered.ranked at G) (weights_differ D.differ))
           ∙ sym answer_is
 
 -- What the code says of a row

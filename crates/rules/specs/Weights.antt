@@ -62,10 +62,10 @@ scaled p R scale s = R s * scale % p
 unfoldable pub times : (ℕ → ℕ) → (ℕ → ℕ) → ℕ → ℕ
 times f g j = f j * g j
 
--- weights W and products X of the digits below j are held, and the sum of the products is below p
-pub record Held (p : ℕ) (W X : ℕ → ℕ) (j : ℕ) (weights products : List ℕ) (total : ℕ) : Type 0 where
-  pub weights_wide : length weights ≡ 31
-  pub products_wide : length products ≡ 31
+-- weights W and products X of the digits below j are held, in lists of so many places, and the sum of the products is below p
+pub record Held (p : ℕ) (W X : ℕ → ℕ) (places j : ℕ) (weights products : List ℕ) (total : ℕ) : Type 0 where
+  pub weights_wide : length weights ≡ places
+  pub products_wide : length products ≡ places
   pub weighs : (i : ℕ) → i < j → coef_in weights i ≡ W i
   pub takes : (i : ℕ) → i < j → coef_in products i ≡ X i
   pub totalled : total ≡ sum j X
@@ -77,16 +77,6 @@ weights_of p digits = scaled p (λ j. (digit_at digits j).coefficient)
 
 abbrev pub products_of : ℕ → List Digit → ℕ → ℕ → ℕ
 products_of p digits scale = times (weights_of p digits scale) (λ j. (digit_at digits j).bound)
-
-pub record WeighedBy (p : ℕ) (few : Few) (scale : ℕ) (x : Weighed) : Type 0 where
-  pub total : ℕ
-  pub held : Held p (weights_of p few.digits scale) (products_of p few.digits scale) few.count x.weights x.products total
-  pub counted : x.count ≡ few.count
-  pub by_scale : x.scale ≡ scale
-  pub modulo : x.p ≡ p
-
-abbrev pub Weighs : ℕ → Few → ℕ → Option Weighed → Type 0
-Weighs p few scale x = MatchOption x (p ≤ sum few.count (products_of p few.digits scale)) (λ weighed. WeighedBy p few scale weighed)
 
 -- the product, if its weight is below w
 unfoldable pub smaller : ℕ → ℕ → ℕ → ℕ
@@ -104,7 +94,7 @@ exceeds_sum count weights products w = ltb (sum count (smaller_at weights produc
 unfoldable pub exceeds : Weighed → List Bool → Entry → Bool
 exceeds weighed marks x =
     implies (is_live marks x)
-    (exceeds_sum weighed.count (coef_in weighed.weights) (coef_in weighed.products) (x.coefficient * weighed.scale % weighed.p))
+    (exceeds_sum (length weighed.weights.now) (coef_in weighed.weights.now) (coef_in weighed.products.now) (x.coefficient * weighed.scale % weighed.p))
 
 -- The answers for a row
 

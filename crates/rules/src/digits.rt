@@ -15,27 +15,29 @@ ghost use Rattle.rules.specs.Rows.{entries, Row, coef_on};
 ghost use Rattle.rules.specs.Live.{is_live, live_on, live_bound, bounds_on, has_coefficient, Between, Differ};
 ghost use Rattle.rules.specs.Weights.{Gathers, Ready, Prepared, Tells, FirstLive};
 
+use crate::arith::product;
 use crate::constraint::is_linear;
-use crate::gathered::{Digit, Few, Weighed};
+use crate::gathered::{Digit, Few, Weighed, weight_of};
 use crate::rows::Entry;
 use crate::sums::place_in;
+use crate::view::{bound_at, mark_at};
 use field::modular::inverse;
 
 // Whether an entry is an unmarked signal with a coefficient.
 #[tactic(auto, unfolding(crate::specs::Live::is_live))]
-pub(crate) fn is_live(entry: Entry, marks: &[bool]) -> bool
-    ensures { result ≡ is_live marks.now entry }
+pub(crate) fn is_live(entry: &Entry, marks: &[bool]) -> bool
+    ensures { result ≡ is_live marks.now entry.now }
 {
-    entry.signal != 0 && entry.coefficient != 0 && !entry.is_marked(marks)
+    entry.signal != 0 && entry.coefficient != 0 && !mark_at(marks, entry.signal as usize)
 }
 
 // The bound of an entry if it is one, else 0.
 #[tactic(auto, unfolding(crate::specs::Live::live_bound))]
-fn live_bound(entry: Entry, bounds: &[u32], marks: &[bool], p: u32) -> u32
-    ensures { result ≡ live_bound p bounds.now marks.now entry }
+fn live_bound(entry: &Entry, bounds: &[u32], marks: &[bool], p: u32) -> u32
+    ensures { result ≡ live_bound p bounds.now marks.now entry.now }
 {
     if is_live(entry, marks) {
-        entry.bound(bounds, p)
+        bound_at(bounds, entry.signal as usize, p)
     } else {
         0
     }
@@ -47,7 +49,7 @@ pub fn first_live(row: &[Entry], marks: &[bool]) -> Option<u32>
         → FirstLive n (reduced p K) (mark_in marks.now) result }
 {
     for entry in row {
-        if is_live(*entry, marks) {
+        if is_live(entry, marks) {
             return Some(u32::from(entry.signal));
         }
     }
@@ -60,7 +62,7 @@ fn is_crowded(row: &[Entry], bounds: &[u32], marks: &[bool], p: u32) -> bool
 {
     let mut reach: u64 = 0;
     for entry in row {
-        reach += u64::from(live_bound(*entry, bounds, marks, p));
+        reach += u64::from(live_bound(entry, bounds, marks, p));
         if u64::from(p) <= reach {
             return true;
         }
@@ -90,7 +92,7 @@ fn is_taken(some: &[Entry], marks: &[bool], x: u32, least: u32, most: u32) -> bo
         return false;
     }
     some.iter()
-        .any(|entry| is_live(*entry, marks) && entry.coefficient == x)
+        .any(|entry| is_live(entry, marks) && entry.coefficient == x)
 }
 
 // Whether the coefficients of the unmarked entries differ.
@@ -101,7 +103,7 @@ fn coefs_differ(row: &[Entry], marks: &[bool]) -> bool
     let mut least = u32::MAX;
     let mut most: u32 = 0;
     for (i, entry) in row.iter().enumerate() {
-        if is_live(*entry, marks) {
+        if is_live(entry, marks) {
             let coef = entry.coefficient;
             if is_taken(&row[..i], marks, coef, least, most) {
                 return false;
@@ -124,7 +126,7 @@ fn gather(row: &[Entry], bounds: &[u32], marks: &[bool], p: u32) -> Option<Few>
     let mut digits = [none; 31];
     let mut count: usize = 0;
     for entry in row {
-        let bound = live_bound(*entry, bounds, marks, p);
+        let bound = live_bound(entry, bounds, marks, p);
         if bound != 0 {
             if count == 31 {
                 return None;
@@ -167,10 +169,28 @@ fn separates(row: &[Entry], marks: &[bool], few: &Few, p: u32, coef: u32) -> boo
         → Ready p row.now bounds marks.now few.now → coef ≡ reduced p K r → occurs (reduced p K) r ≡ true
         → result ≡ specs.separated p n (reduced p K) (bound_in p bounds) (mark_in marks.now) r }
 {
-    match Weighed::new(few, inverse(p, coef), p) {
-        None => false,
-        Some(weighed) => weighed.all_stand_out(row, marks),
+    let scale = inverse(p, coef);
+    let mut weights = [0u32; 31];
+    let mut products = [0u32; 31];
+    let mut total: u64 = 0;
+    for j in 0..few.count {
+        let digit = few.digits[j];
+        let weight = weight_of(digit.coefficient, scale, p);
+        let term = product(weight, digit.bound);
+        total += term;
+        if u64::from(p) <= total {
+            return false;
+        }
+        weights[j] = weight;
+        products[j] = term as u32;
     }
+    let weighed = Weighed {
+        weights: &weights[..few.count],
+        products: &products[..few.count],
+        scale,
+        p,
+    };
+    weighed.all_stand_out(row, marks)
 }
 
 // Whether the reference at entry i separates the unmarked signals of the row.

@@ -1,10 +1,10 @@
 // What is gathered of a row for the digits test: the unmarked entries with a bound above 0, and their weights by the scale of a reference.
 
-ghost use Rattle.std.specs.Prelude.{◌≡◌, ◌*◌, ◌%◌, ◌≤◌, ◌<◌};
+ghost use Rattle.std.specs.Prelude.{◌≡◌, ◌*◌, ◌%◌, ◌≤◌, ◌<◌, length};
 ghost use Rattle.laws.specs.Sum.{sum};
 ghost use Rattle.rules.specs.View.{coef_in};
 
-use crate::arith::{multiply_add, product};
+use crate::arith::multiply_add;
 use crate::digits::is_live;
 use crate::rows::Entry;
 
@@ -25,78 +25,45 @@ pub struct Few {
 }
 
 // The weight of a coefficient, where the scale is the inverse of the reference's.
-fn weight_of(coef: u32, scale: u32, p: u32) -> u32
+pub(crate) fn weight_of(coef: u32, scale: u32, p: u32) -> u32
     requires { 0 < p }
     ensures { (result ≡ coef * scale % p) × (result < p) }
 {
     multiply_add(0, coef, scale, p)
 }
 
-// The digits by the scale of a reference: their weights, and weight times bound.
-// Stays: weights and products in arrays of their own, since the loop over both takes several at once.
+// The weights of the digits by the scale of a reference, and weight times bound.
+// Stays: two slices, since the loop over both takes several at once.
 #[derive(Clone, Copy)]
-pub(crate) struct Weighed {
-    weights: [u32; 31],
-    products: [u32; 31],
-    count: usize,
-    scale: u32,
-    p: u32,
-    ghost few: { count ≤ 31 },
+pub(crate) struct Weighed<'a> {
+    pub(crate) weights: &'a [u32],
+    pub(crate) products: &'a [u32],
+    pub(crate) scale: u32,
+    pub(crate) p: u32,
+    ghost together: { length products.now ≡ length weights.now },
     ghost modulus: { 0 < p },
-    ghost fits: { sum count (coef_in products) < 4294967296 },
+    ghost fits: { sum (length weights.now) (coef_in products.now) < 4294967296 },
 }
 
-impl Weighed {
+impl<'a> Weighed<'a> {
     ghost use Rattle.std.specs.List.{list_all};
-    ghost use Rattle.rules.specs.View.{coef_in};
-    ghost use Rattle.rules.specs.Weights.{smaller_at, exceeds, Weighs};
-
-    // The digits weighed, None where their products add up to p or more.
-    pub(crate) fn new(few: &Few, scale: u32, p: u32) -> Option<Weighed>
-        requires { 0 < p }
-        ensures { Weighs p few.now scale result }
-    {
-        let mut weights = [0u32; 31];
-        let mut products = [0u32; 31];
-        let mut total: u64 = 0;
-        for j in 0..few.count {
-            let digit = few.digits[j];
-            let weight = weight_of(digit.coefficient, scale, p);
-            let term = product(weight, digit.bound);
-            total += term;
-            if u64::from(p) <= total {
-                return None;
-            }
-            weights[j] = weight;
-            products[j] = term as u32;
-        }
-        Some(Weighed {
-            weights,
-            products,
-            count: few.count,
-            scale,
-            p,
-        })
-    }
+    ghost use Rattle.rules.specs.Weights.{smaller_at, exceeds};
 
     // The sum of the products of weights below w. No early end, as above.
     fn smaller_sum(&self, w: u32) -> u32
-        ensures { result ≡ sum self.now.count (smaller_at (coef_in self.now.weights) (coef_in self.now.products) w) }
+        ensures { result ≡ sum (length self.entry.now.weights.now) (smaller_at (coef_in self.entry.now.weights.now) (coef_in self.entry.now.products.now) w) }
     {
         let mut below: u32 = 0;
-        for j in 0..self.count {
-            below += if self.weights[j] < w {
-                self.products[j]
-            } else {
-                0
-            };
+        for j in 0..self.weights.len() {
+            let (weight, product) = (self.weights[j], self.products[j]);
+            below += if weight < w { product } else { 0 };
         }
         below
     }
 
     // Whether an entry is marked, or its weight exceeds the sum of the products of smaller weights.
-    fn stands_out(&self, entry: Entry, marks: &[bool]) -> bool
-        ensures { result ≡ exceeds self.now marks.now entry }
+    fn stands_out(&self, entry: &Entry, marks: &[bool]) -> bool
+        ensures { result ≡ exceeds self.entry.now marks.now entry.now }
     {
         if !is_live(entry, marks) {
             return true;
@@ -107,8 +74,8 @@ impl Weighed {
 
     // Whether this holds of all entries.
     pub(crate) fn all_stand_out(&self, row: &[Entry], marks: &[bool]) -> bool
-        ensures { result ≡ list_all (exceeds self.now marks.now) row.now }
+        ensures { result ≡ list_all (exceeds self.entry.now marks.now) row.now }
     {
-        row.iter().all(|entry| self.stands_out(*entry, marks))
+        row.iter().all(|entry| self.stands_out(entry, marks))
     }
 }

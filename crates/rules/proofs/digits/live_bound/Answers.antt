@@ -6,7 +6,7 @@ use Rattle.rules.proofs.digits.live_bound.Goals as goal
 
 pub returns-then-is_live : goal.returns-then-is_live
 unfolding live_bound
-returns-then-is_live c = c.bound.ensures ∙ sym (keep_true _ _ (sym c.is_live.ensures ∙ c.if-is_live.true))
+returns-then-is_live c = c.bound_at.ensures ∙ sym (keep_true _ _ (sym c.is_live.ensures ∙ c.if-is_live.true))
 
 pub returns-else-is_live : goal.returns-else-is_live
 unfolding live_bound

@@ -6,4 +6,4 @@ use Rattle.rules.specs.Weights.{smaller_at}
 use Rattle.rules.proofs.gathered.Weighed.smaller_sum.Given as goal
 
 abbrev pub invariant-loop-j : goal.invariant-loop-j
-invariant-loop-j l = l.below ≡ sum l.j (smaller_at (coef_in l.self.weights) (coef_in l.self.products) l.w)
+invariant-loop-j l = l.below ≡ sum l.j (smaller_at (coef_in l.self.weights.now) (coef_in l.self.products.now) l.w)
