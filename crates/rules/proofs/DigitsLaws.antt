@@ -26,7 +26,7 @@ use Rattle.rules.specs.declared.rows.Entry.{Entry}
 use Rattle.rules.specs.declared.gathered.Digit.{Digit}
 use Rattle.rules.specs.declared.gathered.Weighed.{Weighed}
 use Rattle.rules.proofs.SumLaws.{sum_grows, sum_on}
-use Rattle.rules.proofs.Ranks.{all_last, rank_zero, rank_passed, rank_failed, rank_below, rank_grows, sum_rank}
+use Rattle.rules.proofs.Ranks.{rank_zero, rank_passed, rank_failed, rank_below, rank_grows, sum_rank}
 use Rattle.rules.proofs.RowLaws.{rank_onto, rank_distinct}
 use Rattle.rules.proofs.Few.{few}
 use Rattle.rules.proofs.ViewLaws.{coef_set_same, coef_set_other}

@@ -1,23 +1,17 @@
 -- Tests on the forms of a constraint as the code asks them: what a form names, linear, root and product, and the roots.
-use Prim.Native.Nat.{ℕ, ◌+◌, ◌-◌, ◌*◌, ◌%◌, ◌≤◌, ◌<◌, max}
-use mathlib.Core.Path.{◌≡◌, refl, sym, ap, ◌∙◌}
-use mathlib.Core.Bool.{Bool, true, false, not, ◌&&◌, ◌||◌, and-false, and_comm, or_self}
-use mathlib.Core.List.{List, [], ◌∷◌}
+use Prim.Native.Nat.{ℕ, ◌+◌, ◌-◌, ◌*◌, ◌%◌, ◌<◌}
+use mathlib.Core.Path.{◌≡◌, refl, sym, ◌∙◌}
+use mathlib.Core.Bool.{Bool, true, false, not, ◌&&◌, ◌||◌, or_self}
+use mathlib.Core.List.{[], ◌∷◌}
 use native.Mathlib.Nat.{zero-add, zero-mod, mul-zero, mod-mod}
-use native.Mathlib.Omega.{arith}
 use lib.Dec.{eqb}
-use lib.ListN.{replicate}
-use borrow.Author.Tests.{not-true}
 use Rattle.field.specs.Residue.{opposite}
 use Rattle.field.specs.Inverse.{inverse}
 use Rattle.field.proofs.Euclid.{inverse_small}
 use Rattle.circuit.specs.Circuit.{Form, Constraint, coef, names}
-use Rattle.circuit.specs.Reader.{after_form, form_in, constraint_in}
-use Rattle.laws.specs.Rules.{names_none, linear, is_zero, names_only, root_met, root, root_bound, others_marked, product_met}
-use Rattle.laws.proofs.Sum.{and_left, and_right, and_both, and-true, or_false, true_or_false, false_by}
-use Rattle.laws.proofs.ProductRule.{ProductMet, product_met_lem}
+use Rattle.laws.specs.Rules.{names_none, linear, is_zero, names_only, root, others_marked, product_met}
+use Rattle.laws.proofs.Sum.{or_false}
 use Rattle.rules.specs.View.{mark_in}
-use Rattle.rules.proofs.ViewLaws.{mark_none}
 
 -- where nothing is marked, the signals but t are marked if none but t is named
 pub unmarked_only : (t : ℕ) (f : Form) → others_marked (mark_in []) t f ≡ names_only t f

@@ -1,5 +1,5 @@
 -- How a row is made: what stands in it, its entries put one after the other, and what is kept of the rows made before.
-use Prim.Native.Nat.{ℕ, zero, suc, ◌+◌, ◌*◌, ◌-◌, ◌≤◌, ◌<◌, min}
+use Prim.Native.Nat.{ℕ, zero, suc, ◌+◌, ◌-◌, ◌≤◌, ◌<◌, min}
 use mathlib.Core.Path.{◌≡◌, refl, sym, ap, ◌∙◌}
 use mathlib.Core.Bool.{Bool, true, false, cond, ◌||◌}
 use mathlib.Core.List.{List}
@@ -8,7 +8,7 @@ use native.Mathlib.Numerals.{add-one}
 use native.Mathlib.Omega.{arith}
 use borrow.Author.Count.{below_more}
 use lib.Dec.{ltb, eqb}
-use lib.ListN.{length, get_or, set, take, drop, length-set, length-take, length-drop}
+use lib.ListN.{length, set, take, drop, length-set, length-take, length-drop}
 use lib.Seq.{get_or-take, get_or-drop, get_or-set_same, get_or-set_other, ext_get_or}
 use borrow.Author.Tests.{ne_eqb, lt-ltb, ltb-true, ltb-false}
 use Rattle.circuit.specs.Circuit.{Circuit, Constraint, constraint_at, names}
@@ -17,7 +17,6 @@ use Rattle.circuit.specs.Offsets.{Offsets, part_of}
 use Rattle.circuit.specs.Call.{circuit_of, Sized}
 use Rattle.circuit.specs.declared.reader.Sizes.{Sizes}
 use Rattle.circuit.proofs.OffsetLaws.{sized_part}
-use Rattle.laws.specs.Rules.{reduced}
 use Rattle.laws.specs.Sum.{keep}
 use Rattle.laws.proofs.Sum.{true_or_false, by_test, by_equal, by_order}
 use Rattle.rules.specs.declared.rows.Entry.{Entry}

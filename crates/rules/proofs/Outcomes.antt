@@ -8,7 +8,6 @@ use native.Mathlib.Decide.{ℕ_discrete, dec_le}
 use native.Mathlib.Omega.{arith}
 use lib.Dec.{leb, eqb}
 use lib.ListN.{length, get_or, set, replicate}
-use lib.Seq.{set-get_or}
 use borrow.Author.Tests.{eq-eqb, ne_eqb, le-leb, lt-leb}
 use Rattle.laws.specs.Problem.{largest}
 use Rattle.laws.specs.Standing.{add, is_input}

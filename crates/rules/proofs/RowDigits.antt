@@ -13,11 +13,11 @@ use borrow.Author.Tests.{eq-eqb}
 use Rattle.field.specs.Prime.{Prime}
 use Rattle.field.specs.Inverse.{inverse}
 use Rattle.circuit.specs.Circuit.{Constraint}
-use Rattle.laws.specs.Sum.{sum, all}
+use Rattle.laws.specs.Sum.{sum}
 use Rattle.laws.specs.Rules.{linear, reduced, occurs, live, separated, digits_met}
 use Rattle.laws.proofs.Sum.{and_left, and_right, and_both, by_test, by_order, true_or_false, true_by, false_by}
 use Rattle.laws.proofs.Reduced.{reduced_below, occurs_yes, occurs_no, occurs_nonzero}
-use Rattle.rules.specs.View.{coef_in, bound_in, mark_in}
+use Rattle.rules.specs.View.{bound_in, mark_in}
 use Rattle.rules.specs.Rows.{entries, entry_at, nothing, rank, stands, signal_on, coef_on, bound_on, Row}
 use Rattle.rules.specs.Live.{live_on, live_bound, bounds_on, positive, Differ}
 use Rattle.rules.specs.Weights.{scaled, times, weights_of, products_of, Held, Many, Gathers, Ready, Hopeless, Prepared, exceeds}
@@ -26,8 +26,8 @@ use Rattle.rules.specs.declared.rows.Entry.{Entry}
 use Rattle.rules.specs.declared.gathered.Digit.{Digit}
 use Rattle.rules.specs.declared.gathered.Few.{Few}
 use Rattle.rules.specs.declared.gathered.Weighed.{Weighed}
-use Rattle.rules.proofs.Ranks.{rank_zero, rank_below}
-use Rattle.rules.proofs.RowLaws.{uninvolved, constant_stands, entries_are, row_entry, row_first, row_rising}
+use Rattle.rules.proofs.Ranks.{rank_below}
+use Rattle.rules.proofs.RowLaws.{uninvolved, entries_are, row_entry, row_first, row_rising}
 use Rattle.rules.proofs.WeightLaws.{live_entry, live_least, live_some, live_absent, weight_back, weight_some, differ_two}
 use Rattle.rules.proofs.DigitsLaws.{all_is, separated_by, separated_by_lem, parts, by_places, counts_bound, bounds_over, many_over}
 use Rattle.rules.proofs.DigitsLaws.{held_over, held_end}

@@ -1,6 +1,6 @@
 -- Sums by a row are those by the constraint's reduced form: signals and their places, the sum for a target, the bound that a step gives,
 -- and the one sum that lowers a bound.
-use Prim.Native.Nat.{ℕ, zero, suc, ◌≤◌, ◌<◌, min}
+use Prim.Native.Nat.{ℕ, zero, suc, ◌≤◌, ◌<◌}
 use mathlib.Core.Path.{◌≡◌, refl, sym, ap, ◌∙◌}
 use mathlib.Core.Bool.{Bool, true, false, cond}
 use mathlib.Core.List.{List}
@@ -18,7 +18,7 @@ use Rattle.field.specs.Prime.{Prime}
 use Rattle.circuit.specs.Circuit.{Constraint}
 use Rattle.laws.specs.Sum.{sum}
 use Rattle.laws.specs.Rules.{linear, reduced, occurs, ceiling, sum_weight, sum_term, sum_bound, sum_met}
-use Rattle.laws.proofs.Sum.{and_both, by_test, by_equal, by_order, true_by, false_by, true_or_false}
+use Rattle.laws.proofs.Sum.{and_both, by_equal, by_order, true_by, false_by, true_or_false}
 use Rattle.laws.proofs.Reduced.{occurs_yes, occurs_no}
 use Rattle.laws.proofs.SumRule.{sum_met_lem}
 use Rattle.laws.proofs.Maximum.{strict_maximum}

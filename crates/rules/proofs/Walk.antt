@@ -17,7 +17,7 @@ use Rattle.circuit.proofs.ByteLaws.{u16_drop, u32_drop}
 use Rattle.circuit.proofs.ReaderLaws.{one_more}
 use Rattle.laws.specs.Sum.{keep}
 use Rattle.laws.specs.Rules.{others_marked}
-use Rattle.laws.proofs.Sum.{by_test, or_false, keep_le}
+use Rattle.laws.proofs.Sum.{by_test, or_false}
 use Rattle.rules.specs.Steps.{allowed}
 
 -- the terms that are left from an offset on

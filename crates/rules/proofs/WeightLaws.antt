@@ -1,7 +1,7 @@
 -- Coefficients of the unmarked entries: which entries are unmarked, whether coefficients differ, and that weights modulo a prime tell them apart.
 use Prim.Native.Nat.{ℕ, zero, suc, ◌+◌, ◌*◌, ◌%◌, ◌≤◌, ◌<◌, min, max}
 use mathlib.Core.Path.{◌≡◌, refl, sym, ap, ◌∙◌}
-use mathlib.Core.Bool.{Bool, true, false, not, ◌&&◌}
+use mathlib.Core.Bool.{Bool, true, false, not, and-true, and-false}
 use mathlib.Core.List.{List, [], ◌∷◌}
 use Rattle.std.specs.List.{list_any}
 use Rattle.std.proofs.lemmas.List.{get_or-take, length-take-le}
@@ -18,7 +18,7 @@ use Rattle.field.specs.Inverse.{inverse}
 use Rattle.field.proofs.Residue.{congruent_refl, congruent_sym, congruent_plus, congruent_times, congruent_shift, congruent_below}
 use Rattle.field.proofs.Inverse.{inverse_is}
 use Rattle.laws.specs.Rules.{occurs, live}
-use Rattle.laws.proofs.Sum.{and_left, and_right, and_both, true_or_false, by_order, by_test, false_by}
+use Rattle.laws.proofs.Sum.{and_left, and_right, and_both, true_or_false, by_order, false_by}
 use Rattle.rules.specs.View.{mark_in}
 use Rattle.rules.specs.Rows.{entries, entry_at, nothing, coef_on}
 use Rattle.rules.specs.Live.{is_live, live_on, has_coefficient, Unlike, Differ, Between}
@@ -130,13 +130,13 @@ taken_none marks row c U =
     any_none (has_coefficient marks c) row _
     (λ u l.
     false_by _
-    (λ e. absurd (U.apart u l (and_left (live_on marks row u) _ e) (eqb-true (coef_on row u) c (and_right (live_on marks row u) _ e)))))
+    (λ e. absurd (U.apart u l (and_right (eqb (coef_on row u) c) _ e) (eqb-true (coef_on row u) c (and_left (eqb (coef_on row u) c) _ e)))))
 
 -- one has it
 taken_some : (marks : List Bool) (row : List Entry) (c u : ℕ) → u < entries row → live_on marks row u ≡ true → coef_on row u ≡ c
     → list_any (has_coefficient marks c) row ≡ true
 unfolding coef_on live_on entry_at
-taken_some marks row c u l e g = list_any_at (has_coefficient marks c) row u nothing l (and_both _ _ e (eq-eqb (coef_on row u) c g))
+taken_some marks row c u l e g = list_any_at (has_coefficient marks c) row u nothing l (and_both _ _ (eq-eqb (coef_on row u) c g) e)
 
 module _ (marks : List Bool) (row : List Entry) where
   take_coef : (i u : ℕ) → u < i → coef_on (take i row) u ≡ coef_on row u

@@ -21,7 +21,7 @@ bounds_on p bounds marks row i = live_bound p bounds marks (entry_at row i)
 
 -- an unmarked signal with this coefficient
 abbrev pub has_coefficient : List Bool → ℕ → Entry → Bool
-has_coefficient marks c x = is_live marks x && eqb x.coefficient c
+has_coefficient marks c x = eqb x.coefficient c && is_live marks x
 
 -- a bound above 0
 unfoldable pub positive : (ℕ → ℕ) → ℕ → Bool

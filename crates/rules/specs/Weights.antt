@@ -1,6 +1,6 @@
 -- What the digits test asks of a row: how the rule runs, not what it means. R, b and m give the coefficient, the bound and the mark of a signal;
 -- the weight of an entry is its coefficient times a scale.
-use Rattle.std.specs.Prelude.{ℕ, ◌*◌, ◌%◌, ◌≤◌, ◌<◌, ◌≡◌, Bool, true, false, ◌&&◌, List, Option, None, Some, MatchOption, ltb, length, get_or}
+use Rattle.std.specs.Prelude.{ℕ, ◌*◌, ◌%◌, ◌≤◌, ◌<◌, ◌≡◌, Bool, true, false, ◌&&◌, List, Option, MatchOption, ltb, length, get_or}
 use Rattle.field.specs.Prime.{Prime}
 use Rattle.circuit.specs.Circuit.{Constraint}
 use Rattle.laws.specs.Sum.{sum, keep, implies}

@@ -1,5 +1,5 @@
 -- `rules::digits::coef_of`: the coefficient at the signal's place, 0 where it has none.
-use Rattle.std.proofs.Common.{sym, ◌∙◌}
+use Rattle.std.proofs.Common.{sym}
 use Rattle.rules.specs.Rows.{coef_on, entry_at, nothing}
 use Rattle.rules.proofs.SumPlaces.{place_none, place_some}
 use Rattle.rules.proofs.RowDigits as laws

@@ -1,5 +1,5 @@
 -- `rules::digits::is_taken`: outside of the range, or where no entry has it, none is unmarked with it.
-use Rattle.std.proofs.Common.{refl, sym, ◌∙◌}
+use Rattle.std.proofs.Common.{sym}
 use Rattle.rules.proofs.WeightLaws as laws
 use Rattle.rules.proofs.digits.is_taken.Goals as goal
 use Rattle.rules.proofs.digits.is_taken.Goals.{then-x-least-via-then-x-least, then-x-least-via-else-x-least+then-most-x, then-x-least-via-else-x-least+else-most-x+then-not-is_among}

@@ -1,4 +1,4 @@
-use Rattle.std.proofs.Common.{◌≡◌, ◌%◌, ℕ, ap, sym, arith}
+use Rattle.std.proofs.Common.{◌%◌, ℕ, ap, sym}
 use Rattle.rules.proofs.Walk as walk
 use Rattle.rules.proofs.form.coefficients.Goals as goal
 

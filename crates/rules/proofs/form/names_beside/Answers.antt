@@ -1,4 +1,4 @@
-use Rattle.std.proofs.Common.{◌≡◌, ◌∙◌, sym}
+use Rattle.std.proofs.Common.{◌∙◌, sym}
 use Rattle.rules.proofs.Walk as walk
 use Rattle.rules.proofs.form.names_beside.Goals as goal
 

@@ -1,4 +1,3 @@
-use Rattle.std.proofs.Common.{rules, ◌≡◌, ◌+◌, ◌≤◌, ◌<◌, ℕ, ◌-◌, ◌*◌, length, arith}
 use Rattle.rules.specs.Rows.{nothing, entry_at, coef_on, forms_on}
 use Rattle.rules.proofs.ReducedForm as laws
 use Rattle.rules.proofs.reduced.add_form.Goals as goal

@@ -1,4 +1,4 @@
-use Rattle.std.proofs.Common.{refl, ◌≡◌, ◌+◌, suc, arith}
+use Rattle.std.proofs.Common.{refl, arith}
 use Rattle.rules.specs.Rows.{nothing, entry_at, coef_on, forms_on}
 use Rattle.rules.proofs.MakingLaws as laws
 use Rattle.rules.proofs.rows.put_row.Goals as goal

@@ -1,4 +1,3 @@
-use Rattle.std.proofs.Common.{arith}
 use Rattle.rules.specs.Rows.{at}
 use Rattle.rules.specs.View.{coef_in}
 use Rattle.rules.proofs.MakingLaws.{row_cut}

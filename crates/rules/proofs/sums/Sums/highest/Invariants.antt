@@ -1,5 +1,5 @@
 -- `rules::sums::Sums::highest`: the place with the highest bound is still to come, or found.
-use Rattle.std.proofs.Common.{◌≡◌, ◌≤◌, ◌<◌, IfSome, length}
+use Rattle.std.proofs.Common.{◌<◌, IfSome, length}
 use Rattle.rules.specs.Rows.{coef_on, bound_on}
 use Rattle.rules.proofs.SumLaws.{Seen}
 use Rattle.rules.proofs.sums.Sums.highest.Given as goal

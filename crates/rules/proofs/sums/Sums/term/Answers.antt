@@ -1,5 +1,4 @@
 -- `rules::sums::Sums::term`: each way out is a case of the term.
-use Rattle.std.proofs.Common.{sym, ◌∙◌, arith}
 use Rattle.rules.specs.Rows.{coef_on, entry_at, nothing}
 use Rattle.rules.proofs.SumLaws as laws
 use Rattle.rules.proofs.sums.Sums.term.Goals as goal
