@@ -88,7 +88,7 @@ fn is_taken(some: &[Entry], marks: &[bool], x: u32, least: u32, most: u32) -> bo
     requires { Between (coef_on some.now) (live_on marks.now some.now) (entries some.now) least most }
     ensures { result ≡ list_any (has_coefficient marks.now x) some.now }
 {
-    if x < least || most < x || !is_among(some, x) {
+    if most < x || x < least || !is_among(some, x) {
         return false;
     }
     some.iter()
