@@ -67,6 +67,7 @@ impl Standing {
     {
         let at = t as usize;
         let mut idle = true;
+        // Stays: after `get_mut` of an array a proof knows no element of it.
         if at < 257 {
             let bound = self.bounds[at];
             idle = bound <= most;
@@ -81,6 +82,7 @@ impl Standing {
     {
         let at = t as usize;
         let mut idle = true;
+        // Stays: as in `lowered`.
         if at < 257 {
             idle = self.marks[at];
             self.marks[at] = true;

@@ -2,7 +2,8 @@
 use Rattle.std.proofs.Common.{sym}
 use Rattle.rules.proofs.WeightLaws as laws
 use Rattle.rules.proofs.digits.is_taken.Goals as goal
-use Rattle.rules.proofs.digits.is_taken.Goals.{then-most-x-via-then-most-x, then-most-x-via-else-most-x+then-x-least, then-most-x-via-else-most-x+else-x-least+then-not-is_among}
+use Rattle.rules.proofs.digits.is_taken.Goals.{then-most-x-via-then-most-x, then-most-x-via-else-most-x+then-x-least}
+use Rattle.rules.proofs.digits.is_taken.Goals.{then-most-x-via-else-most-x+else-x-least+then-not-is_among}
 
 pub returns-then-most-x : goal.returns-then-most-x
 returns-then-most-x c =

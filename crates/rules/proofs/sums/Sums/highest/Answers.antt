@@ -4,7 +4,8 @@ use Rattle.rules.specs.Rows.{entries, coef_on, bound_on, signal_on, entry_at, no
 use Rattle.rules.specs.Steps.{Target}
 use Rattle.rules.proofs.SumLaws as laws
 use Rattle.rules.proofs.sums.Sums.highest.Goals as goal
-use Rattle.rules.proofs.sums.Sums.highest.Goals.{then-entry-ne0+then-top-bound, then-entry-ne0+else-top-bound+then-bound-top+else-largest-bound, then-entry-ne0+else-top-bound+else-bound-top, else-entry-ne0}
+use Rattle.rules.proofs.sums.Sums.highest.Goals.{then-entry-ne0+then-top-bound, then-entry-ne0+else-top-bound+then-bound-top+else-largest-bound}
+use Rattle.rules.proofs.sums.Sums.highest.Goals.{then-entry-ne0+else-top-bound+else-bound-top, else-entry-ne0}
 
 pub loop-i-init : goal.loop-i-init
 loop-i-init c = record { within = tt; seen = laws.seen_start }
