@@ -22,7 +22,7 @@ use Rattle.laws.proofs.Sum.{true_or_false, by_test, by_equal, by_order}
 use Rattle.rules.specs.declared.rows.Entry.{Entry}
 use Rattle.rules.specs.Rows.{at, rank, involves, stands, forms_of, nothing, entry_of, entry_at, signal_on, forms_on, coef_on, Row}
 use Rattle.rules.specs.Rows.{start_of, row_size, row_of, Rows, Roomy}
-use Rattle.rules.specs.Rows.{Reduces, fits, Put, RowMade}
+use Rattle.rules.specs.Rows.{Reduces, Put, RowMade}
 use Rattle.rules.proofs.Ranks.{rank_zero, rank_passed, rank_failed, rank_below}
 use Rattle.rules.proofs.RowLaws.{constant_stands}
 use Rattle.rules.proofs.RoomLaws.{rows_apart, row_inside}
@@ -139,16 +139,14 @@ module _ {p n : ℕ} {K : Constraint} {start : ℕ} {rows₀ reduced : List Entr
         put = λ above room. put_on (P.put above room) (tested above ∙ e);
       }
 
-  -- by the entry that the code puts
-  pub puts_next : (x : Entry) → x ≡ record { coefficient = coef_on reduced s; signal = s; forms = forms_on reduced s }
-      → Putting p n K start rows₀ (s + 1) (cond (fits x end rows) (end + 1) end) (cond (fits x end rows) (set rows end x) rows)
-  puts_next x is =
-      by_test (eqb x.signal 0 || ltb 0 x.forms)
-      (λ e.
+  -- with an entry, where there is room
+  pub puts_entry : (eqb s 0 || ltb 0 (forms_on reduced s)) ≡ true
+      → (x : Entry) → x ≡ record { coefficient = coef_on reduced s; signal = s; forms = forms_on reduced s }
+      → Putting p n K start rows₀ (s + 1) (cond (ltb end (length rows)) (end + 1) end) (cond (ltb end (length rows)) (set rows end x) rows)
+  puts_entry e x is =
       by_test (ltb end (length rows))
-      (λ f. rw (e, f) (puts_one (rw is at e) (ltb-true _ _ f) x is))
-      (λ f. rw (e, f) (puts_full (rw is at e) (ltb-false _ _ f))))
-      (λ e. rw e (puts_on (rw is at e)))
+      (λ f. rw f (puts_one e (ltb-true _ _ f) x is))
+      (λ f. rw f (puts_full e (ltb-false _ _ f)))
 
 -- after the last turn
 pub puts_all : {p n s end start : ℕ} {K : Constraint} {rows₀ rows : List Entry} → s ≡ n → Putting p n K start rows₀ (s + 1) end rows

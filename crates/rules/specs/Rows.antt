@@ -1,7 +1,7 @@
 -- Rows: for a constraint the constant and the signals that it names, rising, each with the forms that name it and its coefficient in the reduced
 -- form, also where that is 0.
 -- A row is made once per call and then read. How calls run, not what they mean.
-use Rattle.std.specs.Prelude.{ℕ, zero, suc, ◌+◌, ◌*◌, ◌-◌, ◌/◌, ◌%◌, ◌≤◌, ◌<◌, ◌≡◌, Bool, true, ◌&&◌, ◌||◌, List, ltb, eqb, ◌⊎◌, length, get_or, take, drop}
+use Rattle.std.specs.Prelude.{ℕ, zero, suc, ◌+◌, ◌*◌, ◌-◌, ◌/◌, ◌%◌, ◌≤◌, ◌<◌, ◌≡◌, Bool, true, ◌||◌, List, ◌⊎◌, length, get_or, take, drop}
 use Rattle.circuit.specs.Circuit.{Form, Circuit, Constraint, constraint_at, coef, names}
 use Rattle.circuit.specs.Reader.{signals_most}
 use Rattle.laws.specs.Sum.{sum, keep}
@@ -112,10 +112,6 @@ pub record FormAdded (p k bit : ℕ) (F : Form) (form form' : List Entry) : Type
 pub record Reduces (p : ℕ) (K : Constraint) (form : List Entry) : Type 0 where
   pub coefficient : (s : ℕ) → s ≤ signals_most → coef_on form s ≡ reduced p K s
   pub named : (s : ℕ) → s ≤ signals_most → forms_on form s ≡ forms_of K s
-
--- a row has the entry, and there is room for it at the end
-abbrev pub fits : Entry → ℕ → List Entry → Bool
-fits entry end rows = (eqb entry.signal 0 || ltb 0 entry.forms) && ltb end (length rows)
 
 -- From `start` to `end` the entries of the signals below n are put, and the other places are as before.
 pub record Put (p n : ℕ) (K : Constraint) (start end : ℕ) (rows rows' : List Entry) : Type 0 where

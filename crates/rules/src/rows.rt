@@ -5,7 +5,7 @@ ghost use Rattle.std.specs.Prelude.{◌≡◌, ◌||◌, cond, ltb, eqb, suc, �
 ghost use Rattle.circuit.specs.Reader.{signals_most, constraint_in};
 ghost use Rattle.circuit.specs.Call.{circuit_of};
 ghost use Rattle.rules.specs.View.{bound_in, mark_in};
-ghost use Rattle.rules.specs.Rows.{fits, rank, stands, start_of, row_of, Rows, Roomy, Put, RowMade};
+ghost use Rattle.rules.specs.Rows.{rank, stands, start_of, row_of, Rows, Roomy, Put, RowMade};
 
 use crate::reduced::reduced_form;
 use crate::view::{bound_at, coef_at, mark_at};
@@ -28,13 +28,6 @@ impl Entry {
         forms: 0,
     };
 
-    // Whether a row has it: the constant, and each signal that a form names.
-    fn stands(self) -> bool
-        ensures { result ≡ (eqb self.signal 0 || ltb 0 self.forms) }
-    {
-        self.signal == 0 || 0 < self.forms
-    }
-
     // The bound of its signal.
     pub fn bound(self, bounds: &[u32], p: u32) -> u32
         ensures { result ≡ bound_in p bounds.now self.signal }
@@ -53,12 +46,19 @@ impl Entry {
 // Room for the rows of every circuit: an entry for each six of at most 60,000 bytes, for each of at most 512 constraints, and one more.
 pub const MOST_ENTRIES: usize = 10513;
 
-// Puts an entry at the end, if a row has it and there is room, and answers the new end.
-fn put(rows: &mut [Entry], end: usize, entry: Entry) -> usize
-    ensures { (result ≡ cond (fits entry end rows.old) (end + 1) end)
-        × (rows.new ≡ cond (fits entry end rows.old) (set rows.old end entry) rows.old) }
+// Whether a signal that these forms name has an entry; the constant has one in any case.
+fn has_entry(signal: u32, forms: u8) -> bool
+    ensures { result ≡ (eqb signal 0 || ltb 0 forms) }
 {
-    if entry.stands() && end < rows.len() {
+    signal == 0 || 0 < forms
+}
+
+// Puts an entry at the end, if there is room, and answers the new end.
+fn put(rows: &mut [Entry], end: usize, entry: Entry) -> usize
+    ensures { (result ≡ cond (ltb end (length rows.old)) (end + 1) end)
+        × (rows.new ≡ cond (ltb end (length rows.old)) (set rows.old end entry) rows.old) }
+{
+    if end < rows.len() {
         rows[end] = entry;
         end + 1
     } else {
@@ -76,11 +76,14 @@ fn put_row(rows: &mut [Entry], start: usize, part: &[u8], n: u32, p: u32) -> usi
     let reduced = reduced_form(part, p);
     let mut end = start;
     for signal in 0..=n {
-        let entry = Entry {
-            signal: signal as u16,
-            ..reduced[signal as usize]
-        };
-        end = put(rows, end, entry);
+        let named = reduced[signal as usize];
+        if has_entry(signal, named.forms) {
+            let entry = Entry {
+                signal: signal as u16,
+                ..named
+            };
+            end = put(rows, end, entry);
+        }
     }
     end
 }
