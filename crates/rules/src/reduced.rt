@@ -39,17 +39,16 @@ pub(crate) fn reduced_form(part: &[u8], p: u32) -> [Entry; 257]
     ensures { 1 < p → Reduces p (constraint_in part.now) result }
 {
     let mut reduced = [Entry::NONE; 257];
-    if p < 2 {
-        return reduced;
+    if 1 < p {
+        let b = after_form(part);
+        let c = after_form(b);
+        let a0 = coefficients(part, 0, p).constant;
+        let b0 = coefficients(b, 0, p).constant;
+        add_form(&mut reduced, part, b0, 1, p);
+        add_form(&mut reduced, b, a0, 2, p);
+        add_form(&mut reduced, c, p - 1, 4, p);
+        let off = p - multiply_add(0, a0, b0, p);
+        reduced[0].coefficient = multiply_add(reduced[0].coefficient, off, 1, p);
     }
-    let b = after_form(part);
-    let c = after_form(b);
-    let a0 = coefficients(part, 0, p).constant;
-    let b0 = coefficients(b, 0, p).constant;
-    add_form(&mut reduced, part, b0, 1, p);
-    add_form(&mut reduced, b, a0, 2, p);
-    add_form(&mut reduced, c, p - 1, 4, p);
-    let off = p - multiply_add(0, a0, b0, p);
-    reduced[0].coefficient = multiply_add(reduced[0].coefficient, off, 1, p);
     reduced
 }
