@@ -13,6 +13,7 @@ use circuit::file::Constraints;
 
 // What a row holds of a signal, 0 for the constant: its coefficient in the reduced form, and the forms that name it, 1 for A, 2 for B and
 // 4 for C, added.
+// Stays: the forms are one number, since with a flag for each an entry would take 12 bytes in place of 8 (docs/DECISIONS.md, Forms, 8).
 #[derive(Clone, Copy, Debug, PartialEq, Eq)]
 pub struct Entry {
     pub coefficient: u32,

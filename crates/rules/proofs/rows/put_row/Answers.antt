@@ -1,4 +1,4 @@
-use Rattle.std.proofs.Common.{refl, sym, ◌≡◌, ◌∙◌, ◌+◌, suc, arith}
+use Rattle.std.proofs.Common.{refl, sym, ◌∙◌, arith}
 use Rattle.rules.specs.Rows.{nothing, entry_at, coef_on, forms_on}
 use Rattle.rules.proofs.MakingLaws as laws
 use Rattle.rules.proofs.rows.put_row.Goals as goal
@@ -11,14 +11,14 @@ pub loop-signal-preserved : goal.loop-signal-preserved
 unfolding coef_on forms_on entry_at nothing
 loop-signal-preserved c =
     elim c.if-has_entry.branch [
-      then-has_entry w ↦
-        rw (w.rows-is, w.end-is, w.put-end.ensures.0, w.put-end.ensures.1)
-        (laws.puts_entry c.requires.0 c.reduced_form-reduced.ensures c.loop-signal.invariant (omega arith)
-        (sym c.has_entry.ensures ∙ w.if-has_entry.true) _ refl)
+      | then-has_entry w ↦
+          rw (w.rows-is, w.end-is, w.put-end.ensures.0, w.put-end.ensures.1)
+          (laws.puts_entry c.requires.0 c.reduced_form-reduced.ensures c.loop-signal.invariant (omega arith)
+          (sym c.has_entry.ensures ∙ w.if-has_entry.true) _ refl)
       | else-has_entry w ↦
-        rw (w.rows-is, w.end-is)
-        (laws.puts_on c.requires.0 c.reduced_form-reduced.ensures c.loop-signal.invariant (omega arith)
-        (sym c.has_entry.ensures ∙ w.if-has_entry.false))
+          rw (w.rows-is, w.end-is)
+          (laws.puts_on c.requires.0 c.reduced_form-reduced.ensures c.loop-signal.invariant (omega arith)
+          (sym c.has_entry.ensures ∙ w.if-has_entry.false))
     ]
 
 -- after the last turn
@@ -26,12 +26,12 @@ pub returns-after-has_entry : goal.returns-after-has_entry
 unfolding coef_on forms_on entry_at nothing
 returns-after-has_entry c =
     elim c.if-has_entry.branch [
-      then-has_entry w ↦
-        rw (w.rows-is, w.end-is, w.put-end.ensures.0, w.put-end.ensures.1)
-        (laws.puts_all (omega arith) (laws.puts_entry c.requires.0 c.reduced_form-reduced.ensures c.loop-signal.invariant (omega arith)
-        (sym c.has_entry.ensures ∙ w.if-has_entry.true) _ refl))
+      | then-has_entry w ↦
+          rw (w.rows-is, w.end-is, w.put-end.ensures.0, w.put-end.ensures.1)
+          (laws.puts_all (omega arith) (laws.puts_entry c.requires.0 c.reduced_form-reduced.ensures c.loop-signal.invariant (omega arith)
+          (sym c.has_entry.ensures ∙ w.if-has_entry.true) _ refl))
       | else-has_entry w ↦
-        rw (w.rows-is, w.end-is)
-        (laws.puts_all (omega arith) (laws.puts_on c.requires.0 c.reduced_form-reduced.ensures c.loop-signal.invariant (omega arith)
-        (sym c.has_entry.ensures ∙ w.if-has_entry.false)))
+          rw (w.rows-is, w.end-is)
+          (laws.puts_all (omega arith) (laws.puts_on c.requires.0 c.reduced_form-reduced.ensures c.loop-signal.invariant (omega arith)
+          (sym c.has_entry.ensures ∙ w.if-has_entry.false)))
     ]
