@@ -19,6 +19,7 @@ fn with_bit(forms: u8, bit: u8) -> u8
 
 // Adds the form's multiple by the factor, modulo p, to the coefficients, and the bit to the forms of each signal that it names. Bits are added
 // from the lowest on. Signals above 256 are passed over.
+// Stays: the writes through a slice's get_mut aren't proved, since of a slice lent so only the length is known afterwards.
 fn add_form(reduced: &mut [Entry], part: &[u8], factor: u32, bit: u8, p: u32)
     requires { Addable p bit reduced.old }
     ensures { FormAdded p factor bit (form_in part.now) reduced.old reduced.new }

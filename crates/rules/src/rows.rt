@@ -13,7 +13,7 @@ use circuit::file::Constraints;
 
 // What a row holds of a signal, 0 for the constant: its coefficient in the reduced form, and the forms that name it, 1 for A, 2 for B and
 // 4 for C, added.
-// Stays: the forms are one number, since with a flag for each an entry would take 12 bytes in place of 8 (docs/DECISIONS.md, Forms, 8).
+// Stays: the forms are one number, since with a flag for each an entry would take 12 bytes in place of 8 (docs/DECISIONS.md, Choices of design, 8).
 #[derive(Clone, Copy, Debug, PartialEq, Eq)]
 pub struct Entry {
     pub coefficient: u32,
@@ -55,6 +55,7 @@ fn has_entry(signal: u32, forms: u8) -> bool
 }
 
 // Puts an entry at the end, if there is room, and answers the new end.
+// Stays: the write through a slice's get_mut isn't proved, since of a slice lent so only the length is known afterwards.
 fn put(rows: &mut [Entry], end: usize, entry: Entry) -> usize
     ensures { (result ≡ cond (ltb end (length rows.old)) (end + 1) end)
         × (rows.new ≡ cond (ltb end (length rows.old)) (set rows.old end entry) rows.old) }
