@@ -1,50 +1,25 @@
 -- Laws of candidates: how many there are, the values of a given run, and the step to the next candidate, digit by digit from the last.
-use Prim.Native.Nat.{ℕ, zero, suc, ◌+◌, ◌*◌, ◌-◌, ◌^◌, ◌≤◌, ◌<◌}
-use mathlib.Core.Path.{◌≡◌, refl, sym, ap, ap₂, ◌∙◌, fun_ext}
+use Prim.Native.Nat.{ℕ, zero, suc, ◌+◌, ◌-◌, ◌^◌, ◌≤◌, ◌<◌}
+use mathlib.Core.Path.{◌≡◌, refl, sym, ap, ◌∙◌, fun_ext}
 use mathlib.Core.Logic.{◌⊎◌, ⊎_elim}
 use mathlib.Core.Bool.{true, false}
-use mathlib.Core.List.{List, [], ◌∷◌, ◌++◌}
+use mathlib.Core.List.{List, ◌∷◌, ◌++◌}
 use native.Mathlib.Decide.{ℕ_discrete, dec_le, dec_lt}
-use native.Mathlib.Nat.{pow-zero, pow-suc, pow-le-pow_left, pow-le-pow_right}
+use native.Mathlib.Nat.{pow-le-pow_left, pow-le-pow_right}
 use native.Mathlib.Numerals.{add-one}
 use native.Mathlib.Omega.{arith}
-use borrow.Author.Tests.{lt-ltb, le-ltb, le-leb, lt-leb}
-use lib.ListN.{length, get_or, set, take, drop, replicate, get_or-eq_default, length-take, length-drop, length-set}
-use lib.Seq.{get_or-set_same, get_or-set_other, get_or-take, get_or-drop, take_all, take-suc, take-suc-set}
+use borrow.Author.Tests.{lt-ltb, le-ltb}
+use lib.ListN.{length, get_or, set, drop, replicate, get_or-eq_default, get_or-append}
+use lib.Seq.{get_or-set_same, get_or-set_other, get_or-drop, get_or-append_right}
+use Rattle.std.specs.Prelude.{Option, None, Some, is_some, MatchOption}
+use Rattle.laws.proofs.Sum.{true_or_false}
 use Rattle.circuit.specs.Circuit.{value_of}
 use Rattle.circuit.specs.Run.{values_in}
 use Rattle.circuit.proofs.CopyLaws.{zeros}
-use Rattle.runs.specs.Call.{few, fits}
-use Rattle.runs.specs.Inner.{Candidate, Rose}
+use Rattle.runs.specs.Call.{fits}
+use Rattle.runs.specs.Inner.{Candidate, Rose, Ended}
 
 -- ---- how many candidates there are
-
--- a power that isn't too large yet
-pub record Power (p n power k : ℕ) : Type 0 where
-  pub least : k ≤ n
-  pub is : power ≡ p ^ k
-  pub most : power ≤ 65536
-
-pub power_start : (p n : ℕ) → Power p n 1 0
-power_start p n = record { least = omega arith; is = sym (pow-zero p); most = omega arith }
-
-module _ {p n power k : ℕ} (W : Power p n power k) (low : k < n) where
-  next_power : power * p ≡ p ^ (k + 1)
-  next_power = ap (λ (x : ℕ). x * p) W.is ∙ sym (pow-suc p k) ∙ ap (λ (x : ℕ). p ^ x) (sym (add-one k))
-
-  pub power_again : power * p ≤ 65536 → Power p n (power * p) (k + 1)
-  power_again few = record { least = omega arith; is = next_power; most = few }
-
-  pub power_large : 1 ≤ p → 65536 < power * p → false ≡ few p n
-  unfolding few
-  power_large some large =
-      let rest : p ^ (k + 1) ≤ p ^ n = pow-le-pow_right {n = p} some (omega arith) in
-      sym (lt-leb (p ^ n) 65536 (omega (arith, next_power)))
-
-pub power_end : {p n power k : ℕ} → Power p n power k → n ≤ k → true ≡ few p n
-unfolding few
-power_end {p} {n} {k = k} W high =
-    let e : k ≡ n = omega (arith, W.least) in sym (le-leb (p ^ n) 65536 (rw (← e) (omega (arith, W.is, W.most))))
 
 -- few candidates have few signals
 pub few_signals : {p n : ℕ} → 3 ≤ p → p ^ n ≤ 65536 → n ≤ 10
@@ -71,77 +46,22 @@ pub fits_no : (p : ℕ) (run : List ℕ) (s : ℕ) → p ≤ get_or run s 0 → 
 unfolding fits
 fits_no p run s h = le-ltb (value_of run (s + 1)) p (omega (arith, value_is run s))
 
--- the values of the first s signals of a run, copied behind the constant one
-pub record Copying (run values : List ℕ) (s : ℕ) : Type 0 where
-  pub few : s ≤ length run
-  pub sized : length values ≡ 11
-  pub is : values_in values ≡ value_of (take s run)
-
-taken_past : (run : List ℕ) (s i : ℕ) → s ≤ i → get_or (take s run) i 0 ≡ 0
-taken_past run s i h = get_or-eq_default (take s run) 0 (omega (arith, length-take s run))
-
-pub copying_start : (run : List ℕ) → Copying run (set (replicate 11 0) 0 1) 0
+-- the constant one, the values of a run, and zeros after them
+pub run_and_zeros : (run rest : List ℕ) → ((i : ℕ) → get_or rest i 0 ≡ 0) → values_in (1 ∷ (run ++ rest)) ≡ value_of run
 unfolding values_in value_of
-copying_start run = record { few = omega arith; sized = refl; is = fun_ext go }
+run_and_zeros run rest none = fun_ext go
   where
-    go : (t : ℕ) → ◌≡◌ {A = ℕ} (get_or (set (replicate 11 0) 0 1) t 0) (get_or (1 ∷ take 0 run) t 0)
+    at : (s : ℕ) → Dec (s < length run) → get_or (run ++ rest) s 0 ≡ get_or run s 0
+    at s (yes l) = get_or-append run rest 0 s l
+    at s (no l) =
+        get_or-append_right run rest s 0 (omega arith) ∙ none (s - length run) ∙ sym (get_or-eq_default run 0 (omega arith))
+
+    go : (s : ℕ) → ◌≡◌ {A = ℕ} (get_or (1 ∷ (run ++ rest)) s 0) (get_or (1 ∷ run) s 0)
     go zero = refl
-    go (suc t) = zeros 10 t
+    go (suc s) = at s (dec_lt s (length run))
 
-pub copying_again : {run values : List ℕ} {s : ℕ} → Copying run values s → s < length run → length run < 11
-    → Copying run (set values (s + 1) (get_or run s 0)) (s + 1)
-unfolding values_in value_of
-copying_again {run} {values} {s} K low small =
-    record { few = omega arith; sized = length-set values (s + 1) (get_or run s 0) ∙ K.sized; is = fun_ext (λ t. at t (ℕ_discrete t (s + 1))) }
-  where
-    old : (t : ℕ) → get_or values t 0 ≡ get_or (1 ∷ take s run) t 0
-    old t = ap (λ (v : ℕ → ℕ). v t) K.is
-
-    other : (t : ℕ) → (t ≡ s + 1 → ⊥) → get_or (1 ∷ take s run) t 0 ≡ get_or (1 ∷ take (s + 1) run) t 0
-    other zero d = refl
-    other (suc t) d = go (dec_lt t s)
-      where
-        go : Dec (t < s) → get_or (take s run) t 0 ≡ get_or (take (s + 1) run) t 0
-        go (yes l) = get_or-take s run t 0 l ∙ sym (get_or-take (s + 1) run t 0 (omega arith))
-        go (no l) = taken_past run s t (omega arith) ∙ sym (taken_past run (s + 1) t (omega arith))
-
-    at : (t : ℕ) → Dec (t ≡ s + 1) → get_or (set values (s + 1) (get_or run s 0)) t 0 ≡ get_or (1 ∷ take (s + 1) run) t 0
-    at t (yes e) =
-        rw (e, get_or-set_same values (s + 1) (get_or run s 0) 0 (omega (arith, K.sized)), add-one s)
-        (sym (get_or-take (suc s) run s 0 (omega arith)))
-    at t (no d) = get_or-set_other values (s + 1) t (get_or run s 0) 0 d ∙ old t ∙ other t d
-
-pub copying_end : {run values : List ℕ} {s : ℕ} → Copying run values s → length run ≤ s → values_in values ≡ value_of run
-copying_end {run} {s = s} K h = K.is ∙ ap value_of (take_all s run h)
-
--- the values behind the constant one, copied to a buffer
-pub record Writing (values answer : List ℕ) (room s : ℕ) : Type 0 where
-  pub few : s ≤ room
-  pub sized : length answer ≡ room
-  pub is : take s answer ≡ take s (drop 1 values)
-
-pub writing_start : (values answer : List ℕ) → Writing values answer (length answer) 0
-writing_start values answer = record { few = omega arith; sized = refl; is = refl }
-
-pub writing_again : {values answer : List ℕ} {room s : ℕ} → Writing values answer room s → s < room → room < length values
-    → Writing values (set answer s (get_or values (s + 1) 0)) room (s + 1)
-writing_again {values} {answer} {room} {s} K low long =
-    record {
-      few = omega arith;
-      sized = length-set answer s (get_or values (s + 1) 0) ∙ K.sized;
-      is = rw (add-one s) (front (suc s) (omega arith));
-    }
-  where
-    front : (t : ℕ) → t ≡ 1 + s → take (suc s) (set answer s (get_or values t 0)) ≡ take (suc s) (drop 1 values)
-    front t e =
-        take-suc-set answer s (get_or values t 0) (omega (arith, K.sized))
-        ∙ ap₂ (λ (front : List ℕ) (x : ℕ). front ++ (x ∷ [])) K.is (ap (λ (k : ℕ). get_or values k 0) e ∙ sym (get_or-drop 1 values s 0))
-        ∙ sym (take-suc (drop 1 values) s 0 (omega (arith, length-drop 1 values)))
-
-pub writing_end : {values answer : List ℕ} {room s : ℕ} → Writing values answer room s → room ≤ s → answer ≡ take room (drop 1 values)
-writing_end {values} {answer} {room} {s} K h =
-    let e : s ≡ room = omega (arith, K.few) in
-    sym (take_all room answer (omega (arith, K.sized))) ∙ rw e at K.is
+pub dropped_zeros : (k n i : ℕ) → ◌≡◌ {A = ℕ} (get_or (drop k (replicate n 0)) i 0) 0
+dropped_zeros k n i = get_or-drop k (replicate n 0) i 0 ∙ zeros n (k + i)
 
 -- ---- the next candidate
 
@@ -163,22 +83,17 @@ count_start p n h v =
       past = λ t l. refl;
     }
 
-pub count_end : {p n h : ℕ} {v w : ℕ → ℕ} {s : ℕ} → Counting p n h v w s → s ≤ 0 → Rose p n h v w 0
-count_end {s = s} K none =
+pub count_end : {p n h : ℕ} {v w : ℕ → ℕ} {s : ℕ} → Counting p n h v w s → s < 1 → Ended p n h v w
+count_end K none =
     record {
-      within = omega arith;
-      most = omega arith;
       constant = K.same 0 (omega arith);
-      same = λ (t : ℕ) (l : t < 0). absurd (omega arith);
-      risen = λ (l : 1 ≤ 0). absurd (omega arith);
-      room = λ (l : 1 ≤ 0). absurd (omega arith);
       top = λ t l. K.top t (omega arith);
       zeros = λ t l. K.zeros t (omega arith);
       past = K.past;
     }
 
 -- one place of the array is written
-module _ {p n h : ℕ} {v : ℕ → ℕ} (values : List ℕ) {s : ℕ} (K : Counting p n h v (values_in values) s) (long : n < length values) (some : 0 < s) where
+module _ {p n h : ℕ} {v : ℕ → ℕ} (values : List ℕ) {s : ℕ} (K : Counting p n h v (values_in values) s) (long : n < length values) (some : 1 ≤ s) where
   here : (x : ℕ) → values_in (set values s x) s ≡ x
   unfolding values_in
   here x = get_or-set_same values s x 0 (omega (arith, K.within))
@@ -186,9 +101,6 @@ module _ {p n h : ℕ} {v : ℕ → ℕ} (values : List ℕ) {s : ℕ} (K : Coun
   there : (x t : ℕ) → (t ≡ s → ⊥) → values_in (set values s x) t ≡ values_in values t
   unfolding values_in
   there x t d = get_or-set_other values s t x 0 d
-
-  pub count_inside : s < length values
-  count_inside = omega (arith, K.within)
 
   -- the value there is as it was
   is_value : get_or values s 0 ≡ v s
@@ -198,7 +110,7 @@ module _ {p n h : ℕ} {v : ℕ → ℕ} (values : List ℕ) {s : ℕ} (K : Coun
   pub count_low : Candidate p n v → get_or values s 0 < p
   count_low is_v = omega (arith, is_value, is_v.below s some K.within)
 
-  pub count_again : (s ≤ h → p ≤ get_or values s 0 + 1) → Counting p n h v (values_in (set values s 0)) (s - 1)
+  pub count_again : (s ≤ h × p ≤ get_or values s 0 + 1) ⊎ (h < s) → Counting p n h v (values_in (set values s 0)) (s - 1)
   count_again high =
       record {
         within = omega (arith, K.within);
@@ -209,7 +121,7 @@ module _ {p n h : ℕ} {v : ℕ → ℕ} (values : List ℕ) {s : ℕ} (K : Coun
       }
     where
       top : (t : ℕ) → s - 1 < t → Dec (t ≡ s) → t ≤ h → t ≤ n → p ≤ v t + 1
-      top t l (yes e) a b = rw e (omega (arith, high (omega arith), is_value))
+      top t l (yes e) a b = rw e (⊎_elim (λ w. omega (arith, w.1, is_value)) (λ (g : h < s). absurd (omega arith)) high)
       top t l (no d) a b = K.top t (omega arith) a b
 
       zeros : (t : ℕ) → s - 1 < t → Dec (t ≡ s) → t ≤ n → values_in (set values s 0) t ≡ 0
@@ -220,35 +132,24 @@ module _ {p n h : ℕ} {v : ℕ → ℕ} (values : List ℕ) {s : ℕ} (K : Coun
   count_risen low room =
       let x = get_or values s 0 + 1 in
       record {
+        least = some;
         within = K.within;
         most = low;
         constant = there x 0 (λ (e : 0 ≡ s). omega arith) ∙ K.same 0 (omega arith);
         same = λ t l. there x t (λ (e : t ≡ s). omega arith) ∙ K.same t (omega arith);
-        risen = λ l. here x ∙ ap (λ (y : ℕ). y + 1) is_value;
-        room = λ l. omega (arith, here x);
+        risen = here x ∙ ap (λ (y : ℕ). y + 1) is_value;
+        room = omega (arith, here x);
         top = K.top;
         zeros = λ t l b. there x t (λ (e : t ≡ s). omega arith) ∙ K.zeros t l b;
         past = λ t l. there x t (λ (e : t ≡ s). omega (arith, K.within)) ∙ K.past t l;
       }
 
--- a turn of the loop
-pub record Turn (p n h : ℕ) (v : ℕ → ℕ) (values : List ℕ) (s : ℕ) : Type 0 where
-  pub counting : Counting p n h v (values_in values) s
-  pub long : n < length values
-  pub some : 0 < s
-  pub candidate : Candidate p n v
+-- whether one has risen, by the test of the option
+pub has_ended : {p n h : ℕ} {v w : ℕ → ℕ} (o : Option ℕ) → is_some o ≡ false → MatchOption o (Ended p n h v w) (Rose p n h v w) → Ended p n h v w
+has_ended None e E = E
+has_ended (Some j) e R = true_or_false true refl e
 
-module _ {p n h : ℕ} {v : ℕ → ℕ} {values : List ℕ} {s : ℕ} (T : Turn p n h v values s) where
-  pub turn_inside : s < length values
-  turn_inside = count_inside values T.counting T.long T.some
-
-  pub turn_low : get_or values s 0 < p
-  turn_low = count_low values T.counting T.long T.some T.candidate
-
-  pub turn_risen : s ≤ h → get_or values s 0 + 1 < p → Rose p n h v (values_in (set values s (get_or values s 0 + 1))) s
-  turn_risen = count_risen values T.counting T.long T.some
-
-  pub turn_again : (p ≤ get_or values s 0 + 1) ⊎ (h < s) → Counting p n h v (values_in (set values s 0)) (s - 1)
-  turn_again high =
-      count_again values T.counting T.long T.some
-      (λ low. ⊎_elim (λ e. e) (λ (l : h < s). absurd (omega arith)) high)
+pub has_risen : {p n h : ℕ} {v w : ℕ → ℕ} (o : Option ℕ) → is_some o ≡ true → MatchOption o (Ended p n h v w) (Rose p n h v w)
+    → (j : ℕ) × Rose p n h v w j
+has_risen None e E = true_or_false false e refl
+has_risen (Some j) e R = (j, R)

@@ -5,20 +5,27 @@ use mathlib.Core.Bool.{Bool, true, false}
 use mathlib.Core.List.{List}
 use native.Mathlib.Decide.{ℕ_discrete}
 use native.Mathlib.Omega.{arith}
-use borrow.Author.Tests.{ne_eqb, leb-true, leb-false}
-use lib.Dec.{leb, eqb}
-use lib.ListN.{length, drop, get_or, set, length-set}
+use borrow.Author.Tests.{ne_eqb, leb-true, leb-false, ltb-true, ltb-false}
+use lib.Dec.{leb, ltb, eqb}
+use lib.ListN.{length, drop, get_or, set, replicate, length-set}
 use lib.Seq.{get_or-set_same, get_or-set_other}
 use Rattle.circuit.specs.Bytes.{byte_at, u16_at}
 use Rattle.circuit.specs.Circuit.{Term, Form, eval, Rises, more, WellFormedConstraint}
 use Rattle.circuit.specs.Reader.{term_at, term_kept, terms_in, form_in, after_form, constraint_in}
 use Rattle.circuit.specs.Run.{holds}
-use Rattle.circuit.specs.Call.{circuit_of, Sized}
+use Rattle.circuit.specs.Answer.{given}
+use Rattle.circuit.specs.Call.{circuit_call, circuit_of, Sized}
+use Rattle.circuit.proofs.Sized.{call_sized}
 use Rattle.circuit.specs.Offsets.{Offsets, part_of}
 use Rattle.circuit.specs.declared.reader.Sizes.{Sizes}
 use Rattle.circuit.proofs.ByteLaws.{u16_drop}
+use Rattle.circuit.proofs.CopyLaws.{zeros}
 use Rattle.circuit.proofs.OffsetLaws.{sized_part}
-use Rattle.runs.specs.Inner.{last_signal, level_in, level_at, Chains, Linkable, held_at}
+use Rattle.std.specs.Prelude.{All, ◌≢◌}
+use Rattle.std.specs.List.Sorted.{IsPermutation, IsNonDecreasingBy, IsPartitionPoint}
+use Rattle.std.proofs.lemmas.List.Sorted.{All-permutation, IsPermutation-sym, length_permutation}
+use Rattle.runs.specs.declared.levels.Leveled.{Leveled}
+use Rattle.runs.specs.Inner.{last_signal, level_in, level_at, IsLeveled, Ordered, Starts, held_at}
 
 -- ---- what a form's value depends on
 
@@ -104,140 +111,95 @@ held_agree {s} {table} {z} Z O k l h v w same =
     let is = sized_part Z O k l h in
     rw (← is, ← Z.is_p) (part_agree (part_of s table k) (rw (is, Z.is_n, Z.is_p) (Z.formed.each k)) v w same)
 
--- ---- levels, by the code
-
-pub last_none : (s : List ℕ) {count : ℕ} → count ≡ byte_at s 0 → count ≡ 0 → 0 ≡ last_signal s
-unfolding last_signal
-last_none s e none = rw (sym e ∙ none)
-
-pub last_some : (s : List ℕ) {count : ℕ} → count ≡ byte_at s 0 → (count ≡ 0 → ⊥) → u16_at s (6 * count - 5) ≡ last_signal s
-unfolding last_signal
-last_some s {count} e some =
-    let at : 1 + 6 * count - 6 ≡ 6 * count - 5 = omega arith in rw (← e, ne_eqb count 0 some, at)
-
--- the largest of the last signals of the three forms
-unfoldable pub largest_in : List ℕ → ℕ
-largest_in s = max (last_signal s) (max (last_signal (after_form s)) (last_signal (after_form (after_form s))))
-
-pub largest_is : (s : List ℕ) {b c : List ℕ} {x y z i j : ℕ} → b ≡ after_form s → c ≡ after_form b → x ≡ last_signal s → y ≡ last_signal b
-    → z ≡ last_signal c → i ≡ max y z → j ≡ max x i → j ≡ largest_in s
-unfolding largest_in
-largest_is s e f g h i k l = l ∙ rw (k, i, h, g, f, e)
-
-pub level_low : (n : ℕ) (s : List ℕ) {x : ℕ} → x ≡ largest_in s → x < n → x ≡ level_in n s
-unfolding level_in largest_in
-level_low n s e low = omega (arith, e)
-
-pub level_high : (n : ℕ) (s : List ℕ) {x : ℕ} → x ≡ largest_in s → n ≤ x → n ≡ level_in n s
-unfolding level_in largest_in
-level_high n s e high = omega (arith, e)
-
 pub level_most : (s table : List ℕ) (n k : ℕ) → level_at s table n k ≤ n
 unfolding level_at level_in
 level_most s table n k = omega arith
-
-pub level_inside : (s table : List ℕ) (n k : ℕ) {x long : ℕ} → x ≡ level_at s table n k → n < long → x < long
-level_inside s table n k e h = omega (arith, level_most s table n k)
 
 pub level_is : (s table : List ℕ) (n k : ℕ) {part : List ℕ} {x : ℕ} → part ≡ part_of s table k → x ≡ level_in n part → x ≡ level_at s table n k
 unfolding level_at
 level_is s table n k e f = rw e at f
 
--- ---- the links
+-- ---- constraints by their level
 
-module _ (level : ℕ → ℕ) where
-  pub chains_start : (heads nexts : List ℕ) → ((h : ℕ) → get_or heads h 0 ≡ 0) → Chains level 0 heads nexts
-  chains_start heads nexts none =
-      record {
-        head_most = λ h. omega (arith, none h);
-        head_level = λ (h : ℕ) (e : 1 ≤ get_or heads h 0). absurd (omega (arith, none h));
-        head_last = λ (h k : ℕ) (inside : h < length heads) (e : get_or heads h 0 < k) (l : k ≤ 0) (z : level k ≡ h). absurd (omega arith);
-        next_less = λ (k : ℕ) (l : 1 ≤ k) (h : k ≤ 0). absurd (omega arith);
-        next_level = λ (k : ℕ) (l : 1 ≤ k) (h : k ≤ 0) (e : 1 ≤ get_or nexts k 0). absurd (omega arith);
-        next_last = λ (k j : ℕ) (l : 1 ≤ k) (h : k ≤ 0) (e : get_or nexts k 0 < j) (f : j < k) (z : level j ≡ level k). absurd (omega arith);
-      }
+pub constraints_few : (s : List ℕ) (z : Sizes) → circuit_call s ≡ given z → z.m ≤ 512
+constraints_few s z read = let Z : Sized s z = call_sized read in omega (arith, Z.is_m, Z.formed.m_most)
 
-  -- constraint k + 1 is linked before those of its level
-  module _ (k : ℕ) (heads nexts : List ℕ) (room : level (k + 1) < length heads) (place : k + 1 < length nexts) (L : Chains level k heads nexts) where
-    abbrev new : List ℕ
-    new = set heads (level (k + 1)) (k + 1)
+-- the first places have the last constraints of m
+pub record Filled (level : ℕ → ℕ) (m i : ℕ) (order : List Leveled) : Type 0 where
+  pub sized : length order ≡ m
+  pub each : (j : ℕ) (d : Leveled) → j < i → (get_or order j d).level ≡ level (m - j) × ((get_or order j d).constraint ≡ m - j)
 
-    abbrev linked : List ℕ
-    linked = set nexts (k + 1) (get_or heads (level (k + 1)) 0)
+pub fill_start : (level : ℕ → ℕ) (m : ℕ) (order : List Leveled) → length order ≡ m → Filled level m 0 order
+fill_start level m order e = record { sized = e; each = λ (j : ℕ) (d : Leveled) (l : j < 0). absurd (omega arith) }
 
-    head_new : (h : ℕ) → h ≡ level (k + 1) → get_or new h 0 ≡ k + 1
-    head_new h e = rw e (get_or-set_same heads (level (k + 1)) (k + 1) 0 room)
+pub fill_more : {level : ℕ → ℕ} {m i : ℕ} {order : List Leveled} → Filled level m i order → i < m → {x : ℕ} → x ≡ level (m - i)
+    → Filled level m (i + 1) (set order i (record { level = x; constraint = m - i }))
+fill_more {level} {m} {i} {order} F low {x} e =
+    record { sized = length-set order i _ ∙ F.sized; each = λ j d l. each j d l (ℕ_discrete j i) }
+  where
+    new : Leveled
+    new = record { level = x; constraint = m - i }
 
-    head_old : (h : ℕ) → (h ≡ level (k + 1) → ⊥) → get_or new h 0 ≡ get_or heads h 0
-    head_old h d = get_or-set_other heads (level (k + 1)) h (k + 1) 0 d
+    each : (j : ℕ) (d : Leveled) → j < i + 1 → Dec (j ≡ i)
+        → (get_or (set order i new) j d).level ≡ level (m - j) × ((get_or (set order i new) j d).constraint ≡ m - j)
+    each j d l (yes q) = rw (q, get_or-set_same order i new d (omega (arith, F.sized))) (e, refl)
+    each j d l (no q) = rw (get_or-set_other order i j new d q) (F.each j d (omega arith))
 
-    next_new : (j : ℕ) → j ≡ k + 1 → get_or linked j 0 ≡ get_or heads (level (k + 1)) 0
-    next_new j e = rw e (get_or-set_same nexts (k + 1) (get_or heads (level (k + 1)) 0) 0 place)
-
-    next_old : (j : ℕ) → (j ≡ k + 1 → ⊥) → get_or linked j 0 ≡ get_or nexts j 0
-    next_old j d = get_or-set_other nexts (k + 1) j (get_or heads (level (k + 1)) 0) 0 d
-
-    head_most : (h : ℕ) → Dec (h ≡ level (k + 1)) → get_or new h 0 ≤ k + 1
-    head_most h (yes e) = omega (arith, head_new h e)
-    head_most h (no d) = omega (arith, head_old h d, L.head_most h)
-
-    head_level : (h : ℕ) → Dec (h ≡ level (k + 1)) → 1 ≤ get_or new h 0 → level (get_or new h 0) ≡ h
-    head_level h (yes e) some = ap level (head_new h e) ∙ sym e
-    head_level h (no d) some = ap level (head_old h d) ∙ L.head_level h (omega (arith, head_old h d))
-
-    head_last : (h j : ℕ) → Dec (h ≡ level (k + 1)) → Dec (j ≡ k + 1) → h < length heads → get_or new h 0 < j → j ≤ k + 1 → level j ≡ h → ⊥
-    head_last h j (yes e) q inside l m z = omega (arith, head_new h e)
-    head_last h j (no d) (yes q) inside l m z = d (sym z ∙ ap level q)
-    head_last h j (no d) (no q) inside l m z = L.head_last h j inside (omega (arith, head_old h d)) (omega arith) z
-
-    next_less : (j : ℕ) → Dec (j ≡ k + 1) → 1 ≤ j → j ≤ k + 1 → get_or linked j 0 < j
-    next_less j (yes e) l m = omega (arith, next_new j e, L.head_most (level (k + 1)))
-    next_less j (no d) l m = omega (arith, next_old j d, L.next_less j l (omega arith))
-
-    next_level : (j : ℕ) → Dec (j ≡ k + 1) → 1 ≤ j → j ≤ k + 1 → 1 ≤ get_or linked j 0 → level (get_or linked j 0) ≡ level j
-    next_level j (yes e) l m some =
-        ap level (next_new j e) ∙ L.head_level (level (k + 1)) (omega (arith, next_new j e)) ∙ ap level (sym e)
-    next_level j (no d) l m some = ap level (next_old j d) ∙ L.next_level j l (omega arith) (omega (arith, next_old j d))
-
-    next_last : (j i : ℕ) → Dec (j ≡ k + 1) → 1 ≤ j → j ≤ k + 1 → get_or linked j 0 < i → i < j → level i ≡ level j → ⊥
-    next_last j i (yes e) l m x y z =
-        L.head_last (level (k + 1)) i room (omega (arith, next_new j e)) (omega arith) (z ∙ ap level e)
-    next_last j i (no d) l m x y z = L.next_last j i l (omega arith) (omega (arith, next_old j d)) y z
-
-    pub chains_again : Chains level (k + 1) new linked
-    chains_again =
-        record {
-          head_most = λ h. head_most h (ℕ_discrete h (level (k + 1)));
-          head_level = λ h. head_level h (ℕ_discrete h (level (k + 1)));
-          head_last = λ h j inside.
-              head_last h j (ℕ_discrete h (level (k + 1))) (ℕ_discrete j (k + 1)) (omega (arith, length-set heads (level (k + 1)) (k + 1)));
-          next_less = λ j. next_less j (ℕ_discrete j (k + 1));
-          next_level = λ j. next_level j (ℕ_discrete j (k + 1));
-          next_last = λ j i. next_last j i (ℕ_discrete j (k + 1));
-        }
-
--- the first k constraints are linked
-pub record Linking (level : ℕ → ℕ) (m long longer : ℕ) (heads nexts : List ℕ) (k : ℕ) : Type 0 where
-  pub few : k ≤ m
-  pub heads_kept : length heads ≡ long
-  pub nexts_kept : length nexts ≡ longer
-  pub chains : Chains level k heads nexts
-
-pub linking_start : (level : ℕ → ℕ) {heads nexts : List ℕ} {n m : ℕ} → Linkable heads nexts n m → Linking level m (length heads) (length nexts) heads nexts 0
-linking_start level L =
-    record { few = omega arith; heads_kept = refl; nexts_kept = refl; chains = chains_start level _ _ L.none_yet }
-
-pub linking_again : {level : ℕ → ℕ} {m long longer : ℕ} {heads nexts : List ℕ} {k : ℕ} → Linking level m long longer heads nexts k → k < m
-    → (x : ℕ) → x ≡ level (k + 1) → x < length heads → k + 1 < length nexts
-    → Linking level m long longer (set heads x (k + 1)) (set nexts (k + 1) (get_or heads x 0)) (k + 1)
-linking_again {level} {heads = heads} {nexts = nexts} {k = k} L h x is room place =
+-- sorted by level they are in order
+pub order_sorted : {level : ℕ → ℕ} {m i : ℕ} {order : List Leveled} → Filled level m i order → m ≤ i → (sorted : List Leveled)
+    → IsPermutation order sorted → IsNonDecreasingBy (λ x. x.level) sorted → Ordered level m sorted
+order_sorted {level} {m} {i} {order} F all sorted moved rising =
     record {
-      few = omega arith;
-      heads_kept = length-set heads x (k + 1) ∙ L.heads_kept;
-      nexts_kept = length-set nexts (k + 1) (get_or heads x 0) ∙ L.nexts_kept;
-      chains = rw is (chains_again level k heads nexts (rw is at room) place L.chains);
+      sized = length_permutation order sorted moved ∙ F.sized;
+      each = All-permutation (IsLeveled level m) order sorted moved each;
+      rising = rising;
+      whole = whole;
+    }
+  where
+    each : All (IsLeveled level m) order
+    each j d l =
+        let E = F.each j d (omega (arith, F.sized)) in
+        (omega (arith, E.1, F.sized), omega (arith, E.1), E.0 ∙ ap level (sym E.1))
+
+    whole : (k : ℕ) → 1 ≤ k → k ≤ m → All (λ x. x.constraint ≢ k) sorted → ⊥
+    whole k l h missing =
+        let x : Leveled = record { level = 0; constraint = 0 } in
+        let none = All-permutation (λ (x : Leveled). x.constraint ≢ k) sorted order (IsPermutation-sym order sorted moved) missing in
+        none (m - k) x (omega (arith, F.sized)) ((F.each (m - k) x (omega arith)).1 ∙ omega arith)
+
+-- ---- where the levels begin
+
+-- those below a level
+pub record Begun (level : ℕ) (order : List Leveled) (starts : List ℕ) : Type 0 where
+  pub inside : (h : ℕ) → get_or starts h 0 ≤ length order
+  pub parted : (h : ℕ) → h < level → IsPartitionPoint (λ x. x.level < h) (λ x. h ≤ x.level) order (get_or starts h 0)
+
+pub begun_start : (order : List Leveled) → Begun 0 order (replicate 11 0)
+begun_start order =
+    record {
+      inside = λ h. omega (arith, zeros 11 h);
+      parted = λ (h : ℕ) (l : h < 0). absurd (omega arith);
     }
 
-pub linking_end : {level : ℕ → ℕ} {m long longer : ℕ} {heads nexts : List ℕ} {k : ℕ} → Linking level m long longer heads nexts k → m ≤ k
-    → Chains level m heads nexts
-linking_end {m = m} {k = k} L h = let e : k ≡ m = omega (arith, L.few) in rw e at L.chains
+-- the test that `partition_point` is lent
+pub parted_by : (order : List Leveled) (h i : ℕ) → IsPartitionPoint (λ x. ltb x.level h ≡ true) (λ x. ltb x.level h ≡ false) order i
+    → IsPartitionPoint (λ x. x.level < h) (λ x. h ≤ x.level) order i
+parted_by order h i parted =
+    (λ k d l m. ltb-true (get_or order k d).level h (parted.0 k d l m), λ k d l m. ltb-false (get_or order k d).level h (parted.1 k d l m))
+
+pub begun_more : {level : ℕ} {order : List Leveled} {starts : List ℕ} → Begun level order starts → level < length starts → {i : ℕ} → i ≤ length order
+    → IsPartitionPoint (λ x. x.level < level) (λ x. level ≤ x.level) order i → Begun (level + 1) order (set starts level i)
+begun_more {level} {order} {starts} B room {i} within parted =
+    record { inside = λ h. inside h (ℕ_discrete h level); parted = λ h l. at h l (ℕ_discrete h level) }
+  where
+    inside : (h : ℕ) → Dec (h ≡ level) → get_or (set starts level i) h 0 ≤ length order
+    inside h (yes e) = rw (e, get_or-set_same starts level i 0 room) within
+    inside h (no d) = rw (get_or-set_other starts level h i 0 d) (B.inside h)
+
+    at : (h : ℕ) → h < level + 1 → Dec (h ≡ level)
+        → IsPartitionPoint (λ (x : Leveled). x.level < h) (λ (x : Leveled). h ≤ x.level) order (get_or (set starts level i) h 0)
+    at h l (yes e) = rw (e, get_or-set_same starts level i 0 room) parted
+    at h l (no d) = rw (get_or-set_other starts level h i 0 d) (B.parted h (omega arith))
+
+pub begun_end : {level : ℕ} {order : List Leveled} {starts : List ℕ} → Begun level order starts → 11 ≤ level → Starts order starts
+begun_end B h = record { inside = B.inside; parted = λ k l. B.parted k (omega arith) }

@@ -1,23 +1,28 @@
 -- Laws of the search: a step to the next candidate passes over no solution, each step rises, and what a search has found when it ends.
 use Prim.Native.Nat.{ℕ, zero, suc, ◌+◌, ◌*◌, ◌-◌, ◌^◌, ◌≤◌, ◌<◌}
-use mathlib.Core.Path.{◌≡◌, refl, sym, ap, ◌∙◌}
+use mathlib.Core.Path.{◌≡◌, refl, sym, ap, subst, ◌∙◌}
 use mathlib.Core.Logic.{◌⊎◌, inl, inr, ⊎_elim}
 use mathlib.Core.Bool.{Bool, true, false}
 use mathlib.Core.List.{List}
 use native.Mathlib.Decide.{dec_le, dec_lt, ℕ_discrete}
 use native.Mathlib.Nat.{mul-le-mul_right, pow-zero, pow-suc}
 use native.Mathlib.Omega.{arith}
-use lib.ListN.{length, get_or}
+use lib.ListN.{length, get_or, take, drop, length-drop}
+use lib.Seq.{get_or-drop, take_all}
 use Rattle.circuit.specs.Circuit.{Circuit, constraint_at}
 use Rattle.circuit.specs.Reader.{constraint_in}
 use Rattle.circuit.specs.Run.{holds}
-use Rattle.circuit.specs.Call.{circuit_of}
-use Rattle.circuit.specs.Offsets.{part_of}
+use Rattle.circuit.specs.Call.{circuit_of, Sized}
+use Rattle.circuit.specs.Offsets.{Offsets, part_of}
 use Rattle.circuit.specs.declared.reader.Sizes.{Sizes}
 use Rattle.circuit.proofs.OffsetLaws.{sized_part}
-use Rattle.laws.proofs.Sum.{true_or_false}
+use Rattle.std.proofs.lemmas.List.{get_or_default}
+use Rattle.laws.proofs.Sum.{true_or_false, true_by}
 use Rattle.runs.specs.Order.{Before}
-use Rattle.runs.specs.Inner.{level_at, Searchable, Candidate, Rose, held_at, Judged, Checked, Solution, Sought}
+use Rattle.std.specs.Prelude.{Option, None, Some}
+use Rattle.std.specs.List.{AllWithin}
+use Rattle.runs.specs.declared.levels.Leveled.{Leveled}
+use Rattle.runs.specs.Inner.{level_at, Ordered, Starts, Candidate, Rose, Ended, held_at, Checked, Solution, Sought}
 use Rattle.runs.proofs.Orders.{before_trans}
 use Rattle.runs.proofs.LevelLaws.{held_agree, level_most}
 
@@ -39,12 +44,22 @@ climb {u} {v} (suc left) s h e same most =
     go (yes l) on = inl (record { at = s; same = same; less = l })
     go (no l) on = on (λ t m. further l t m (ℕ_discrete t s))
 
-module _ {p n h : ℕ} {v w : ℕ → ℕ} {j : ℕ} (R : Rose p n h v w j) (is_v : Candidate p n v) (low : h ≤ n) where
-  pub rose_before : 1 ≤ j → Before v w
-  rose_before some = record { at = j; same = λ s l. sym (R.same s l); less = omega (arith, R.risen some) }
+-- the same of a candidate u where the signals of v after j have their last value
+capped : {p n h : ℕ} {u v : ℕ → ℕ} (j : ℕ) → j ≤ h → ((t : ℕ) → j < t → t ≤ h → p ≤ v t + 1) → Candidate p n u
+    → (((t : ℕ) → t ≤ h → u t ≡ v t) → ⊥) → ((t : ℕ) → t < j → u t ≡ v t) → u j ≤ v j → h ≤ n → Before u v
+capped {p} {h = h} {u = u} {v = v} j most top is-u differ same below low =
+    ⊎_elim (λ b. b) (λ all. absurd (differ all)) (climb (suc h - j) j h (omega arith) same (λ t l m. go t m (ℕ_discrete t j) l))
+  where
+    go : (t : ℕ) → t ≤ h → Dec (t ≡ j) → j ≤ t → u t ≤ v t
+    go t m (yes e) l = rw e below
+    go t m (no d) l = let y = is-u.below t (omega arith) (omega arith) in omega (arith, top t (omega arith) m)
 
-  pub rose_candidate : 1 ≤ j → Candidate p n w
-  rose_candidate some =
+module _ {p n h : ℕ} {v w : ℕ → ℕ} {j : ℕ} (R : Rose p n h v w j) (is_v : Candidate p n v) (low : h ≤ n) where
+  pub rose_before : Before v w
+  rose_before = record { at = j; same = λ s l. sym (R.same s l); less = omega (arith, R.risen) }
+
+  pub rose_candidate : Candidate p n w
+  rose_candidate =
       record {
         constant = R.constant ∙ is_v.constant;
         below = λ s l m. below s l m (dec_lt s j) (ℕ_discrete s j);
@@ -53,38 +68,28 @@ module _ {p n h : ℕ} {v w : ℕ → ℕ} {j : ℕ} (R : Rose p n h v w j) (is_
     where
       below : (s : ℕ) → 1 ≤ s → s ≤ n → Dec (s < j) → Dec (s ≡ j) → w s < p
       below s l m (yes q) d = omega (arith, R.same s q, is_v.below s l m)
-      below s l m (no q) (yes d) = rw d (R.room some)
+      below s l m (no q) (yes d) = rw d R.room
       below s l m (no q) (no d) = omega (arith, R.zeros s (omega arith) m, is_v.below s l m)
 
-  -- a candidate u that is not above v up to signal j, agrees below it and doesn't agree up to h comes before v
-  module _ {u : ℕ → ℕ} (is-u : Candidate p n u) (differ : ((t : ℕ) → t ≤ h → u t ≡ v t) → ⊥) where
-    top : (t : ℕ) → j < t → t ≤ h → u t ≤ v t
-    top t l m = let z = R.top t l m (omega arith) in let y = is-u.below t (omega arith) (omega arith) in omega arith
+  -- nothing that differs from v up to h is passed over
+  pub skipped : {u : ℕ → ℕ} → Candidate p n u → (((t : ℕ) → t ≤ h → u t ≡ v t) → ⊥) → Before u w → Before u v
+  skipped {u} is-u differ B = go (dec_lt B.at j) (ℕ_discrete B.at j) (dec_le B.at n)
+    where
+      go : Dec (B.at < j) → Dec (B.at ≡ j) → Dec (B.at ≤ n) → Before u v
+      go (yes l) d m =
+          record { at = B.at; same = λ s g. B.same s g ∙ R.same s (omega arith); less = omega (arith, B.less, R.same B.at l) }
+      go (no l) (yes e) m =
+          capped j R.most (λ t l g. R.top t l g (omega arith)) is-u differ (λ t g. B.same t (omega arith) ∙ R.same t g)
+          (let z : u j < w j = rw e at B.less in omega (arith, R.risen)) low
+      go (no l) (no e) (yes m) = absurd (omega (arith, B.less, R.zeros B.at (omega arith) m))
+      go (no l) (no e) (no m) = absurd (omega (arith, B.less, R.past B.at (omega arith), is_v.past B.at (omega arith)))
 
-    capped : ((t : ℕ) → t < j → u t ≡ v t) → u j ≤ v j → Before u v
-    capped same most =
-        ⊎_elim (λ b. b) (λ all. absurd (differ all))
-        (climb (suc h - j) j h (omega (arith, R.most)) same (λ t l m. go t m (ℕ_discrete t j) l))
-      where
-        go : (t : ℕ) → t ≤ h → Dec (t ≡ j) → j ≤ t → u t ≤ v t
-        go t m (yes e) l = rw e most
-        go t m (no d) l = top t (omega arith) m
-
-    -- nothing that differs from v up to h is passed over
-    pub skipped : 1 ≤ j → Before u w → Before u v
-    skipped some B = go (dec_lt B.at j) (ℕ_discrete B.at j) (dec_le B.at n)
-      where
-        go : Dec (B.at < j) → Dec (B.at ≡ j) → Dec (B.at ≤ n) → Before u v
-        go (yes l) d m =
-            record { at = B.at; same = λ s g. B.same s g ∙ R.same s (omega arith); less = omega (arith, B.less, R.same B.at l) }
-        go (no l) (yes e) m =
-            capped (λ t g. B.same t (omega arith) ∙ R.same t g) (let z : u j < w j = rw e at B.less in omega (arith, R.risen some))
-        go (no l) (no e) (yes m) = absurd (omega (arith, B.less, R.zeros B.at (omega arith) m))
-        go (no l) (no e) (no m) = absurd (omega (arith, B.less, R.past B.at (omega arith), is_v.past B.at (omega arith)))
-
-    pub exhausted : j ≡ 0 → Before u v
-    exhausted none =
-        capped (λ (t : ℕ) (l : t < j). absurd (omega arith)) (rw none (omega (arith, is-u.constant, is_v.constant)))
+-- where none of the first h signals can rise, what differs from v up to h comes before it
+pub exhausted : {p n h : ℕ} {v w : ℕ → ℕ} → Ended p n h v w → Candidate p n v → h ≤ n
+    → {u : ℕ → ℕ} → Candidate p n u → (((t : ℕ) → t ≤ h → u t ≡ v t) → ⊥) → Before u v
+exhausted E is_v low is-u differ =
+    capped 0 (omega arith) (λ t l g. E.top t (omega arith) g (omega arith)) is-u differ (λ (t : ℕ) (l : t < 0). absurd (omega arith))
+    (omega (arith, is-u.constant, is_v.constant)) low
 
 -- ---- candidates are counted up
 
@@ -123,177 +128,203 @@ module _ (p : ℕ) (v : ℕ → ℕ) where
 unfoldable pub left_from : ℕ → ℕ → (ℕ → ℕ) → ℕ
 left_from p n v = p ^ n - number_of p v n
 
-pub rose_fewer : {p n h : ℕ} {v w : ℕ → ℕ} {j : ℕ} → Rose p n h v w j → Candidate p n v → h ≤ n → 1 ≤ j → left_from p n w < left_from p n v
+pub rose_fewer : {p n h : ℕ} {v w : ℕ → ℕ} {j : ℕ} → Rose p n h v w j → Candidate p n v → h ≤ n → left_from p n w < left_from p n v
 unfolding left_from
-rose_fewer {p} {n} {v = v} {w = w} {j = j} R is_v low some =
-    let rises = number_rises p v w j (λ s l. sym (R.same s l)) (omega (arith, R.risen some)) n some R.within is_v.below in
-    omega (arith, rises, number_below p w n (rose_candidate R is_v low some).below)
+rose_fewer {p} {n} {v = v} {w = w} {j = j} R is_v low =
+    let rises = number_rises p v w j (λ s l. sym (R.same s l)) (omega (arith, R.risen)) n R.least R.within is_v.below in
+    omega (arith, rises, number_below p w n (rose_candidate R is_v low).below)
 
 -- ---- the search, on a circuit that isn't refused
 
--- the constraints of the level after constraint k in the file hold, and k is of the level, unless it is 0
-pub record Walked (C : Circuit) (level : ℕ → ℕ) (v : ℕ → ℕ) (h k : ℕ) : Type 0 where
-  pub most : k ≤ C.m
-  pub is_level : 1 ≤ k → level k ≡ h
-  pub all : (j : ℕ) → k < j → j ≤ C.m → level j ≡ h → held_at C v j ≡ true
-
--- those of the levels from one on, below a level, hold
-pub record Scanned (C : Circuit) (level : ℕ → ℕ) (v : ℕ → ℕ) (from h : ℕ) : Type 0 where
-  pub least : from ≤ h
-  pub most : h ≤ C.n + 1
-  pub all : (k : ℕ) → 1 ≤ k → k ≤ C.m → from ≤ level k → level k < h → held_at C v k ≡ true
-
--- no solution from the candidate `from` on was passed over, and h is the lowest level that v breaks
-pub record Searching (C : Circuit) (level : ℕ → ℕ) (from v : ℕ → ℕ) (h : ℕ) : Type 0 where
+-- no solution from the candidate `from` on was passed over, and h is the lowest level that v breaks, if it breaks one
+pub record Searching (C : Circuit) (level : ℕ → ℕ) (from v : ℕ → ℕ) (h : Option ℕ) : Type 0 where
   pub candidate : Candidate C.p C.n v
   pub onward : (u : ℕ → ℕ) → Before u from → Before u v
   pub passed : (u : ℕ → ℕ) → Solution C u → Before u v → Before u from
   pub checked : Checked C level v 0 h
 
-module _ {s table heads nexts : List ℕ} {z : Sizes} (Q : Searchable s table heads nexts z) where
+-- whether constraint k holds, by the code
+pub held_by : {s table : List ℕ} {z : Sizes} → Sized s z → Offsets s z.m table → (v : ℕ → ℕ) (k : ℕ) → 1 ≤ k → k ≤ z.m → {part : List ℕ} {b : Bool}
+    → part ≡ part_of s table k → b ≡ holds z.p (constraint_in part) v → held_at (circuit_of s) v k ≡ b
+unfolding held_at
+held_by {s} {table} Z O v k l h e f =
+    let is : constraint_in (part_of s table k) ≡ constraint_at (circuit_of s) k = sized_part Z O k l h in
+    sym (f ∙ rw (e, is, Z.is_p))
+
+-- the constraints from one place on, below another, hold
+abbrev pub HeldWithin : Circuit → (ℕ → ℕ) → List Leveled → ℕ → ℕ → Type 0
+HeldWithin C v order start end = AllWithin (λ x. held_at C v x.constraint ≡ true) order start end
+
+-- the constraints from a level on, by rising level
+module _ (C : Circuit) {level : ℕ → ℕ} {order : List Leveled} (A : Ordered level C.m order) {starts : List ℕ} (B : Starts order starts)
+    (v : ℕ → ℕ) (from : ℕ) (low : from ≤ 10) where
+  abbrev start : ℕ
+  start = get_or starts from 0
+
+  -- those up to place i hold
+  abbrev HeldTo : ℕ → Type 0
+  HeldTo i = HeldWithin C v order start i
+
+  -- so does one of a level that no later one has
+  held_before : (i : ℕ) → HeldTo i → (k : ℕ) → 1 ≤ k → k ≤ C.m → from ≤ level k
+      → ((j : ℕ) (d : Leveled) → i ≤ j → j < length order → (get_or order j d).level ≡ level k → ⊥) → held_at C v k ≡ true
+  held_before i H k l m a later = true_by (held_at C v k) (λ broken. A.whole k l m (λ j d inside q. at broken j d inside q (dec_lt j start) (dec_lt j i)))
+    where
+      at : held_at C v k ≡ false → (j : ℕ) (d : Leveled) → j < length order → (get_or order j d).constraint ≡ k → Dec (j < start) → Dec (j < i) → ⊥
+      at broken j d inside q (yes b) c =
+          let is : (get_or order j d).level ≡ level k = (A.each j d inside).2 ∙ ap level q in
+          omega (arith, (B.parted from low).0 j d (omega arith) b)
+      at broken j d inside q (no b) (yes c) =
+          true_or_false (held_at C v k) (ap (held_at C v) (sym q) ∙ H j d (omega arith) c) broken
+      at broken j d inside q (no b) (no c) = later j d (omega arith) inside ((A.each j d inside).2 ∙ ap level q)
+
+  pub checked_none : HeldTo (length order) → Checked C level v from None
+  checked_none H k l m a =
+      held_before (length order) H k l m a
+      (λ (j : ℕ) (d : Leveled) (x : length order ≤ j) (y : j < length order) (q : (get_or order j d).level ≡ level k). absurd (omega arith))
+
+  pub checked_some : (i : ℕ) (d : Leveled) → start ≤ i → i < length order → HeldTo i → held_at C v (get_or order i d).constraint ≡ false
+      → Checked C level v from (Some (get_or order i d).level)
+  checked_some i d l inside H broken =
+      record {
+        least = (B.parted from low).1 i d l inside;
+        all = λ k x m a b. held_before i H k x m a
+            (λ j e g y q. let same = ap (λ (x : Leveled). x.level) (get_or_default order i d e inside) in omega (arith, A.rising i j e g y));
+        some = record {
+          at = (get_or order i d).constraint;
+          least = (A.each i d inside).0;
+          most = (A.each i d inside).1;
+          is_level = sym (A.each i d inside).2;
+          broken = broken;
+        };
+      }
+
+-- the same as the code goes through them
+module _ {s table : List ℕ} {z : Sizes} (Z : Sized s z) (O : Offsets s z.m table) (order : List Leveled) (starts : List ℕ)
+    (A : Ordered (level_at s table z.n) z.m order) (B : Starts order starts) (v : ℕ → ℕ) (from : ℕ) (low : from ≤ z.n) (few : z.n ≤ 10) where
+  abbrev begin : ℕ
+  begin = get_or starts from 0
+
+  abbrev items : List Leveled
+  items = take (length order - begin) (drop begin order)
+
+  items_are : items ≡ drop begin order
+  items_are = take_all (length order - begin) (drop begin order) (omega (arith, length-drop begin order))
+
+  items_long : length items ≡ z.m - begin
+  items_long = ap length items_are ∙ length-drop begin order ∙ ap (λ (k : ℕ). k - begin) A.sized
+
+  item_at : (i : ℕ) (d : Leveled) → get_or items i d ≡ get_or order (begin + i) d
+  item_at i d = ap (λ (xs : List Leveled). get_or xs i d) items_are ∙ get_or-drop begin order i d
+
+  ordered : Ordered (level_at s table z.n) (circuit_of s).m order
+  ordered = subst (λ (m : ℕ). Ordered (level_at s table z.n) m order) Z.is_m A
+
+  -- whether the constraint at a place holds, by the code
+  held_here : (i : ℕ) (d : Leveled) → i < length items → {part : List ℕ} {b : Bool} → part ≡ part_of s table (get_or items i d).constraint
+      → b ≡ holds z.p (constraint_in part) v → held_at (circuit_of s) v (get_or order (begin + i) d).constraint ≡ b
+  held_here i d inside e f =
+      let within : begin + i < length order = omega (arith, items_long, A.sized) in
+      let x = A.each (begin + i) d within in
+      held_by Z O v (get_or order (begin + i) d).constraint x.0 x.1 (rw (item_at i d) at e) f
+
+  pub broken_here : (i : ℕ) (d : Leveled) → HeldWithin (circuit_of s) v order begin (begin + i) → i < length items → {part : List ℕ} {b : Bool}
+      → part ≡ part_of s table (get_or items i d).constraint → b ≡ holds z.p (constraint_in part) v → b ≡ false
+      → Checked (circuit_of s) (level_at s table z.n) v from (Some (get_or items i d).level)
+  broken_here i d H inside e f broken =
+      rw (item_at i d)
+      (checked_some (circuit_of s) ordered B v from (omega arith) (begin + i) d (omega arith) (omega (arith, items_long, A.sized)) H
+      (held_here i d inside e f ∙ broken))
+
+  pub broken_later : (i : ℕ) (d : Leveled) → HeldWithin (circuit_of s) v order begin (begin + i) → i < length items → {part : List ℕ} {b : Bool}
+      → part ≡ part_of s table (get_or items i d).constraint → b ≡ holds z.p (constraint_in part) v → b ≡ true
+      → HeldWithin (circuit_of s) v order begin (begin + (i + 1))
+  broken_later i d H inside e f holds_here k g l m = at (ℕ_discrete k (begin + i))
+    where
+      at : Dec (k ≡ begin + i) → held_at (circuit_of s) v (get_or order k g).constraint ≡ true
+      at (yes q) =
+          rw (q, get_or_default order (begin + i) g d (omega (arith, items_long, A.sized))) (held_here i d inside e f ∙ holds_here)
+      at (no q) = H k g l (omega arith)
+
+  pub broken_nowhere : (i : ℕ) → HeldWithin (circuit_of s) v order begin (begin + i) → length items ≤ i
+      → Checked (circuit_of s) (level_at s table z.n) v from None
+  broken_nowhere i H end =
+      checked_none (circuit_of s) ordered B v from (omega arith) (λ k d l m. H k d l (omega (arith, items_long, A.sized, B.inside from)))
+
+-- the candidates
+module _ {s table : List ℕ} {z : Sizes} (Z : Sized s z) (O : Offsets s z.m table) (from : ℕ → ℕ) where
   abbrev C : Circuit
   C = circuit_of s
 
   abbrev level : ℕ → ℕ
   level = level_at s table z.n
 
-  -- whether constraint k holds, by the code
-  pub held_by : {v : ℕ → ℕ} {h k : ℕ} → Walked C level v h k → 0 < k → {part : List ℕ} {b : Bool} → part ≡ part_of s table k
-      → b ≡ holds z.p (constraint_in part) v → held_at C v k ≡ b
-  unfolding held_at
-  held_by {v} {k = k} W some {part} e f =
-      let is : constraint_in (part_of s table k) ≡ constraint_at C k = sized_part Q.sized Q.offsets k some (omega (arith, W.most, Q.sized.is_m)) in
-      sym (f ∙ rw (e, is, Q.sized.is_p))
+  pub search_start : {h : Option ℕ} → Candidate z.p z.n from → Checked C level from 0 h → Searching C level from from h
+  search_start is K = record { candidate = rw (← Z.is_p, ← Z.is_n) is; onward = λ u b. b; passed = λ u S b. b; checked = K }
 
-  pub walk_inside : {v : ℕ → ℕ} {h k : ℕ} → Walked C level v h k → k < length nexts
-  walk_inside W = omega (arith, W.most, Q.sized.is_m, Q.nexts_long)
+  pub search_candidate : {v : ℕ → ℕ} {h : Option ℕ} → Searching C level from v h → Candidate z.p z.n v
+  search_candidate S = rw (Z.is_p, Z.is_n) S.candidate
 
-  pub walk_less : {v : ℕ → ℕ} {h k : ℕ} → Walked C level v h k → 0 < k → get_or nexts k 0 < k
-  walk_less {k = k} W some = Q.chains.next_less k some (omega (arith, W.most, Q.sized.is_m))
+  module _ {v : ℕ → ℕ} {h : ℕ} (S : Searching C level from v (Some h)) where
+    is_v : Candidate z.p z.n v
+    is_v = search_candidate S
 
-  -- the constraints of one level
-  module _ (v : ℕ → ℕ) (h : ℕ) where
-    pub walk_start : h ≤ z.n → Walked C level v h (get_or heads h 0)
-    walk_start low =
-        let few = Q.sized.is_m in
+    pub search_low : h ≤ z.n
+    search_low = omega (arith, S.checked.some.is_level, level_most s table z.n S.checked.some.at)
+
+    -- a solution differs from v up to the level of a constraint that v breaks
+    differs : (u : ℕ → ℕ) → Solution C u → ((t : ℕ) → t ≤ h → u t ≡ v t) → ⊥
+    differs u X same =
+        let B = S.checked.some in
+        let agree = held_agree Z O B.at B.least (omega (arith, B.most, Z.is_m)) u v (λ t l m. same t (omega (arith, B.is_level))) in
+        true_or_false (held_at C v B.at) (sym agree ∙ X.holds B.at B.least B.most) B.broken
+
+    solution_candidate : (u : ℕ → ℕ) → Solution C u → Candidate z.p z.n u
+    solution_candidate u X = rw (Z.is_p, Z.is_n) X.candidate
+
+    pub search_ended : {w : ℕ → ℕ} → Ended z.p z.n h v w → Sought C from w false
+    search_ended E =
         record {
-          most = omega (arith, Q.chains.head_most h);
-          is_level = Q.chains.head_level h;
-          all = λ j l m e. absurd (Q.chains.head_last h j (omega (arith, Q.heads_long)) l (omega arith) e);
+          reached = λ e. true_or_false false e refl;
+          no_more = λ e u X. S.passed u X (exhausted E is_v search_low (solution_candidate u X) (differs u X));
         }
 
-    pub walk_again : (k : ℕ) → Walked C level v h k → 0 < k → held_at C v k ≡ true → Walked C level v h (get_or nexts k 0)
-    walk_again k W some held =
-        let few = Q.sized.is_m in
-        let less = Q.chains.next_less k some (omega (arith, W.most)) in
-        record {
-          most = omega (arith, W.most);
-          is_level = λ l. Q.chains.next_level k some (omega (arith, W.most)) l ∙ W.is_level some;
-          all = λ j l m e. all j l m e (dec_lt k j) (ℕ_discrete k j);
-        }
-      where
-        all : (j : ℕ) → get_or nexts k 0 < j → j ≤ C.m → level j ≡ h → Dec (k < j) → Dec (k ≡ j) → held_at C v j ≡ true
-        all j l m e (yes a) b = W.all j a m e
-        all j l m e (no a) (yes b) = rw b at held
-        all j l m e (no a) (no b) =
-            absurd (Q.chains.next_last k j some (omega (arith, W.most, Q.sized.is_m)) l (omega arith) (e ∙ sym (W.is_level some)))
+    module _ {w : ℕ → ℕ} {j : ℕ} (R : Rose z.p z.n h v w j) where
+      pub search_fewer : left_from z.p z.n w < left_from z.p z.n v
+      search_fewer = rose_fewer R is_v search_low
 
-    pub walk_broken : (k : ℕ) → Walked C level v h k → 0 < k → held_at C v k ≡ false → Judged C level v h false
-    walk_broken k W some broken =
-        record {
-          all = λ e. true_or_false false e refl;
-          some = λ e. record { at = k; least = some; most = W.most; is_level = W.is_level some; broken = broken };
-        }
-
-    pub walk_end : (k : ℕ) → Walked C level v h k → k ≤ 0 → Judged C level v h true
-    walk_end k W none = record { all = λ e j l m. W.all j (omega arith) m; some = λ e. true_or_false true refl e }
-
-  -- the levels from one on
-  module _ (v : ℕ → ℕ) (from : ℕ) where
-    pub scan_start : from ≤ z.n → Scanned C level v from from
-    scan_start low =
-        record {
-          least = omega arith;
-          most = omega (arith, Q.sized.is_n);
-          all = λ (k : ℕ) (l : 1 ≤ k) (m : k ≤ C.m) (a : from ≤ level k) (b : level k < from). absurd (omega arith);
-        }
-
-    pub scan_again : (h : ℕ) → Scanned C level v from h → h ≤ z.n → {b : Bool} → Judged C level v h b → b ≡ true → Scanned C level v from (h + 1)
-    scan_again h S low J held =
-        record { least = omega (arith, S.least); most = omega (arith, Q.sized.is_n); all = λ k l m a b. all k l m a b (ℕ_discrete (level k) h) }
-      where
-        all : (k : ℕ) → 1 ≤ k → k ≤ C.m → from ≤ level k → level k < h + 1 → Dec (level k ≡ h) → held_at C v k ≡ true
-        all k l m a b (yes e) = J.all held k l m e
-        all k l m a b (no d) = S.all k l m a (omega arith)
-
-    pub scan_broken : (h : ℕ) → Scanned C level v from h → {b : Bool} → Judged C level v h b → b ≡ false → Checked C level v from h
-    scan_broken h S J broken = record { most = S.most; all = S.all; some = λ low. J.some broken }
-
-    pub scan_end : (h : ℕ) → Scanned C level v from h → z.n < h → Checked C level v from h
-    scan_end h S high =
-        record { most = S.most; all = S.all; some = λ (low : h ≤ C.n). absurd (omega (arith, Q.sized.is_n)) }
-
-  -- the candidates
-  module _ (from : ℕ → ℕ) where
-    pub search_start : {h : ℕ} → Candidate z.p z.n from → Checked C level from 0 h → Searching C level from from h
-    search_start is K =
-        record { candidate = rw (← Q.sized.is_p, ← Q.sized.is_n) is; onward = λ u b. b; passed = λ u S b. b; checked = K }
-
-    pub search_candidate : {v : ℕ → ℕ} {h : ℕ} → Searching C level from v h → Candidate z.p z.n v
-    search_candidate S = rw (Q.sized.is_p, Q.sized.is_n) S.candidate
-
-    module _ {v w : ℕ → ℕ} {h j : ℕ} (S : Searching C level from v h) (low : h ≤ z.n) (R : Rose z.p z.n h v w j) where
-      is_v : Candidate z.p z.n v
-      is_v = search_candidate S
-
-      -- a solution differs from v up to the level of a constraint that v breaks
-      differs : (u : ℕ → ℕ) → Solution C u → ((t : ℕ) → t ≤ h → u t ≡ v t) → ⊥
-      differs u X same =
-          let B = S.checked.some (omega (arith, Q.sized.is_n)) in
-          let agree = held_agree Q.sized Q.offsets B.at B.least (omega (arith, B.most, Q.sized.is_m)) u v
-          (λ t l m. same t (omega (arith, B.is_level))) in
-          true_or_false (held_at C v B.at) (sym agree ∙ X.holds B.at B.least B.most) B.broken
-
-      pub step_passed : 1 ≤ j → (u : ℕ → ℕ) → Solution C u → Before u w → Before u from
-      step_passed some u X b =
-          S.passed u X (skipped R is_v low (rw (Q.sized.is_p, Q.sized.is_n) X.candidate) (differs u X) some b)
-
-      pub search_none : j ≡ 0 → Sought C from w false
-      search_none none =
+      pub search_again : {i : Option ℕ} → Checked C level w j i → Searching C level from w i
+      search_again {i} K =
           record {
-            reached = λ e. true_or_false false e refl;
-            no_more = λ e u X. S.passed u X (exhausted R is_v low (rw (Q.sized.is_p, Q.sized.is_n) X.candidate) (differs u X) none);
-          }
-
-      pub search_fewer : 1 ≤ j → left_from z.p z.n w < left_from z.p z.n v
-      search_fewer some = rose_fewer R is_v low some
-
-      pub search_again : 1 ≤ j → (i : ℕ) → Checked C level w j i → Searching C level from w i
-      search_again some i K =
-          record {
-            candidate = rw (← Q.sized.is_p, ← Q.sized.is_n) (rose_candidate R is_v low some);
-            onward = λ u b. before_trans (S.onward u b) (rose_before R is_v low some);
-            passed = step_passed some;
-            checked = record { most = K.most; all = λ k l m a b. all k l m b (dec_le j (level k)); some = K.some };
+            candidate = rw (← Z.is_p, ← Z.is_n) (rose_candidate R is_v search_low);
+            onward = λ u b. before_trans (S.onward u b) (rose_before R is_v search_low);
+            passed = λ u X b. S.passed u X (skipped R is_v search_low (solution_candidate u X) (differs u X) b);
+            checked = from_start i K;
           }
         where
-          all : (k : ℕ) → 1 ≤ k → k ≤ C.m → level k < i → Dec (j ≤ level k) → held_at C w k ≡ true
-          all k l m b (yes a) = K.all k l m a b
-          all k l m b (no a) =
-              held_agree Q.sized Q.offsets k l (omega (arith, Q.sized.is_m)) w v (λ t c d. R.same t (omega arith))
+          -- what lies below the signal that rose holds as before
+          below : (k : ℕ) → 1 ≤ k → k ≤ C.m → level k < j → held_at C w k ≡ true
+          below k l m a =
+              held_agree Z O k l (omega (arith, Z.is_m)) w v (λ t c d. R.same t (omega arith))
               ∙ S.checked.all k l m (omega arith) (omega (arith, R.most))
 
-    pub search_found : {v : ℕ → ℕ} {h : ℕ} → Searching C level from v h → z.n < h → Sought C from v true
-    search_found S high =
-        record {
-          reached = λ e.
+          from_start : (i : Option ℕ) → Checked C level w j i → Checked C level w 0 i
+          from_start None K = λ k l m a. elim (dec_le j (level k)) [ yes b ↦ K k l m b | no b ↦ below k l m (omega arith) ]
+          from_start (Some i) K =
               record {
-                solution = record {
-                  candidate = S.candidate;
-                  holds = λ k l m. S.checked.all k l m (omega arith) (omega (arith, level_most s table z.n k));
-                };
-                onward = S.onward;
-                passed = S.passed;
-              };
-          no_more = λ e. true_or_false true refl e;
-        }
+                least = omega arith;
+                all = λ k l m a b. elim (dec_le j (level k)) [ yes c ↦ K.all k l m c b | no c ↦ below k l m (omega arith) ];
+                some = K.some;
+              }
+
+  pub search_found : {v : ℕ → ℕ} → Searching C level from v None → Sought C from v true
+  search_found S =
+      record {
+        reached = λ e.
+            record {
+              solution = record { candidate = S.candidate; holds = λ k l m. S.checked k l m (omega arith) };
+              onward = S.onward;
+              passed = S.passed;
+            };
+        no_more = λ e. true_or_false true refl e;
+      }

@@ -2,23 +2,24 @@
 -- a given one.
 use Prim.Native.Nat.{ℕ, zero, suc, ◌≤◌, ◌<◌}
 use mathlib.Core.Path.{◌≡◌, refl, sym, ap, ◌∙◌, fun_ext}
-use mathlib.Core.Logic.{inl, ⊎_elim}
-use mathlib.Core.Bool.{Bool, true}
-use mathlib.Core.List.{List, ◌∷◌}
+use mathlib.Core.Bool.{Bool, true, false}
+use mathlib.Core.List.{List, [], ◌∷◌}
 use mathlib.Core.Option.{none, some}
 use native.Mathlib.Decide.{dec_le, dec_lt}
 use native.Mathlib.Omega.{arith}
-use lib.ListN.{length, get_or, set, take, drop, replicate, get_or-eq_default, length-take, length-drop}
+use lib.ListN.{length, get_or, take, drop, get_or-eq_default, length-take, length-drop}
 use lib.Seq.{get_or-take, get_or-drop}
 use Rattle.circuit.specs.Circuit.{Circuit, constraint_at, value_of, Satisfying}
 use Rattle.circuit.specs.Run.{values_in}
 use Rattle.circuit.specs.Answer.{Answer, given}
-use Rattle.circuit.proofs.CopyLaws.{zeros}
+use Rattle.std.specs.Prelude.{Ok}
+use Rattle.laws.proofs.Sum.{true_or_false}
+use Rattle.runs.specs.Answer.{paper_of, run_answer}
 use Rattle.circuit.proofs.RunLaws.{holds_satisfies, satisfies_holds}
 use Rattle.runs.specs.Order.{Before}
 use Rattle.runs.specs.Call.{Found, left_by}
 use Rattle.runs.specs.Listed.{EachBelow, Least, IsLeast, Later}
-use Rattle.runs.specs.Inner.{Candidate, Rose, held_at, Solution, Reached, Sought, Seeks, Answers}
+use Rattle.runs.specs.Inner.{Candidate, Rose, Ended, held_at, Solution, Reached, Sought, Seeks, Answers}
 use Rattle.runs.proofs.Orders.{before_not}
 use Rattle.runs.proofs.Listed.{least_unique}
 use Rattle.runs.proofs.SearchLaws.{rose_before, skipped, exhausted}
@@ -65,23 +66,22 @@ satisfying_solution {C} positive run S =
     }
 
 -- the search writes the run of the candidate that it stopped at
-pub seek_found : {C : Circuit} {from : ℕ → ℕ} {answer left : List ℕ} (values : List ℕ) {found : Bool} → Sought C from (values_in values) found → found ≡ true
-    → length answer ≡ C.n → C.n < length values → left ≡ take (length answer) (drop 1 values) → Seeks C from answer (given (some left)) left
-seek_found {C} {from} {answer} {left} values S e room long is =
-    record {
-      either = inl refl;
-      reached = λ z. (sized, rw (run, written_values values R.solution.candidate) R);
-      no_more = λ z. let q : ◌≡◌ {A = ℕ} 0 1 = cc in absurd (omega arith);
-    }
+pub seek_found : {C : Circuit} {from : ℕ → ℕ} {answer left : List ℕ} (values : List ℕ) → Sought C from (values_in values) true
+    → C.n < length values → {count : ℕ} → count ≡ C.n → left ≡ take count (drop 1 values) → Seeks C from answer true left
+seek_found {C} {from} {answer} {left} values S long room is =
+    record { reached = λ z. (sized, rw (run, written_values values R.solution.candidate) R); no_more = λ e. true_or_false true refl e }
   where
     R : Reached C from (values_in values)
-    R = S.reached e
+    R = S.reached refl
 
     run : left ≡ take C.n (drop 1 values)
     run = rw room at is
 
     sized : length left ≡ C.n
     sized = omega (arith, ap length run, length-take C.n (drop 1 values), length-drop 1 values)
+
+pub seek_none : {C : Circuit} {from v : ℕ → ℕ} (answer : List ℕ) → Sought C from v false → Seeks C from answer false answer
+seek_none answer S = record { reached = λ e. true_or_false false e refl; no_more = λ e. (refl, S.no_more e) }
 
 -- ---- the least of the runs with a property, which are solutions from a candidate on
 
@@ -111,54 +111,47 @@ module _ {C : Circuit} (P : List ℕ → Type 0) (from : ℕ → ℕ)
   module _ (sized : (run : List ℕ) → P run → length run ≡ C.n)
       (has : (run : List ℕ) → length run ≡ C.n → Reached C from (value_of run) → P run) where
     -- the search gives that least run
-    pub seek_least : {x : Found} → IsLeast P x → {answer left : List ℕ} {r : Answer Found} → Seeks C from answer r left → Answers (given x) answer r left
-    seek_least {x} X {answer} {left} {r} S = ⊎_elim found none_left S.either
-      where
-        found : r ≡ given (some left) → Answers (given x) answer r left
-        found e =
-            let R = S.reached e in
-            let is : x ≡ some left = least_unique P C.n sized X (reached_least (has left R.0 R.1) R.1) in
-            rw (is, e) (answers_by refl refl)
-
-        none_left : r ≡ given none → Answers (given x) answer r left
-        none_left e =
-            let N = S.no_more e in
-            let is : x ≡ none = least_unique P C.n sized X (none_least N.1) in
-            rw (is, e) (answers_by refl N.0)
+    pub seek_least : {x : Found} → IsLeast P x → {answer left : List ℕ} {found : Bool} → Seeks C from answer found left
+        → Answers (given x) answer (paper_of (run_answer (Ok found)) left) left
+    seek_least {x} X {answer} {left} {found = true} S =
+        let R = S.reached refl in
+        let is : x ≡ some left = least_unique P C.n sized X (reached_least (has left R.0 R.1) R.1) in
+        rw is (answers_by refl refl)
+    seek_least {x} X {answer} {left} {found = false} S =
+        let N = S.no_more refl in
+        let is : x ≡ none = least_unique P C.n sized X (none_least N.1) in
+        rw is (answers_by refl N.0)
 
 -- ---- the first run: from the candidate of zeros
 
-abbrev pub start : List ℕ
-start = set (replicate 11 0) 0 1
+no_value : (s : ℕ) → 1 ≤ s → value_of [] s ≡ 0
+unfolding value_of
+no_value zero l = absurd (omega arith)
+no_value (suc s) l = refl
 
-start_zero : (s : ℕ) → 1 ≤ s → values_in start s ≡ 0
-unfolding values_in
-start_zero zero l = absurd (omega arith)
-start_zero (suc s) l = zeros 10 s
+constant_one : value_of [] 0 ≡ 1
+unfolding value_of
+constant_one = refl
 
-start_one : values_in start 0 ≡ 1
-unfolding values_in
-start_one = refl
-
-pub start_candidate : (p n : ℕ) → 0 < p → Candidate p n (values_in start)
+pub start_candidate : (p n : ℕ) → 0 < p → Candidate p n (value_of [])
 start_candidate p n positive =
     record {
-      constant = start_one;
-      below = λ s l m. omega (arith, start_zero s l);
-      past = λ (s : ℕ) (l : n < s). start_zero s (omega arith);
+      constant = constant_one;
+      below = λ s l m. omega (arith, no_value s l);
+      past = λ (s : ℕ) (l : n < s). no_value s (omega arith);
     }
 
-start_first : {p n : ℕ} {u : ℕ → ℕ} → Candidate p n u → Before u (values_in start) → ⊥
+start_first : {p n : ℕ} {u : ℕ → ℕ} → Candidate p n u → Before u (value_of []) → ⊥
 start_first {u = u} K B = go B.at B.less
   where
-    go : (s : ℕ) → u s < values_in start s → ⊥
-    go zero l = omega (arith, K.constant, start_one)
-    go (suc s) l = omega (arith, start_zero (suc s) (omega arith))
+    go : (s : ℕ) → u s < value_of [] s → ⊥
+    go zero l = omega (arith, K.constant, constant_one)
+    go (suc s) l = omega (arith, no_value (suc s) (omega arith))
 
-pub first_answers : {C : Circuit} → 0 < C.p → {x : Found} → IsLeast (Satisfying C) x → {answer left : List ℕ} {r : Answer Found}
-    → Seeks C (values_in start) answer r left → Answers (given x) answer r left
+pub first_answers : {C : Circuit} → 0 < C.p → {x : Found} → IsLeast (Satisfying C) x → {answer left : List ℕ} {found : Bool}
+    → Seeks C (value_of []) answer found left → Answers (given x) answer (paper_of (run_answer (Ok found)) left) left
 first_answers {C} positive =
-    seek_least (Satisfying C) (values_in start)
+    seek_least (Satisfying C) (value_of [])
     (λ run S. let X = satisfying_solution positive run S in (X, start_first X.candidate))
     (λ run S. S.is_run.sized)
     (λ run e R. solution_satisfying run e R.solution)
@@ -173,33 +166,33 @@ later_differs {n = n} {u = u} {v = v} K B same = go (dec_le B.at n)
     go (yes l) = omega (arith, B.less, same B.at l)
     go (no l) = omega (arith, B.less, K.past B.at (omega arith))
 
-module _ {C : Circuit} (positive : 0 < C.p) (run : List ℕ) (is_v : Candidate C.p C.n (value_of run)) {w : ℕ → ℕ} {j : ℕ}
-    (R : Rose C.p C.n C.n (value_of run) w j) where
-  pub next_answers : 1 ≤ j → {x : Found} → IsLeast (Later C run) x → {answer left : List ℕ} {r : Answer Found}
-      → Seeks C w answer r left → Answers (given x) answer r left
-  next_answers rises =
+module _ {C : Circuit} (positive : 0 < C.p) (run : List ℕ) (is_v : Candidate C.p C.n (value_of run)) where
+  pub next_answers : {w : ℕ → ℕ} {j : ℕ} → Rose C.p C.n C.n (value_of run) w j → {x : Found} → IsLeast (Later C run) x
+      → {answer left : List ℕ} {found : Bool} → Seeks C w answer found left → Answers (given x) answer (paper_of (run_answer (Ok found)) left) left
+  next_answers {w} R =
       seek_least (Later C run) w onward (λ other L. L.satisfies.is_run.sized)
       (λ other e F. record {
         satisfies = solution_satisfying other e F.solution;
-        later = F.onward (value_of run) (rose_before R is_v (omega arith) rises);
+        later = F.onward (value_of run) (rose_before R is_v (omega arith));
       })
     where
       onward : (other : List ℕ) → Later C run other → Solution C (value_of other) × (Before (value_of other) w → ⊥)
       onward other L =
           let X = satisfying_solution positive other L.satisfies in
-          (X, λ b. before_not L.later (skipped R is_v (omega arith) X.candidate (later_differs X.candidate L.later) rises b))
+          (X, λ b. before_not L.later (skipped R is_v (omega arith) X.candidate (later_differs X.candidate L.later) b))
 
   -- where the given run is the last candidate, no run comes after it
-  none_later : j ≡ 0 → IsLeast (Later C run) none
-  none_later last =
-      record {
-        found = λ run e. let q : ◌≡◌ {A = ℕ} 0 1 = cc in absurd (omega arith);
-        no_more = λ e other L.
-            let K = (satisfying_solution positive other L.satisfies).candidate in
-            before_not L.later (exhausted R is_v (omega arith) K (later_differs K L.later) last);
-      }
-
-  pub over_answers : j ≡ 0 → {x : Found} → IsLeast (Later C run) x → {answer : List ℕ} → Answers (given x) answer (given none) answer
-  over_answers last {x} X =
-      let is : x ≡ none = least_unique (Later C run) C.n (λ other L. L.satisfies.is_run.sized) X (none_later last) in
+  pub over_answers : {w : ℕ → ℕ} → Ended C.p C.n C.n (value_of run) w → {x : Found} → IsLeast (Later C run) x → (answer : List ℕ)
+      → Answers (given x) answer (given none) answer
+  over_answers E {x} X answer =
+      let is : x ≡ none = least_unique (Later C run) C.n (λ other L. L.satisfies.is_run.sized) X none_later in
       rw is (answers_by refl refl)
+    where
+      none_later : IsLeast (Later C run) none
+      none_later =
+          record {
+            found = λ run e. let q : ◌≡◌ {A = ℕ} 0 1 = cc in absurd (omega arith);
+            no_more = λ e other L.
+                let K = (satisfying_solution positive other L.satisfies).candidate in
+                before_not L.later (exhausted E is_v (omega arith) K (later_differs K L.later));
+          }

@@ -1,60 +1,50 @@
 // Candidates: n values below p, counted up with signal n as the lowest digit.
 
-ghost use Rattle.std.specs.Prelude.{◌≡◌, ◌≤◌, ◌<◌, length};
+ghost use Rattle.std.specs.Prelude.{◌≡◌, ◌≤◌, ◌<◌, length, MatchOption};
 ghost use Rattle.circuit.specs.Run.{values_in};
-ghost use Rattle.circuit.specs.Runs.{first_from};
+ghost use Rattle.circuit.specs.Runs.{found, first_from};
 ghost use Rattle.runs.specs.Call.{few as Call·few, fits};
-ghost use Rattle.runs.specs.Inner.{Candidate, Rose};
+ghost use Rattle.runs.specs.Inner.{Candidate, Rose, Ended};
+
+const CANDIDATES_MOST: u32 = 65536;
 
 // Refusal 30 is not met: p to the power n is at most 65,536.
+#[tactic(auto, unfolding(crate::specs::Call::few))]
 pub(crate) fn few(p: u32, n: u32) -> bool
-    requires { 1 ≤ p }
     ensures { result ≡ Call·few p n }
 {
-    let mut power: u64 = 1;
-    let mut k: u32 = 0;
-    while k < n {
-        power = power * (p as u64);
-        if 65536 < power {
-            return false;
-        }
-        k = k + 1;
-    }
-    true
+    p.checked_pow(n)
+        .is_some_and(|candidates| candidates <= CANDIDATES_MOST)
 }
 
-// The first signal whose value in a given run isn't below p; 0 where there is none.
-pub(crate) fn first_unfit(run: &[u32], p: u32) -> u32
+// The first signal whose value in a given run isn't below p.
+pub(crate) fn first_unfit(run: &[u32], p: u32) -> Option<u32>
     requires { length run.now ≤ 256 }
-    ensures { result ≡ first_from (fits p run.now) 1 (length run.now) }
+    ensures { result ≡ found (first_from (fits p run.now) 1 (length run.now)) }
 {
-    let mut s: u32 = 0;
-    while (s as usize) < run.len() {
-        let value = run[s as usize];
-        s = s + 1;
+    for (index, &value) in run.iter().enumerate() {
         if p <= value {
-            return s;
+            return Some(index as u32 + 1);
         }
     }
-    0
+    None
 }
 
-// Goes to the next candidate that differs among the first h signals, and gives the signal that has risen; 0 where there is none.
-pub(crate) fn advance(values: &mut [u32], p: u32, n: u32, h: u32) -> u32
+// Goes to the next candidate that differs among the first h signals, and gives the signal that has risen, if there is one.
+pub(crate) fn advance(values: &mut [u32], p: u32, n: u32, h: u32) -> Option<u32>
     requires { (n < length values.old) × Candidate p n (values_in values.old) }
-    ensures rose { Rose p n h (values_in values.old) (values_in values.new) result }
+    ensures rose { MatchOption result
+        (Ended p n h (values_in values.old) (values_in values.new))
+        (Rose p n h (values_in values.old) (values_in values.new)) }
     ensures sized { length values.new ≡ length values.old }
 {
-    let mut s = n;
-    while 0 < s {
-        let place = s as usize;
-        let value = values[place] + 1;
+    for s in (1..=n).rev() {
+        let value = values[s as usize] + 1;
         if s <= h && value < p {
-            values[place] = value;
-            return s;
+            values[s as usize] = value;
+            return Some(s);
         }
-        values[place] = 0;
-        s = s - 1;
+        values[s as usize] = 0;
     }
-    0
+    None
 }

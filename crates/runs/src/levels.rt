@@ -1,57 +1,83 @@
 // Constraints by their level, the highest signal that they name: once the signals up to it have their values, a constraint holds or is broken.
 
-ghost use Rattle.std.specs.Prelude.{◌≡◌, ℕ, ◌≤◌, ◌<◌, max, length};
-ghost use Rattle.runs.specs.Inner.{last_signal, level_in, level_at, Chains, Linkable};
+ghost use Rattle.std.specs.Prelude.{◌≡◌, ◌≤◌, take, length};
+ghost use Rattle.std.specs.List.Sorted.{IsNonDecreasingBy};
+ghost use Rattle.runs.specs.Inner.{last_signal, level_in, level_at, Ordered, Starts};
 
 use circuit::bytes::{byte_at, u16_at};
-use circuit::offsets::part_of;
+use circuit::file::Constraints;
 use circuit::reader::after_form;
 
+// The levels of at most 10 signals.
+pub(crate) const LEVELS: usize = 11;
+
+// A constraint with its level, in few bytes: for a small circuit clearing the room for 512 of them takes longer than the work.
+#[derive(Clone, Copy, Debug, PartialEq, Eq)]
+pub(crate) struct Leveled {
+    pub(crate) level: u16,
+    pub(crate) constraint: u16,
+}
+
+impl Leveled {
+    pub(crate) const NONE: Leveled = Leveled {
+        level: 0,
+        constraint: 0,
+    };
+}
+
 // The signal of a form's last term, 0 where it has none. The terms of a form that was read rise, so it is the highest.
+// Stays: 0 is the level of such a form, as of one with just the constant; an option would be opened to 0 by its one caller.
+#[tactic(auto, unfolding(crate::specs::Inner::last_signal))]
 fn last_signal(part: &[u8]) -> u32
     ensures { result ≡ last_signal part.now }
 {
     let count = byte_at(part, 0) as usize;
     if count == 0 {
-        return 0;
+        0
+    } else {
+        u16_at(part, 6 * count - 5)
     }
-    u16_at(part, 6 * count - 5)
-}
-
-fn larger(a: u32, b: u32) -> u32
-    ensures { result ≡ max a b }
-{
-    if a < b { b } else { a }
 }
 
 // The level of the constraint that a part starts with, n at most whatever the bytes are.
+#[tactic(auto, unfolding(crate::specs::Inner::level_in))]
 fn level_of(part: &[u8], n: u32) -> u32
     ensures { result ≡ level_in n part.now }
 {
     let b = after_form(part);
     let c = after_form(b);
-    let level = larger(last_signal(part), larger(last_signal(b), last_signal(c)));
-    if level < n { level } else { n }
+    last_signal(part)
+        .max(last_signal(b))
+        .max(last_signal(c))
+        .min(n)
 }
 
-// Links the constraints of each level, from the last to the first.
-pub(crate) fn link(
-    circuit: &[u8],
-    table: &[u32],
-    heads: &mut [u32],
-    nexts: &mut [u32],
-    n: u32,
-    m: u32,
-)
-    requires { Linkable heads.old nexts.old n m }
-    ensures linked { Chains (level_at circuit.now table.now n) m heads.new nexts.new }
-    ensures sized { (length heads.new ≡ length heads.old) × (length nexts.new ≡ length nexts.old) }
+// Writes the constraints by rising level, and on one level from the last on, where the sort has nothing to move.
+pub(crate) fn by_level(constraints: &Constraints, order: &mut [Leveled])
+    requires { (constraints.now.file.sizes.n ≤ 10) × (length order.old ≡ constraints.now.file.sizes.m) }
+    ensures { let file = constraints.now.file in
+        Ordered (level_at file.bytes.now constraints.now.offsets file.sizes.n) file.sizes.m order.new }
 {
-    let mut k: u32 = 0;
-    while k < m {
-        k = k + 1;
-        let level = level_of(part_of(circuit, table, k), n) as usize;
-        nexts[k as usize] = heads[level];
-        heads[level] = k;
+    let sizes = constraints.file.sizes;
+    for i in 0..sizes.m {
+        let k = sizes.m - i;
+        let level = level_of(constraints.part(k), sizes.n);
+        order[i as usize] = Leveled {
+            level: level as u16,
+            constraint: k as u16,
+        };
     }
+    order.sort_unstable_by_key(|leveled| leveled.level);
+}
+
+// Where the constraints of each level begin.
+pub(crate) fn starts(order: &[Leveled]) -> [usize; LEVELS]
+    requires { IsNonDecreasingBy (λ x. x.level) order.now }
+    ensures { Starts order.now result }
+{
+    let mut starts = [0; LEVELS];
+    for level in 0..LEVELS {
+        starts[level] = order.partition_point(|leveled| (leveled.level as usize) < level);
+    }
+    starts
 }

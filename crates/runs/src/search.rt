@@ -1,84 +1,76 @@
 // The search for a run: candidates in rising order, those passed over as a whole whose first signals already break a constraint.
 
-ghost use Rattle.std.specs.Prelude.{◌≡◌, ◌+◌, ◌≤◌, ◌<◌, length};
+ghost use Rattle.std.specs.Prelude.{◌≡◌, ◌≤◌, ◌<◌, length};
 ghost use Rattle.circuit.specs.Run.{values_in};
 ghost use Rattle.circuit.specs.Call.{circuit_of};
-ghost use Rattle.runs.specs.Inner.{level_at, Searchable, Candidate, Judged, Checked, Sought};
+ghost use Rattle.runs.specs.Inner.{level_at, Ordered, Starts, Candidate, Checked, Sought};
 
 use crate::candidates::advance;
-use circuit::offsets::part_of;
-use circuit::reader::Sizes;
+use crate::levels::{LEVELS, Leveled, starts};
+use circuit::file::Constraints;
 use circuit::run::satisfied;
 
-// Whether the values satisfy each constraint of a level.
-fn level_holds(
-    circuit: &[u8],
-    table: &[u32],
-    heads: &[u32],
-    nexts: &[u32],
-    values: &[u32],
-    sizes: Sizes,
-    level: u32,
-) -> bool
-    requires { Searchable circuit.now table.now heads.now nexts.now sizes × (level ≤ sizes.n) }
-    ensures { Judged (circuit_of circuit.now) (level_at circuit.now table.now sizes.n)
-        (values_in values.now) level result }
-{
-    let mut k = heads[level as usize];
-    while 0 < k {
-        if !satisfied(part_of(circuit, table, k), values, sizes.p) {
-            return false;
-        }
-        k = nexts[k as usize];
-    }
-    true
+// A circuit of at most 10 signals with its constraints by rising level.
+#[derive(Clone, Copy, Debug, PartialEq, Eq)]
+pub(crate) struct Levels<'a> {
+    constraints: &'a Constraints<'a>,
+    order: &'a [Leveled],
+    starts: [usize; LEVELS],
+    ghost few: { constraints.now.file.sizes.n ≤ 10 },
+    ghost ordered: { let file = constraints.now.file in
+        Ordered (level_at file.bytes.now constraints.now.offsets file.sizes.n) file.sizes.m order.now },
+    ghost begun: { Starts order.now starts },
 }
 
-// The lowest level, from one on, at which the values break a constraint; n + 1 where there is none.
-fn broken_level(
-    circuit: &[u8],
-    table: &[u32],
-    heads: &[u32],
-    nexts: &[u32],
-    values: &[u32],
-    sizes: Sizes,
-    from: u32,
-) -> u32
-    requires { Searchable circuit.now table.now heads.now nexts.now sizes × (from ≤ sizes.n) }
-    ensures { Checked (circuit_of circuit.now) (level_at circuit.now table.now sizes.n)
-        (values_in values.now) from result }
-{
-    let mut level = from;
-    while level <= sizes.n {
-        if !level_holds(circuit, table, heads, nexts, values, sizes, level) {
-            return level;
+impl<'a> Levels<'a> {
+    pub(crate) fn new(constraints: &'a Constraints<'a>, order: &'a [Leveled]) -> Levels<'a>
+        requires few { constraints.now.file.sizes.n ≤ 10 }
+        requires ordered { let file = constraints.now.file in
+            Ordered (level_at file.bytes.now constraints.now.offsets file.sizes.n) file.sizes.m order.now }
+        ensures { result.constraints.now ≡ constraints.now }
+    {
+        Levels {
+            constraints,
+            order,
+            starts: starts(order),
         }
-        level = level + 1;
     }
-    level
-}
 
-// Goes to the first candidate that satisfies the circuit, from the one that the values are on. Whether there is one.
-pub(crate) fn search(
-    circuit: &[u8],
-    table: &[u32],
-    heads: &[u32],
-    nexts: &[u32],
-    values: &mut [u32],
-    sizes: Sizes,
-) -> bool
-    requires { Searchable circuit.now table.now heads.now nexts.now sizes × (sizes.n < length values.old)
-        × Candidate sizes.p sizes.n (values_in values.old) }
-    ensures sought { Sought (circuit_of circuit.now) (values_in values.old) (values_in values.new) result }
-    ensures sized { length values.new ≡ length values.old }
-{
-    let mut level = broken_level(circuit, table, heads, nexts, values, sizes, 0);
-    while level <= sizes.n {
-        let risen = advance(values, sizes.p, sizes.n, level);
-        if risen == 0 {
-            return false;
+    // The lowest level, from one on, at which the values break a constraint.
+    fn broken(&self, values: &[u32], from: u32) -> Option<u32>
+        requires { from ≤ self.now.constraints.now.file.sizes.n }
+        ensures { let file = self.now.constraints.now.file in
+            Checked (circuit_of file.bytes.now)
+            (level_at file.bytes.now self.now.constraints.now.offsets file.sizes.n)
+            (values_in values.now) from result }
+    {
+        let sizes = self.constraints.file.sizes;
+        for leveled in &self.order[self.starts[from as usize]..] {
+            let part = self.constraints.part(u32::from(leveled.constraint));
+            if !satisfied(part, values, sizes.p) {
+                return Some(u32::from(leveled.level));
+            }
         }
-        level = broken_level(circuit, table, heads, nexts, values, sizes, risen);
+        None
     }
-    true
+
+    // Goes to the first candidate that satisfies the circuit, from the one that the values are on. Whether there is one.
+    pub(crate) fn search(&self, values: &mut [u32]) -> bool
+        requires { let sizes = self.now.constraints.now.file.sizes in
+            (sizes.n < length values.old) × Candidate sizes.p sizes.n (values_in values.old) }
+        ensures sought { Sought (circuit_of self.now.constraints.now.file.bytes.now)
+            (values_in values.old) (values_in values.new) result }
+        ensures sized { length values.new ≡ length values.old }
+    {
+        let sizes = self.constraints.file.sizes;
+        let mut broken = self.broken(values, 0);
+        // Stays: nothing is counted, each turn asks which level is broken next.
+        while let Some(level) = broken {
+            let Some(risen) = advance(values, sizes.p, sizes.n, level) else {
+                return false;
+            };
+            broken = self.broken(values, risen);
+        }
+        true
+    }
 }

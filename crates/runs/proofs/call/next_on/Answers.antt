@@ -1,58 +1,64 @@
 -- `runs::call::next_on`: the refusals, then the search from the candidate after the given run.
-use Rattle.std.proofs.Common.{◌≡◌, length, arith, rules}
+use Rattle.std.proofs.Common.{◌≡◌, sym, arith, rules, length}
+use Rattle.std.proofs.lemmas.Result.{err_from_is_err_and}
+use Rattle.circuit.proofs.Sized.{call_sized}
+use Rattle.runs.proofs.CountLaws.{has_ended, has_risen}
 use Rattle.runs.proofs.CallLaws as laws
 use Rattle.runs.proofs.call.next_on.Goals as goal
 
-pub returns-then-not-few : goal.returns-then-not-few
-returns-then-not-few c =
-    laws.next_many c.requires c.args.run.now c.args.answer.now c.few.ensures c.if-not-few.true c.refusal.ensures
+pub returns-in_err-file : goal.returns-in_err-file
+returns-in_err-file c =
+    let p = err_from_is_err_and c.from_residual.result c.from_residual.ensures.1 in
+    rw (p.1, p.2) (laws.next_stopped c.args.circuit.now c.args.run.now c.args.answer.now c.in_err-file.ensures.answer)
+
+pub returns-in_err-check_room : goal.returns-in_err-check_room
+returns-in_err-check_room c =
+    let p = err_from_is_err_and c.from_residual-in_err-check_room.result c.from_residual-in_err-check_room.ensures.1 in
+    rw (p.1, p.2)
+    (laws.next_narrow (call_sized (sym c.in_ok-file.ensures.answer)) c.args.run.now c.args.answer.now c.in_err-check_room.ensures)
 
 pub returns-then-run-sizes : goal.returns-then-run-sizes
 returns-then-run-sizes c =
-    laws.next_short c.requires c.args.run.now c.args.answer.now c.few.ensures c.if-not-few.false c.if-run-sizes.true
-    c.refusal-then-run-sizes.ensures
+    rw c.at.ensures
+    (laws.next_short (call_sized (sym c.in_ok-file.ensures.answer)) c.args.run.now c.args.answer.now c.in_ok-check_room.ensures c.if-run-sizes.true)
 
-pub returns-then-answer-sizes : goal.returns-then-answer-sizes
-returns-then-answer-sizes c =
-    laws.next_room c.requires c.args.run.now c.args.answer.now c.few.ensures c.if-not-few.false c.if-run-sizes.false
-    c.if-answer-sizes.true c.refusal-then-answer-sizes.ensures
+pub first_unfit-requires : goal.first_unfit-requires
+first_unfit-requires c =
+    omega (arith, laws.few_here (call_sized (sym c.in_ok-file.ensures.answer)) (laws.is_roomy _ _ c.in_ok-check_room.ensures), c.if-run-sizes.false)
 
-pub returns-then-unfit-ne0 : goal.returns-then-unfit-ne0
-returns-then-unfit-ne0 c =
-    laws.next_unfit c.requires c.args.run.now c.if-run-sizes.false c.first_unfit-unfit.ensures c.args.answer.now
-    (laws.roomy c.few.ensures c.if-not-few.false c.if-answer-sizes.false) c.if-unfit-ne0.true c.refusal-then-unfit-ne0.ensures
+pub returns-in-Some : goal.returns-in-Some
+returns-in-Some c =
+    rw c.at-in-Some.ensures
+    (laws.next_unfit (call_sized (sym c.in_ok-file.ensures.answer)) c.args.run.now c.if-run-sizes.false c.args.answer.now c.in_ok-check_room.ensures
+    c.in-Some.unfit c.in-Some.ensures)
 
 pub values_of-values-requires : goal.values_of-values-requires
 values_of-values-requires c =
-    omega (arith, laws.few_here c.requires (laws.roomy c.few.ensures c.if-not-few.false c.if-answer-sizes.false))
+    omega (arith, laws.few_here (call_sized (sym c.in_ok-file.ensures.answer)) (laws.is_roomy _ _ c.in_ok-check_room.ensures), c.if-run-sizes.false)
 
-pub advance-risen-requires : goal.advance-risen-requires
-advance-risen-requires c =
+pub advance-requires : goal.advance-requires
+advance-requires c =
+    let Z = call_sized (sym c.in_ok-file.ensures.answer) in
     let sized : length c.values_of-values.result ≡ 11 = search rules in (
-      omega (arith, laws.few_here c.requires (laws.roomy c.few.ensures c.if-not-few.false c.if-answer-sizes.false)),
-      rw c.values_of-values.ensures
-          (laws.next_candidate c.requires c.args.run.now c.if-run-sizes.false c.first_unfit-unfit.ensures c.if-unfit-ne0.false),
+      omega (arith, laws.few_here Z (laws.is_roomy _ _ c.in_ok-check_room.ensures)),
+      rw c.values_of-values.ensures (laws.next_candidate Z c.args.run.now c.if-run-sizes.false c.in_default.ensures),
     )
 
-pub returns-then-risen-eq0 : goal.returns-then-risen-eq0
-returns-then-risen-eq0 c =
-    let R = rw c.values_of-values.ensures at c.advance-risen.ensures.rose in
-    laws.next_none c.requires c.args.run.now c.if-run-sizes.false c.first_unfit-unfit.ensures c.if-unfit-ne0.false
-    c.args.answer.now (laws.roomy c.few.ensures c.if-not-few.false c.if-answer-sizes.false) R c.if-risen-eq0.true
+pub returns-then-is_none : goal.returns-then-is_none
+returns-then-is_none c =
+    let E = has_ended c.advance.result c.if-is_none.ensures (rw c.values_of-values.ensures at c.advance.ensures.rose) in
+    laws.next_ended (call_sized (sym c.in_ok-file.ensures.answer)) c.args.run.now c.if-run-sizes.false c.in_default.ensures c.args.answer.now
+    c.in_ok-check_room.ensures E
 
 pub seek-requires : goal.seek-requires
 seek-requires c =
-    let R = rw c.values_of-values.ensures at c.advance-risen.ensures.rose in
-    let W : laws.Roomy c.args.sizes (length c.args.answer.now) =
-    laws.roomy c.few.ensures c.if-not-few.false c.if-answer-sizes.false in
-    let sized : length c.values_of-values.result ≡ 11 = search rules in
-    laws.next_ready c.requires c.args.run.now c.if-run-sizes.false c.first_unfit-unfit.ensures c.if-unfit-ne0.false
-    c.args.answer.now c.advance-risen.new.values W
-    (omega (arith, laws.few_here c.requires W, c.advance-risen.ensures.sized)) R (omega (arith, c.if-risen-eq0.false))
+    let Z = call_sized (sym c.in_ok-file.ensures.answer) in
+    let W = laws.is_roomy _ _ c.in_ok-check_room.ensures in
+    let R = has_risen c.advance.result c.if-is_none.ensures (rw c.values_of-values.ensures at c.advance.ensures.rose) in
+    (laws.few_here Z W, W.is_room, laws.next_ready Z c.args.run.now c.if-run-sizes.false c.in_default.ensures R.1)
 
 pub returns : goal.returns
 returns c =
-    let R = rw c.values_of-values.ensures at c.advance-risen.ensures.rose in
-    laws.next_found c.requires c.args.run.now c.if-run-sizes.false c.first_unfit-unfit.ensures c.if-unfit-ne0.false
-    c.args.answer.now (laws.roomy c.few.ensures c.if-not-few.false c.if-answer-sizes.false) R
-    (omega (arith, c.if-risen-eq0.false)) c.seek.ensures
+    let R = has_risen c.advance.result c.if-is_none.ensures (rw c.values_of-values.ensures at c.advance.ensures.rose) in
+    laws.next_found (call_sized (sym c.in_ok-file.ensures.answer)) c.args.run.now c.if-run-sizes.false c.in_default.ensures c.args.answer.now
+    c.in_ok-check_room.ensures R.1 (rw c.in_ok-file.ensures.same at c.seek.ensures)
