@@ -4,6 +4,7 @@ pub mod Sound
 pub mod Encoding
 pub mod Written
 pub mod MarkLaws
+pub mod StepBytes
 pub mod StepLaws
 pub mod CallLaws
 pub mod SheetViews

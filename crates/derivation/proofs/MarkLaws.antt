@@ -1,14 +1,15 @@
 -- Laws of the marks written one after the other, of their count, and of the verdict.
 use Prim.Native.Nat.{ℕ, zero, suc, ◌+◌, ◌≤◌, ◌<◌}
 use mathlib.Core.Path.{◌≡◌, refl, sym, ap, ◌∙◌}
-use mathlib.Core.Bool.{Bool, true, false, ◌&&◌, and-true, and_assoc}
+use mathlib.Core.Bool.{Bool, true, false}
 use mathlib.Core.List.{List, [], ◌∷◌, ◌++◌}
 use native.Mathlib.Numerals.{add-one}
 use native.Mathlib.Omega.{arith}
 use lib.ListN.{length, drop, set}
 use lib.Seq.{drop-cons, append_snoc, set_at}
 use Rattle.laws.specs.Sum.{all}
-use Rattle.derivation.specs.Call.{bit, marks_from, total, output_marked, verdict_by}
+use Rattle.laws.proofs.Sum.{all_at, all_from, false_by, true_or_false}
+use Rattle.derivation.specs.Call.{Fixed, Open, bit, marks_from, total, output_marked, verdict_by}
 use Rattle.derivation.proofs.Sound.{marks_length}
 
 marks_more : (m : ℕ → Bool) (s left : ℕ) → marks_from m s (suc left) ≡ marks_from m s left ++ (bit (m (suc (s + left))) ∷ [])
@@ -24,9 +25,7 @@ total_more [] x = omega arith
 total_more (y ∷ xs) x = omega (arith, total_more xs x)
 
 -- s of the marks of m are written and counted
-pub record Written (m : ℕ → Bool) (out₀ : List ℕ) (end : ℕ) (out : List ℕ) (count s : ℕ) : Type 0 where
-  pub most : s ≤ end
-  pub room : length out ≡ length out₀
+pub record Written (m : ℕ → Bool) (out₀ out : List ℕ) (count s : ℕ) : Type 0 where
   pub few : count ≤ s
   pub counted : count ≡ total (marks_from m 0 s)
   pub written : out ≡ marks_from m 0 s ++ drop s out₀
@@ -55,24 +54,20 @@ pub none_counted : (m : ℕ → Bool) → 0 ≡ total (marks_from m 0 0)
 unfolding marks_from total
 none_counted m = refl
 
-pub all_written : (m : ℕ → Bool) (s n count : ℕ) (out first : List ℕ) → s ≤ n → n ≤ s → count ≡ total (marks_from m 0 s)
-    → out ≡ marks_from m 0 s ++ drop s first → (count ≡ total (marks_from m 0 n)) × (out ≡ marks_from m 0 n ++ drop n first)
-all_written m s n count out first g h e f = let q : s ≡ n = omega arith in (rw q at e, rw q at f)
-
 pub bit_most : (b : Bool) → bit b ≤ 1
 bit_most true = omega arith
 bit_most false = omega arith
 
-all_more : (n : ℕ) (q : ℕ → Bool) → all (suc n) q ≡ (all n q && q n)
-unfolding all
-all_more zero q = and-true (q 0)
-all_more (suc n) q = ap (λ (b : Bool). q 0 && b) (all_more n λ s. q (suc s)) ∙ sym (and_assoc (q 0) _ _)
+module _ (m : ℕ → Bool) (i o : ℕ) where
+  -- every output is marked
+  pub outputs_fixed : ((j : ℕ) → j < o → m (i + j + 1) ≡ true) → Fixed ≡ verdict_by (all o (output_marked m i))
+  unfolding output_marked
+  outputs_fixed each = rw (all_from o (output_marked m i) (λ (j : ℕ) (h : j < o). rw add-one at (each j h)))
 
--- one output more
-pub output_more : (m : ℕ → Bool) (i j : ℕ) {a b : Bool} → a ≡ all j (output_marked m i) → b ≡ m (i + j + 1) → (a && b) ≡ all (j + 1) (output_marked m i)
-unfolding output_marked
-output_more m i j e f = rw (e, f, add-one (i + j), add-one j) (sym (all_more j (output_marked m i)))
-
--- the verdict after the last
-pub verdict_told : (q : ℕ → Bool) (n j : ℕ) {a b : Bool} → a ≡ all j q → j ≤ n → n ≤ j → a ≡ b → verdict_by b ≡ verdict_by (all n q)
-verdict_told q n j e g h f = let last : j ≡ n = omega arith in rw (← f, e, last)
+  -- one of them isn't
+  pub output_open : (j : ℕ) → j < o → m (i + j + 1) ≡ false → Open ≡ verdict_by (all o (output_marked m i))
+  unfolding output_marked
+  output_open j h e =
+      let not_all : all o (output_marked m i) ≡ false
+      = false_by _ (λ (t : all o (output_marked m i) ≡ true). true_or_false (m (suc (i + j))) (all_at o (output_marked m i) t j h) (rw add-one at e)) in
+      rw not_all

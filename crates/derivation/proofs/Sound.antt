@@ -19,7 +19,7 @@ use Rattle.tags.specs.Tag.{limit, Sheet, Obeys, tagged, Allowed, on_other, is_sh
 use Rattle.tags.specs.Sheet.{Unrefused}
 use Rattle.tags.proofs.TagLaws.{obeys_exactly}
 use Rattle.tags.proofs.SheetLaws.{unrefused_circuit, unrefused_sheet, unrefused_fits, tag_signal}
-use Rattle.tags.proofs.Tagged.{steps_sound}
+use Rattle.tags.proofs.TaggedLaws.{steps_sound}
 use Rattle.derivation.specs.Steps.{steps_of}
 use Rattle.derivation.specs.Call.{Judgement, bit, marks_from, marks_of, judged, derivation_on, derivation_call, last_of, derivation_marks}
 use Rattle.derivation.specs.Exact.{SoundCall}

@@ -1,12 +1,15 @@
 -- Bytes written one after the other: runs of stores, and the steps of a derivation among them.
-use Prim.Native.Nat.{ℕ, suc, ◌+◌, ◌*◌, ◌≤◌, ◌<◌}
+use Prim.Native.Nat.{ℕ, suc, ◌+◌, ◌*◌, ◌-◌, ◌≤◌, min}
 use mathlib.Core.Path.{◌≡◌, refl, sym, ap, ◌∙◌}
 use mathlib.Core.List.{List, [], ◌∷◌, ◌++◌, append_assoc, append-nil}
 use native.Mathlib.Nat.{add-zero}
-use native.Mathlib.Numerals.{add-one}
 use native.Mathlib.Omega.{arith}
-use lib.ListN.{length, set, take, drop, get_or}
-use lib.Seq.{sets, length-sets, sets-eq, drop_at, length-take-le, take_all, take-suc}
+use lib.ListN.{length, set, take, drop}
+use lib.Seq.{sets, length-sets, sets-eq, set_out, drop_at, length-take-le}
+use borrow.Rule.Slice.PartMut.{put_mid}
+use Rattle.std.proofs.lemmas.Bool.{cases_lt}
+use Rattle.std.proofs.Common.{inl, inr, take-append-drop, drop-drop}
+use Rattle.std.proofs.lemmas.List.{drop_all}
 use Rattle.laws.specs.Step.{Step}
 use Rattle.derivation.specs.Steps.{head_size, step_size}
 use Rattle.derivation.specs.Encoded.{header_bytes, step_bytes, steps_bytes, encoded, stored}
@@ -67,14 +70,36 @@ header_written out₀ out xs e h =
     ∙ drop_at (take 7 out₀) (steps_bytes xs ++ drop (7 + length (steps_bytes xs)) out₀) 7 (length-take-le 7 out₀ (omega arith))
     ∙ ap (λ (k : ℕ). steps_bytes xs ++ drop (7 + k) out₀) (bytes_length xs))
 
--- one byte more
-pub byte_more : (out₀ out : List ℕ) (at : ℕ) (bs : List ℕ) (j : ℕ) → j < length bs → out ≡ stored out₀ at (take j bs)
-    → set out (at + j) (get_or bs j 0) ≡ stored out₀ at (take (j + 1) bs)
-unfolding stored
-byte_more out₀ out at bs j h e =
-    ap (λ (k : ℕ). set out (at + k) (get_or bs j 0)) (sym (length-take-le j bs (omega arith)))
-    ∙ stored_append out₀ out at (take j bs) (get_or bs j 0 ∷ []) e
-    ∙ ap (stored out₀ at) (sym (take-suc bs j 0 h) ∙ ap (λ (k : ℕ). take k bs) (sym (add-one j)))
+-- bytes past the end are left out
+sets_past : {A : Type 0} (l : List A) (i : ℕ) (xs : List A) → length l ≤ i → sets l i xs ≡ l
+sets_past l i [] h = refl
+sets_past {A} l i (x ∷ xs) h = ap (λ (s : List A). sets s (suc i) xs) (set_out l i x h) ∙ sets_past l (suc i) xs (omega arith)
 
-pub all_stored : (out₀ out : List ℕ) (at : ℕ) (bs : List ℕ) (j : ℕ) → length bs ≤ j → out ≡ stored out₀ at (take j bs) → out ≡ stored out₀ at bs
-all_stored out₀ out at bs j h e = e ∙ ap (stored out₀ at) (take_all j bs h)
+sets_fit : {A : Type 0} (l : List A) (i : ℕ) (xs : List A) (n : ℕ) → i + n ≤ length l → n ≡ min (length xs) (length l - i) → sets l i xs ≡ sets l i (take n xs)
+sets_fit {A} l i xs n h e =
+    let long : length (take n xs) ≡ n = length-take-le n xs (omega arith) in
+    let rest : sets (sets l i (take n xs)) (i + length (take n xs)) (drop n xs) ≡ sets l i (take n xs)
+    = elim (cases_lt n (length xs)) [
+      | inl few ↦ sets_past (sets l i (take n xs)) (i + length (take n xs)) (drop n xs) (omega (arith, long, length-sets l i (take n xs)))
+      | inr all ↦ ap (λ (s : List A). sets (sets l i (take n xs)) (i + length (take n xs)) s) (drop_all n xs all)
+    ] in
+    ap (sets l i) (sym (take-append-drop n xs)) ∙ sets_append l i (take n xs) (drop n xs) ∙ rest
+
+-- what a copy of the bytes that fit leaves
+pub bytes_stored : (out bs : List ℕ) (at start n k : ℕ) → start ≡ min at (length out) → n ≡ min (length bs) (length out - start) → k ≡ n
+    → put_mid start k out (take n bs) ≡ stored out at bs
+unfolding stored
+bytes_stored out bs at start n k s e same =
+    let long : length (take n bs) ≡ n = length-take-le n bs (omega arith) in
+    let part : sets out start (take n bs) ≡ put_mid start k out (take n bs)
+    = sets-eq (take n bs) out start (omega (arith, long))
+    ∙ append_assoc (take start out) (take n bs) _
+    ∙ ap (λ (r : List ℕ). take start out ++ (take n bs ++ r)) (ap (λ (j : ℕ). drop (start + j) out) (long ∙ sym same) ∙ sym (drop-drop k start out)) in
+    let whole : sets out at bs ≡ sets out start (take n bs)
+    = elim (cases_lt (length out) at) [
+      | inl past ↦ sets_past out at bs (omega arith) ∙ sym (sets_past out start (take n bs) (omega arith))
+      | inr within ↦
+          let here : at ≡ start = omega arith in
+          ap (λ (i : ℕ). sets out i bs) here ∙ sets_fit out start bs n (omega arith) e
+    ] in
+    sym (whole ∙ part)

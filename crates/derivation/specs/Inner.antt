@@ -1,13 +1,15 @@
 -- How the functions inside the call run: what they promise one another, not what the call means.
-use Rattle.std.specs.Prelude.{ℕ, zero, suc, ◌≤◌, min, ◌≡◌, Bool, true, false, List, [], ◌∷◌, ◌++◌, length, get_or}
+use Rattle.std.specs.Prelude as prelude
+use Rattle.std.specs.Prelude.{ℕ, zero, suc, ◌≤◌, min, ◌≡◌, Bool, true, false, List, [], ◌∷◌, ◌++◌, length, get_or, Some, None, Result, Ok, Err}
 use Rattle.std.proofs.Math.Option.{Option, none, some}
-use Rattle.circuit.specs.Answer.{Answer, refused}
+use Rattle.circuit.specs.Answer.{Answer, refused, number_of}
+use Rattle.circuit.specs.declared.refusal.Reason.{Reason}
 use Rattle.circuit.specs.Bytes.{u16_at}
 use Rattle.circuit.specs.Reader.{signals_most}
 use Rattle.circuit.specs.Circuit.{constraint_at}
-use Rattle.circuit.specs.Call.{circuit_of, Sized}
+use Rattle.circuit.specs.Call.{circuit_of}
 use Rattle.circuit.specs.declared.reader.Sizes.{Sizes}
-use Rattle.circuit.specs.Offsets.{Offsets, part_of}
+use Rattle.circuit.specs.Offsets.{part_of}
 use Rattle.laws.specs.Sum.{all}
 use Rattle.laws.specs.Problem as laws
 use Rattle.laws.specs.Problem.{Problem}
@@ -17,19 +19,14 @@ use Rattle.tags.specs.Tag.{first_bound, tagged, shown_by}
 use Rattle.tags.specs.Sheet.{sheet_of}
 use Rattle.rules.specs.Promise.{subject_in, kind_of, reduces}
 use Rattle.rules.specs.Rows.{Row, Rows, Roomy, row_of}
+use Rattle.rules.specs.declared.rows.Entry as row
 use Rattle.rules.specs.declared.standing.Kind.{Kind}
 use Rattle.derivation.specs.Steps.{read_step, tried, steps_of}
 use Rattle.derivation.specs.Call.{Judgement, marks_from, total, output_marked, verdict_by, derivation_call, derivation_marks}
-use Rattle.derivation.specs.declared.kinds.KindByte.{KindByte}
-use Rattle.derivation.specs.declared.kinds.KindByte.TheVariants.{Known, Unknown}
-use Rattle.derivation.specs.declared.kinds.Names.{Names}
-use Rattle.derivation.specs.declared.kinds.Names.TheVariants.{Nothing, AConstraint}
 use Rattle.derivation.specs.declared.kinds.Entry.{Entry}
-use Rattle.derivation.specs.declared.kinds.Step.{Step}
-use Rattle.derivation.specs.declared.step.StepRead.{StepRead}
-use Rattle.derivation.specs.declared.step.StepRead.TheVariants.{Fine, Refused}
-use Rattle.derivation.specs.declared.walk.Way.{Way}
-use Rattle.derivation.specs.declared.walk.Way.TheVariants.{On, Stopped}
+use Rattle.derivation.specs.declared.step.Step.{Step}
+use Rattle.derivation.specs.declared.walk.IdleSteps.{IdleSteps}
+use Rattle.derivation.specs.declared.walk.IdleSteps.TheVariants.{Refused, LetPass}
 
 -- the circuit with any first bounds: no step looks at them but through the standing
 abbrev pub problem_of : List ℕ → (ℕ → ℕ) → Problem
@@ -37,13 +34,13 @@ problem_of c first = laws.given (circuit_of c) first
 
 -- The code's enums and structs as what they stand for
 
-abbrev pub kind_found : KindByte → Option step.Kind
-kind_found (Known kind) = some (kind_of kind)
-kind_found Unknown = none
+abbrev pub kind_found : prelude.Option Kind → Option step.Kind
+kind_found (Some kind) = some (kind_of kind)
+kind_found None = none
 
-abbrev pub names_in : Names → laws.Names
-names_in Nothing = laws.nothing
-names_in AConstraint = laws.a_constraint
+abbrev pub names_in : Bool → laws.Names
+names_in false = laws.nothing
+names_in true = laws.a_constraint
 
 -- a kind's row of the table
 pub record EntryOf (kind : Kind) (e : Entry) : Type 0 where
@@ -51,18 +48,23 @@ pub record EntryOf (kind : Kind) (e : Entry) : Type 0 where
   pub names : names_in e.names ≡ step.names_of (kind_of kind)
   pub refers : e.refers ≡ step.refers (kind_of kind)
 
+-- the values of a field, if it names one of this many things
+abbrev pub range_of : Bool → ℕ → step.Range
+range_of false most = step.only_zero
+range_of true most = step.from_one most
+
 abbrev pub step_in : Step → step.Step
 step_in x = record { kind = kind_of x.kind; target = x.target; constraint = x.constraint; reference = x.reference }
 
 -- step k, counted from 0, is known and in range; or it is refused, whatever the standing is
-abbrev pub Reads : Problem → List ℕ → ℕ → StepRead → Type 0
-Reads P d k (Fine x) = (read_step d k ≡ some (step_in x)) × (step.in_range P (step_in x) ≡ true)
-Reads P d k (Refused number) = (padded : Bool) (S : standing.Standing) → tried padded P S (read_step d k) (suc k) ≡ refused number (suc k)
+abbrev pub Reads : Problem → List ℕ → ℕ → Result Step Reason → Type 0
+Reads P d k (Ok x) = (read_step d k ≡ some (step_in x)) × (step.in_range P (step_in x) ≡ true)
+Reads P d k (Err reason) = (padded : Bool) (S : standing.Standing) → tried padded P S (read_step d k) (suc k) ≡ refused (number_of reason) (suc k)
 
--- go on with r, or stopped by a refusal
-abbrev pub by_way : {A : Type 0} → Way → Answer A → Answer A
-by_way On r = r
-by_way (Stopped number place) r = refused number place
+-- whether idle steps are let pass
+abbrev pub padded_by : IdleSteps → Bool
+padded_by Refused = false
+padded_by LetPass = true
 
 -- the circuit with the sheet in the bytes
 abbrev pub tagged_in : List ℕ → List ℕ → Problem
@@ -112,14 +114,12 @@ rule_in p n c table S x =
     step.rule x.kind (subject_in p n (part_named (step.names_of x.kind) c table x.constraint)) S x.target x.reference
 
 -- the rows of a circuit that have been made, in arrays with room for all of them
-pub record Kept (c : List ℕ) (z : Sizes) (table ends rows : List ℕ) : Type 0 where
-  pub sized : Sized c z
-  pub offsets : Offsets c z.m table
+pub record Kept (c : List ℕ) (z : Sizes) (table ends : List ℕ) (rows : List row.Entry) : Type 0 where
   pub roomy : Roomy (length c) z.m ends rows
   pub made : Rows (circuit_of c) table ends rows
 
 -- and row k is one of them, if a step of this kind names constraint k and looks at its row
-pub record Ready (q : step.Kind) (k : ℕ) (c : List ℕ) (z : Sizes) (table ends rows : List ℕ) : Type 0 where
+pub record Ready (q : step.Kind) (k : ℕ) (c : List ℕ) (z : Sizes) (table ends : List ℕ) (rows : List row.Entry) : Type 0 where
   pub kept : Kept c z table ends rows
   pub row : step.names_of q ≡ laws.a_constraint → reduces q ≡ true
       → Row (circuit_of c).p (circuit_of c).n (constraint_at (circuit_of c) k) (row_of table ends rows k)

@@ -1,12 +1,30 @@
 // What the derivation call answers.
 
+use std::fmt;
 use tags::shown::Shown;
 
 // "fixed" if every output is marked, else "open"
-#[derive(Clone, Copy)]
+#[derive(Clone, Copy, Debug, PartialEq, Eq)]
 pub enum Verdict {
     Fixed,
     Open,
+}
+
+impl fmt::Display for Verdict {
+    fn fmt<W: fmt::Write>(&self, f: &mut fmt::Formatter<W>) -> fmt::Result {
+        f.write_str(match self {
+            Verdict::Fixed => "fixed",
+            Verdict::Open => "open",
+        })
+    }
+}
+
+// How many signals are marked, the verdict, and what is shown of the sheet.
+#[derive(Clone, Copy)]
+pub(crate) struct Judgement {
+    pub count: u32,
+    pub verdict: Verdict,
+    pub shown: Shown,
 }
 
 // A refusal's number and place, or how many signals are marked, the verdict, and what is shown of the sheet.

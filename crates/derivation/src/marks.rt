@@ -1,80 +1,60 @@
 // What an accepted derivation hands over: the marks, written and counted, and the verdict.
 
 ghost use Rattle.std.specs.Prelude.{◌≡◌, ◌++◌, ◌≤◌, ◌<◌, length, drop};
-ghost use Rattle.circuit.specs.Reader.{signals_most};
-ghost use Rattle.circuit.specs.Answer.{given};
 ghost use Rattle.laws.specs.Sum.{all};
-ghost use Rattle.tags.specs.Sheet.{sheet_of, Fitting};
 ghost use Rattle.rules.specs.View.{mark_in};
 ghost use Rattle.rules.specs.Promise.{view};
-ghost use Rattle.derivation.specs.Call.{bit, marks_from, total, output_marked, verdict_by};
-ghost use Rattle.derivation.specs.Answer.{verdict_in, paper_of};
+ghost use Rattle.derivation.specs.Call.{marks_from, total, output_marked, verdict_by};
+ghost use Rattle.derivation.specs.Answer.{verdict_in, judgement_in};
 ghost use Rattle.derivation.specs.Inner.{judged_by};
 
-use crate::answer::{DerivationAnswer, Verdict};
+use crate::answer::{Judgement, Verdict};
 use crate::sheets::shown_of;
 use circuit::reader::Sizes;
 use rules::standing::Standing;
 use rules::view::mark_at;
+use tags::tagged::Tagged;
 
-// 1 for marked and 0 for not.
-fn bit_of(marked: bool) -> u8
-    ensures { result ≡ bit marked }
-{
-    if marked { 1 } else { 0 }
-}
-
-// Writes one byte for each of the n signals, and counts what it writes.
+// Writes one byte for each of the n signals, 1 for marked and 0 for not, and counts what it writes.
 pub(crate) fn write_marks(out: &mut [u8], marks: &[bool], n: u32) -> u32
     requires { (n < length marks.now) × (n ≤ length out.old) }
     ensures count { result ≡ total (marks_from (mark_in marks.now) 0 n) }
     ensures written { out.new ≡ marks_from (mark_in marks.now) 0 n ++ drop n out.old }
 {
-    let end = n as usize;
-    let mut count: u32 = 0;
-    let mut s: usize = 0;
-    while s < end {
-        let byte = bit_of(marks[s + 1]);
+    let mut count = 0;
+    for s in 0..n as usize {
+        let byte = u8::from(marks[s + 1]);
         out[s] = byte;
-        count = count + byte as u32;
-        s = s + 1;
+        count += u32::from(byte);
     }
     count
 }
 
 // Whether every output is marked.
-pub fn verdict_of(marks: &[bool], i: u32, o: u32) -> Verdict
-    ensures { verdict_in result ≡ verdict_by (all o (output_marked (mark_in marks.now) i)) }
+pub fn verdict_of(marks: &[bool], sizes: Sizes) -> Verdict
+    ensures { verdict_in result ≡ verdict_by (all sizes.o (output_marked (mark_in marks.now) sizes.i)) }
 {
-    let inputs = i as usize;
-    let outputs = o as usize;
-    let mut fixed = true;
-    let mut j: usize = 0;
-    while j < outputs {
-        fixed = fixed & mark_at(marks, inputs + j + 1);
-        j = j + 1;
+    let inputs = sizes.i as usize;
+    for j in 0..sizes.o as usize {
+        if !mark_at(marks, inputs + j + 1) {
+            return Verdict::Open;
+        }
     }
-    if fixed { Verdict::Fixed } else { Verdict::Open }
+    Verdict::Fixed
 }
 
 // What is answered and written of the standing after the last step.
-pub(crate) fn hand_over(
-    last: Standing,
-    sheet: &[u8],
-    marks: &mut [u8],
-    sizes: Sizes,
-) -> DerivationAnswer
-    requires { (sizes.n ≤ signals_most) × (sizes.n ≤ length marks.old) × Fitting sizes.n sizes.p (sheet_of sheet.now) }
-    ensures answer { paper_of result ≡ given (judged_by sizes sheet.now (view sizes.p last)) }
-    ensures written { marks.new ≡ marks_from (mark_in last.marks) 0 sizes.n ++ drop sizes.n marks.old }
+pub(crate) fn hand_over(tagged: &Tagged, last: &Standing, marks: &mut [u8]) -> Judgement
+    requires { tagged.now.file.sizes.n ≤ length marks.old }
+    ensures answer { let z = tagged.now.file.sizes in
+        judgement_in result ≡ judged_by z tagged.now.sheet.now (view z.p last.now) }
+    ensures written { let n = tagged.now.file.sizes.n in
+        marks.new ≡ marks_from (mark_in last.now.marks) 0 n ++ drop n marks.old }
 {
-    let marked = last.marks;
-    let count = write_marks(marks, &marked, sizes.n);
-    let verdict = verdict_of(&marked, sizes.i, sizes.o);
-    let bounds = last.bounds;
-    DerivationAnswer::Accepted {
-        count,
-        verdict,
-        shown: shown_of(sheet, &bounds, sizes),
+    let sizes = tagged.file.sizes;
+    Judgement {
+        count: write_marks(marks, &last.marks, sizes.n),
+        verdict: verdict_of(&last.marks, sizes),
+        shown: shown_of(tagged, &last.bounds),
     }
 }

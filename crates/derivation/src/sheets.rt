@@ -2,32 +2,30 @@
 
 ghost use Rattle.std.specs.Prelude.{◌≡◌, ◌<◌, length};
 ghost use Rattle.tags.specs.Tag.{shown_by};
-ghost use Rattle.tags.specs.Sheet.{sheet_of, Fitting};
+ghost use Rattle.tags.specs.Sheet.{sheet_of};
 ghost use Rattle.tags.specs.Answer.{shown_in};
 ghost use Rattle.rules.specs.View.{bound_in};
 ghost use Rattle.rules.specs.Promise.{view};
 ghost use Rattle.derivation.specs.Inner.{first_view};
 
-use circuit::reader::Sizes;
 use rules::standing::Standing;
 use tags::first::lower_inputs;
 use tags::shown::{Shown, show};
+use tags::tagged::Tagged;
 
 // Rule 3.2: the start, the bounds of inputs lowered to the limits of the tags on them.
 pub fn start_with(sheet: &[u8], p: u32, i: u32) -> Standing
     ensures { view p result ≡ first_view p i sheet.now }
 {
-    let start = Standing::start(p, i);
-    let mut bounds = start.bounds;
-    let marks = start.marks;
-    lower_inputs(sheet, &mut bounds, i);
-    Standing { bounds, marks }
+    let mut start = Standing::start(p, i);
+    lower_inputs(sheet, &mut start.bounds, i);
+    start
 }
 
 // Rule 6.10: what bounds show of a sheet whose signals are among them.
-pub fn shown_of(sheet: &[u8], bounds: &[u32], sizes: Sizes) -> Shown
-    ensures { Fitting sizes.n sizes.p (sheet_of sheet.now) → sizes.n < length bounds.now
-        → shown_in result ≡ shown_by sizes.i (sheet_of sheet.now) (bound_in sizes.p bounds.now) }
+pub fn shown_of(tagged: &Tagged, bounds: &[u32]) -> Shown
+    ensures { let z = tagged.now.file.sizes in z.n < length bounds.now
+        → shown_in result ≡ shown_by z.i (sheet_of tagged.now.sheet.now) (bound_in z.p bounds.now) }
 {
-    show(sheet, bounds, sizes.i)
+    show(tagged.sheet, bounds, tagged.file.sizes.i)
 }

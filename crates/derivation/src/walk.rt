@@ -1,169 +1,147 @@
 // A derivation's steps one after the other: the frame of the file, and the walk that takes each step on what the one before it gave.
 
-ghost use Rattle.std.specs.Prelude.{◌≡◌, ℕ, ◌+◌, ◌*◌, ◌/◌, ◌≤◌, length, set};
-ghost use Rattle.circuit.specs.Bytes.{u16_at};
-ghost use Rattle.circuit.specs.Answer as answer;
-ghost use Rattle.circuit.specs.Answer.{Answer, given};
-ghost use Rattle.circuit.specs.Call.{Sized};
+ghost use Rattle.std.specs.Prelude.{◌≡◌, ◌&&◌, not, ◌+◌, ◌/◌, ◌≤◌, length, set, OnOk};
+ghost use Rattle.circuit.specs.Answer.{Answer, answer_of, answer_by, and_then};
 ghost use Rattle.laws.specs.Standing as laws;
 ghost use Rattle.rules.specs.Promise.{view};
-ghost use Rattle.derivation.specs.Steps.{walk_from, walked};
+ghost use Rattle.derivation.specs.Steps.{walked};
 ghost use Rattle.derivation.specs.Call.{framed};
-ghost use Rattle.derivation.specs.Inner.{problem_of, tagged_in, by_way, Noted};
+ghost use Rattle.derivation.specs.Inner.{padded_by, tagged_in, Noted};
 
 use crate::sheets::start_with;
-use crate::step::{StepRead, keep_row, part_named, read_step};
+use crate::step::Step;
 use circuit::bytes::u16_at;
-use circuit::offsets::offsets;
-use circuit::reader::{Sizes, has_mark};
-use rules::rows::row_of;
-use rules::standing::{Outcome, Standing};
+use circuit::file::Constraints;
+use circuit::reader::has_mark;
+use circuit::refusal::{Reason, Refusal};
+use rules::rows::{Entry, MOST_ENTRIES};
+use rules::standing::Standing;
+use tags::tagged::Tagged;
 
-// The letter D of a derivation's mark, and the most steps that it may have.
+// The letter D of a derivation's mark, its version, and the most steps that it may have.
 const DERIVATION_LETTER: u32 = 68;
+
+const VERSION: u32 = 1;
 
 const STEPS_MOST: u32 = 4096;
 
-// How many numbers the rows of the largest file may have, and those of a small one.
-const MOST_NUMBERS: usize = 21026;
+// How many entries the rows of a small file may have.
+const FEW_ENTRIES: usize = 512;
 
-const FEW_NUMBERS: usize = 1024;
-
-// On to the next step, or stopped by a refusal.
-#[derive(Clone, Copy)]
-pub enum Way {
-    On,
-    Stopped { number: u32, place: usize },
+// What becomes of idle steps: they are refused when a derivation is marked, and let pass when it is renewed.
+#[derive(Clone, Copy, Debug, PartialEq, Eq)]
+pub enum IdleSteps {
+    Refused,
+    LetPass,
 }
 
-// What steps lead to: a standing, and whether they end there.
-#[derive(Clone, Copy)]
-pub struct Turn {
-    pub next: Standing,
-    pub way: Way,
-}
-
-// Goes on by `way` where the test holds.
-pub(crate) fn ask(test: bool, number: u32, way: Way) -> Way
-    ensures { (x : Answer laws.Standing) → by_way result x ≡ answer.ask test number 0 (by_way way x) }
-{
-    if test {
-        way
-    } else {
-        Way::Stopped { number, place: 0 }
+impl IdleSteps {
+    // Whether a step that is idle or not is refused.
+    fn refuse(self, idle: bool) -> bool
+        ensures { result ≡ (idle && not (padded_by self)) }
+    {
+        idle && self == IdleSteps::Refused
     }
 }
 
-// Refusals 11 to 13, and then on by `way`: the tests in their order, each made whatever the others say.
-pub fn check_frame(derivation: &[u8], way: Way) -> Way
-    ensures { (x : Answer laws.Standing) → by_way result x ≡ framed derivation.now (by_way way x) }
+// Refusals 11 to 13.
+#[tactic(auto, unfolding(crate::specs::Call::framed))]
+pub fn check_frame(derivation: &[u8]) -> Result<(), Refusal>
+    ensures { (x : Answer laws.Standing) → and_then (answer_of result) (λ done. x) ≡ framed derivation.now x }
 {
+    if derivation.len() < 7 || !has_mark(derivation, DERIVATION_LETTER) {
+        return Err(Reason::DerivationMark.at(0));
+    }
+    if u16_at(derivation, 3) != VERSION {
+        return Err(Reason::DerivationVersion.at(0));
+    }
     let count = u16_at(derivation, 5);
-    let sized = ask(derivation.len() == 7 + 7 * (count as usize), 13, way);
-    let few = ask(count <= STEPS_MOST, 13, sized);
-    let version = ask(u16_at(derivation, 3) == 1, 12, few);
-    let mark = ask(has_mark(derivation, DERIVATION_LETTER), 11, version);
-    ask(7 <= derivation.len(), 11, mark)
-}
-
-fn stop(next: Standing, number: u32, place: usize) -> Turn
-    ensures { result.way ≡ Way.Stopped number place }
-{
-    Turn {
-        next,
-        way: Way::Stopped { number, place },
+    if STEPS_MOST < count || derivation.len() != 7 + 7 * count as usize {
+        return Err(Reason::DerivationLength.at(0));
     }
+    Ok(())
 }
 
 // Notes of a step whether it is idle, where there is room.
-fn note(idle: &mut [bool], at: usize, x: bool)
-    ensures { idle.new ≡ set idle.old at x }
+fn note(notes: &mut [bool], k: usize, idle: bool)
+    ensures { notes.new ≡ set notes.old k idle }
 {
-    if at < idle.len() {
-        idle[at] = x;
+    if k < notes.len() {
+        notes[k] = idle;
     }
 }
 
-// The steps one after the other from a first standing, each taken on what the step before it gave. An idle one is refused, or, where `padded` says so, let
-// pass; which steps are idle is noted. Rows are made when a step looks at them.
+// All steps from the start; which of them are idle is noted. Rows are made when a step looks at them.
 fn walk(
-    start: Standing,
-    circuit: &[u8],
+    tagged: &Tagged,
     derivation: &[u8],
-    rows: &mut [u32],
-    idle: &mut [bool],
-    sizes: Sizes,
-    padded: bool,
-) -> Turn
-    ensures way { Sized circuit.now sizes → 2 * (length circuit.now / 6 + sizes.m + 1) ≤ length rows.old
-        → (first : ℕ → ℕ)
-        → by_way result.way (given (view sizes.p result.next))
-        ≡ walk_from padded (problem_of circuit.now first) derivation.now 0 (u16_at derivation.now 5) (view sizes.p start) }
-    ensures noted { Sized circuit.now sizes → 2 * (length circuit.now / 6 + sizes.m + 1) ≤ length rows.old
-        → result.way ≡ Way.On → (first : ℕ → ℕ)
-        → Noted (problem_of circuit.now first) (view sizes.p start) derivation.now (length idle.old) idle.new }
+    rows: &mut [Entry],
+    notes: &mut [bool],
+    idle_steps: IdleSteps,
+) -> Result<Standing, Refusal>
+    requires { length tagged.now.file.bytes.now / 6 + tagged.now.file.sizes.m + 1 ≤ length rows.old }
+    ensures way { let P = tagged_in tagged.now.file.bytes.now tagged.now.sheet.now in
+        answer_by (view tagged.now.file.sizes.p) result ≡ walked (padded_by idle_steps) P derivation.now }
+    ensures noted { let P = tagged_in tagged.now.file.bytes.now tagged.now.sheet.now in
+        OnOk result (Noted P (laws.start P) derivation.now (length notes.old) notes.new) }
 {
-    let table = offsets(circuit, sizes.m);
-    let count = u16_at(derivation, 5) as usize;
+    let sizes = tagged.file.sizes;
+    let constraints = Constraints::new(tagged.file);
     let mut ends = [0u32; 513];
-    let mut outcome = Outcome {
-        next: start,
-        met: true,
-        idle: false,
-    };
-    let mut k: usize = 0;
-    while k < count {
-        let read = read_step(derivation, k, sizes.n, sizes.m);
-        k = k + 1;
-        match read {
-            StepRead::Refused { number } => {
-                return stop(start, number, k);
-            }
-            StepRead::Fine { step } => {
-                let kind = step.kind;
-                let named = step.constraint;
-                keep_row(kind, circuit, &table, &mut ends, rows, sizes, named);
-                let part = part_named(kind, circuit, &table, named);
-                let row = row_of(&table, &ends, rows, named);
-                outcome = outcome
-                    .next
-                    .step(kind, part, row, sizes.p, step.target, step.reference);
-                let met = outcome.met;
-                if !met {
-                    return stop(start, 17, k);
-                }
-                let same = outcome.idle;
-                if same & !padded {
-                    return stop(start, 29, k);
-                }
-                note(idle, k - 1, same);
-            }
+    let mut standing = start_with(tagged.sheet, sizes.p, sizes.i);
+    let count = u16_at(derivation, 5) as usize;
+    for k in 0..count {
+        let step = match Step::read(derivation, k, sizes) {
+            Ok(step) => step,
+            Err(reason) => return Err(reason.at(k + 1)),
+        };
+        let taken = step.take(standing, &constraints, &mut ends, rows);
+        let Some(outcome) = taken else {
+            return Err(Reason::RuleUnmet.at(k + 1));
+        };
+        let refused = idle_steps.refuse(outcome.idle);
+        if refused {
+            return Err(Reason::IdleStep.at(k + 1));
         }
+        note(notes, k, outcome.idle);
+        standing = outcome.next;
     }
-    let next = outcome.next;
-    Turn { next, way: Way::On }
+    Ok(standing)
+}
+
+// The walk with rows of N entries.
+fn walk_sized<const N: usize>(
+    tagged: &Tagged,
+    derivation: &[u8],
+    notes: &mut [bool],
+    idle_steps: IdleSteps,
+) -> Result<Standing, Refusal>
+    requires { (length tagged.now.file.bytes.now / 6 + tagged.now.file.sizes.m + 1 ≤ N) × (N ≤ MOST_ENTRIES) }
+    ensures way { let P = tagged_in tagged.now.file.bytes.now tagged.now.sheet.now in
+        answer_by (view tagged.now.file.sizes.p) result ≡ walked (padded_by idle_steps) P derivation.now }
+    ensures noted { let P = tagged_in tagged.now.file.bytes.now tagged.now.sheet.now in
+        OnOk result (Noted P (laws.start P) derivation.now (length notes.old) notes.new) }
+{
+    let mut rows = [Entry::NONE; N];
+    walk(tagged, derivation, &mut rows, notes, idle_steps)
 }
 
 // All steps from the start. A small file gets a small array for its rows, since clearing a large one takes longer than a few steps.
 pub fn walk_all(
-    circuit: &[u8],
-    sheet: &[u8],
+    tagged: &Tagged,
     derivation: &[u8],
-    idle: &mut [bool],
-    sizes: Sizes,
-    padded: bool,
-) -> Turn
-    ensures way { Sized circuit.now sizes → by_way result.way (given (view sizes.p result.next))
-        ≡ walked padded (tagged_in circuit.now sheet.now) derivation.now }
-    ensures noted { Sized circuit.now sizes → result.way ≡ Way.On
-        → Noted (tagged_in circuit.now sheet.now) (laws.start (tagged_in circuit.now sheet.now))
-        derivation.now (length idle.old) idle.new }
+    notes: &mut [bool],
+    idle_steps: IdleSteps,
+) -> Result<Standing, Refusal>
+    ensures way { let P = tagged_in tagged.now.file.bytes.now tagged.now.sheet.now in
+        answer_by (view tagged.now.file.sizes.p) result ≡ walked (padded_by idle_steps) P derivation.now }
+    ensures noted { let P = tagged_in tagged.now.file.bytes.now tagged.now.sheet.now in
+        OnOk result (Noted P (laws.start P) derivation.now (length notes.old) notes.new) }
 {
-    let start = start_with(sheet, sizes.p, sizes.i);
-    if 2 * (circuit.len() / 6 + sizes.m as usize + 1) <= FEW_NUMBERS {
-        let mut rows = [0u32; FEW_NUMBERS];
-        return walk(start, circuit, derivation, &mut rows, idle, sizes, padded);
+    let sizes = tagged.file.sizes;
+    if tagged.file.bytes.len() / 6 + sizes.m as usize + 1 <= FEW_ENTRIES {
+        walk_sized::<FEW_ENTRIES>(tagged, derivation, notes, idle_steps)
+    } else {
+        walk_sized::<MOST_ENTRIES>(tagged, derivation, notes, idle_steps)
     }
-    let mut rows = [0u32; MOST_NUMBERS];
-    walk(start, circuit, derivation, &mut rows, idle, sizes, padded)
 }

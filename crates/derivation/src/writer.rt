@@ -1,80 +1,52 @@
 // The writer of derivations: steps and headers, stored in a lent buffer. Bytes past its end are left out.
 
-ghost use Rattle.std.specs.Prelude.{◌≡◌, ◌+◌, ◌*◌, ◌<◌, set};
-ghost use Rattle.rules.specs.Promise.{kind_of};
+ghost use Rattle.std.specs.Prelude.{◌≡◌, ◌+◌, ◌*◌};
 ghost use Rattle.derivation.specs.Steps.{head_size, step_size};
 ghost use Rattle.derivation.specs.Encoded.{step_bytes, header_bytes, stored};
+ghost use Rattle.derivation.specs.Inner.{step_in};
 
-use crate::kinds::entry_of;
-use rules::standing::Kind;
+use crate::step::Step;
 
 // A derivation's mark, its letter and then Q and T, and its version.
-const LETTER: u8 = 68;
+const MARK: [u8; 3] = *b"DQT";
 
-const LETTER_Q: u8 = 81;
-
-const LETTER_T: u8 = 84;
-
-const VERSION: u8 = 1;
-
-fn put_byte(output: &mut [u8], at: usize, x: u8)
-    ensures { output.new ≡ set output.old at x }
-{
-    if at < output.len() {
-        output[at] = x;
-    }
-}
+const VERSION: u16 = 1;
 
 // The bytes of a header or of a step.
 fn put(output: &mut [u8], at: usize, bytes: [u8; 7])
-    requires { at < 1099511627776 }
     ensures { output.new ≡ stored output.old at bytes }
 {
-    let mut j: usize = 0;
-    while j < 7 {
-        put_byte(output, at + j, bytes[j]);
-        j = j + 1;
-    }
+    let start = at.min(output.len());
+    let count = bytes.len().min(output.len() - start);
+    output[start..start + count].copy_from_slice(&bytes[..count]);
 }
 
 // Step number `index`, counted from 0.
-pub fn put_step(
-    output: &mut [u8],
-    index: u32,
-    kind: Kind,
-    target: u16,
-    constraint: u16,
-    reference: u16,
-)
+pub fn put_step(output: &mut [u8], index: u32, step: Step)
     ensures { output.new
-        ≡ stored output.old (head_size + step_size * index)
-        (step_bytes (record { kind = kind_of kind; target = target; constraint = constraint; reference = reference })) }
+        ≡ stored output.old (head_size + step_size * index) (step_bytes (step_in step)) }
 {
-    let entry = entry_of(kind);
-    let bytes = [
-        entry.number,
-        (target % 256) as u8,
-        (target / 256) as u8,
-        (constraint % 256) as u8,
-        (constraint / 256) as u8,
-        (reference % 256) as u8,
-        (reference / 256) as u8,
-    ];
-    put(output, 7 + 7 * (index as usize), bytes);
+    put(output, 7 + 7 * (index as usize), step.to_bytes());
 }
 
 // The mark, version 1 and the number of steps.
 pub fn put_header(output: &mut [u8], count: u16)
     ensures { output.new ≡ stored output.old 0 (header_bytes count) }
 {
-    let bytes = [
-        LETTER,
-        LETTER_Q,
-        LETTER_T,
-        VERSION,
+    let [letter, second, third] = MARK;
+    let [version_low, version_high] = VERSION.to_le_bytes();
+    let [count_low, count_high] = count.to_le_bytes();
+    put(
+        output,
         0,
-        (count % 256) as u8,
-        (count / 256) as u8,
-    ];
-    put(output, 0, bytes);
+        [
+            letter,
+            second,
+            third,
+            version_low,
+            version_high,
+            count_low,
+            count_high,
+        ],
+    );
 }
