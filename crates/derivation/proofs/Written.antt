@@ -85,16 +85,21 @@ sets_fit {A} l i xs n h e =
     ] in
     ap (sets l i) (sym (take-append-drop n xs)) ∙ sets_append l i (take n xs) (drop n xs) ∙ rest
 
--- what a copy of the bytes that fit leaves
+-- what a copy leaves, of bytes that fit ..
+pub bytes_put : (out bs : List ℕ) (at k : ℕ) → at + length bs ≤ length out → k ≡ length bs → put_mid at k out bs ≡ stored out at bs
+unfolding stored
+bytes_put out bs at k fits same =
+    sym
+    (sets-eq bs out at fits
+    ∙ append_assoc (take at out) bs _
+    ∙ ap (λ (r : List ℕ). take at out ++ (bs ++ r)) (ap (λ (j : ℕ). drop (at + j) out) (sym same) ∙ sym (drop-drop k at out)))
+
+-- .. and of those of any bytes that do
 pub bytes_stored : (out bs : List ℕ) (at start n k : ℕ) → start ≡ min at (length out) → n ≡ min (length bs) (length out - start) → k ≡ n
     → put_mid start k out (take n bs) ≡ stored out at bs
 unfolding stored
 bytes_stored out bs at start n k s e same =
     let long : length (take n bs) ≡ n = length-take-le n bs (omega arith) in
-    let part : sets out start (take n bs) ≡ put_mid start k out (take n bs)
-    = sets-eq (take n bs) out start (omega (arith, long))
-    ∙ append_assoc (take start out) (take n bs) _
-    ∙ ap (λ (r : List ℕ). take start out ++ (take n bs ++ r)) (ap (λ (j : ℕ). drop (start + j) out) (long ∙ sym same) ∙ sym (drop-drop k start out)) in
     let whole : sets out at bs ≡ sets out start (take n bs)
     = elim (cases_lt (length out) at) [
       | inl past ↦ sets_past out at bs (omega arith) ∙ sym (sets_past out start (take n bs) (omega arith))
@@ -102,4 +107,4 @@ bytes_stored out bs at start n k s e same =
           let here : at ≡ start = omega arith in
           ap (λ (i : ℕ). sets out i bs) here ∙ sets_fit out start bs n (omega arith) e
     ] in
-    sym (whole ∙ part)
+    bytes_put out (take n bs) start k (omega (arith, long)) (omega (arith, long)) ∙ sym whole

@@ -3,9 +3,9 @@
 ghost use Rattle.std.specs.Prelude.{◌≡◌, ℕ, true, ◌≤◌, ◌<◌};
 ghost use Rattle.laws.specs.Problem.{Problem, a_constraint};
 ghost use Rattle.laws.specs.Step as laws;
-ghost use Rattle.rules.specs.Promise.{kind_of};
+ghost use Rattle.rules.specs.Promise.{view, kind_of, Gives};
 ghost use Rattle.derivation.specs.Encoded.{step_bytes};
-ghost use Rattle.derivation.specs.Inner.{step_in, Reads, Kept, Ready, part_named};
+ghost use Rattle.derivation.specs.Inner.{problem_of, step_in, Reads, Kept, Ready, part_named};
 
 use crate::kinds::{entry_of, field_within, kind_of, within};
 use circuit::bytes::{byte_at, u16_at};
@@ -76,11 +76,6 @@ impl Step {
         let reference = field_within(entry.refers, sizes.n, u32::from(self.reference));
         target & constraint & reference
     }
-}
-
-impl Step {
-    ghost use Rattle.rules.specs.Promise.{view, Gives};
-    ghost use Rattle.derivation.specs.Inner.{problem_of};
 
     // Takes the step on a standing: the next one, if the step meets its rule. A row that it looks at is made first.
     pub(crate) fn take(

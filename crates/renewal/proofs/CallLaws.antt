@@ -10,23 +10,21 @@ use lib.ListN.{length, drop}
 use Rattle.circuit.specs.Bytes.{u16_at}
 use Rattle.circuit.specs.Circuit.{Circuit}
 use Rattle.circuit.specs.Answer.{Answer, refused, given, ask, and_then}
-use Rattle.circuit.specs.Call.{sizes_of, circuit_call, circuit_of, Sized}
+use Rattle.circuit.specs.Call.{circuit_call, circuit_of}
 use Rattle.circuit.specs.declared.reader.Sizes.{Sizes}
-use Rattle.circuit.proofs.Sized.{on_sized, on_refused, sizes_are}
 use Rattle.laws.specs.Problem.{Problem}
 use Rattle.laws.specs.Standing.{Standing, start}
 use Rattle.laws.specs.Step.{less_idle}
 use Rattle.laws.proofs.Idle.{less_fewer}
 use Rattle.tags.specs.Tag.{Sheet, tagged}
 use Rattle.tags.specs.Sheet.{sheet_of, sheet_on, Unrefused}
-use Rattle.tags.proofs.SheetLaws.{sized_unrefused}
+use Rattle.tags.specs.Tagged.{tagged_call}
+use Rattle.tags.proofs.SheetLaws.{tagged_unrefused, tagged_refused}
 use Rattle.derivation.specs.Steps.{head_size, step_size, walked, steps_of}
 use Rattle.derivation.specs.Call.{framed}
 use Rattle.derivation.specs.Encoded.{encoded}
 use Rattle.derivation.specs.Exact.{Framed}
-use Rattle.derivation.specs.Inner.{by_way, tagged_in, unflagged, Noted}
-use Rattle.derivation.specs.declared.walk.Way.{Way}
-use Rattle.derivation.specs.declared.walk.Way.TheVariants.{On, Stopped}
+use Rattle.derivation.specs.Inner.{tagged_in, unflagged, Noted}
 use Rattle.derivation.proofs.Walks.{walk_passed}
 use Rattle.derivation.proofs.Encoding.{encoded_lists}
 use Rattle.derivation.proofs.Written.{header_written}
@@ -42,22 +40,8 @@ renews_refused : (c h d output : List ℕ) (number place : ℕ) → refused numb
 unfolding renewal_output
 renews_refused c h d output number place e = record { answer = e; written = rw (← e) }
 
--- after the frame's tests
-pub record Checked (c h d output : List ℕ) (z : Sizes) (way : Way) : Type 0 where
-  pub sized : Sized c z
-  pub sheeted : sheet_on z h ≡ given (sheet_of h)
-  pub head : (x : Answer Standing) → by_way way x ≡ framed d x
-
--- after the steps
-pub record Walked (c h d output : List ℕ) (z : Sizes) (way on : Way) (S : Standing) : Type 0 where
-  pub checked : Checked c h d output z way
-  pub fine : way ≡ On
-  pub walk : by_way on (given S) ≡ walked true (tagged_in c h) d
-
-module _ {c h d output : List ℕ} {z : Sizes} {way : Way} (H : Checked c h d output z way) where
-  unrefused : Unrefused c h (circuit_of c) (sheet_of h)
-  unrefused = sized_unrefused H.sized H.sheeted
-
+-- on a circuit and a sheet that aren't refused, by the frame's answer and that of the steps
+module _ (c h : List ℕ) {z : Sizes} (read : circuit_call c ≡ given z) (fits : sheet_on z h ≡ given (sheet_of h)) (d output : List ℕ) where
   abbrev P : Problem
   P = tagged_in c h
 
@@ -65,79 +49,77 @@ module _ {c h d output : List ℕ} {z : Sizes} {way : Way} (H : Checked c h d ou
   abbrev then : Answer Standing → Answer ℕ
   then v = and_then v (λ (S : Standing). ask (leb (length d) (length output)) 25 0 (given (length (renewed P d))))
 
-  call_framed : (w : Answer Standing) → w ≡ walked true P d → renewal_call c h d (length output) ≡ then (by_way way w)
+  unrefused : Unrefused c h (circuit_of c) (sheet_of h)
+  unrefused = tagged_unrefused c h read fits
+
+  call_is : renewal_call c h d (length output) ≡ then (framed d (walked true P d))
   unfolding renewal_on
-  call_framed w e = call_on unrefused d (length output) ∙ ap then (ap (framed d) (sym e) ∙ sym (H.head w))
+  call_is = call_on unrefused d (length output)
 
-  pub head_refused : (number place : ℕ) → way ≡ Stopped number place → Renews c h d output (refused number place) output
-  head_refused number place e = renews_refused c h d output number place (sym (call_framed _ refl ∙ rw e))
+  module _ {A : Type 0} {head : Answer A} (framing : (x : Answer Standing) → and_then head (λ (done : A). x) ≡ framed d x) where
+    pub head_refused : {number place : ℕ} → head ≡ refused number place → Renews c h d output (refused number place) output
+    head_refused {number} {place} e =
+        let out : framed d (walked true P d) ≡ refused number place = sym (framing _) ∙ rw e in
+        renews_refused c h d output number place (sym (call_is ∙ ap then out))
 
-  pub head_framed : way ≡ On → Framed d
-  head_framed fine =
-      let any : framed d (given (start P)) ≡ given (start P) = sym (H.head (given (start P))) ∙ rw fine in
-      (framed_given d (given (start P)) any).0
+    module _ {done : A} (fine : head ≡ given done) where
+      pub head_framed : Framed d
+      head_framed =
+          let any : framed d (given (start P)) ≡ given (start P) = sym (framing _) ∙ rw fine in
+          (framed_given d (given (start P)) any).0
 
-module _ {c h d output : List ℕ} {z : Sizes} {way on : Way} {S : Standing} (W : Walked c h d output z way on S) where
-  pub walk_refused : (number place : ℕ) → on ≡ Stopped number place → Renews c h d output (refused number place) output
-  walk_refused number place e =
-      renews_refused c h d output number place (sym (call_framed W.checked (by_way on (given S)) W.walk ∙ rw (W.fine, e)))
+      call_walked : {w : Answer Standing} → w ≡ walked true P d → renewal_call c h d (length output) ≡ then w
+      call_walked {w} steps =
+          let on : framed d (walked true P d) ≡ w = sym (framing _) ∙ rw (fine, ← steps) in
+          call_is ∙ ap then on
 
-  module _ (ended : on ≡ On) where
-    pub room_refused : length output < length d → Renews c h d output (refused 25 0) output
-    room_refused few =
-        renews_refused c h d output 25 0
-        (sym (call_framed W.checked (by_way on (given S)) W.walk ∙ rw (W.fine, ended, lt-leb (length d) (length output) few)))
+      pub walk_refused : {number place : ℕ} → refused number place ≡ walked true P d → Renews c h d output (refused number place) output
+      walk_refused {number} {place} steps = renews_refused c h d output number place (sym (call_walked steps))
 
-    given_as : length d ≤ length output → GivenAs (tagged_in c h) d (length output)
-    unfolding steps_of
-    given_as roomy =
-        let w = walk_passed true (tagged_in c h) d 0 (u16_at d 5) (start (tagged_in c h)) S (sym (rw ended at W.walk)) in
-        record { framed = head_framed W.checked W.fine; met = w.passed; counted = w.counted; roomy = roomy }
+      module _ {S : Standing} (steps : given S ≡ walked true P d) where
+        pub room_refused : length output < length d → Renews c h d output (refused 25 0) output
+        room_refused few = renews_refused c h d output 25 0 (sym (call_walked steps ∙ rw (lt-leb (length d) (length output) few)))
 
-    -- all kinds are known
-    pub all_listed : length (steps_of d) ≡ u16_at d 5
-    unfolding steps_of
-    all_listed = (walk_passed true (tagged_in c h) d 0 (u16_at d 5) (start (tagged_in c h)) S (sym (rw ended at W.walk))).counted
+        given_as : length d ≤ length output → GivenAs P d (length output)
+        unfolding steps_of
+        given_as roomy =
+            let w = walk_passed true P d 0 (u16_at d 5) (start P) S (sym steps) in
+            record { framed = head_framed; met = w.passed; counted = w.counted; roomy = roomy }
 
-    pub renews : length d ≤ length output → {room : ℕ} {idle : List Bool} → Noted (tagged_in c h) (start (tagged_in c h)) d room idle → u16_at d 5 ≤ room
-        → {left : List ℕ} {count : ℕ} → Copied (unflagged idle d (u16_at d 5)) output left count → Renews c h d output (given (head_size + step_size * count)) left
-    unfolding renewed
-    renews roomy N enough {left} {count} K =
-        let P = tagged_in c h in
-        let xs = less_idle P (start P) (steps_of d) in
-        let U = unrefused W.checked in
-        let C : Copied xs output left count = rw (N.tells enough) at K in
-        let sized = (encoded_lists xs).sized in
-        let bytes : head_size + step_size * count ≡ length (encoded xs) = omega (arith, C.counted, sized) in
-        let on = given_renewal P d (length output) (given_as roomy) in
-        let room : head_size + step_size * length xs ≤ length output = omega (arith, less_fewer P (start P) (steps_of d), (given_as roomy).counted, (given_as roomy).framed.sized) in
-        record {
-          answer = ap given bytes ∙ sym (call_on U d (length output) ∙ on);
-          written =
-              C.written
-              ∙ header_written output _ xs refl room
-              ∙ ap (λ (k : ℕ). encoded xs ++ drop k output) (sym sized)
-              ∙ sym (output_on U d output ∙ ap (λ (r : Answer ℕ). left_by r P d output) on);
-        }
+        -- all kinds are known
+        pub all_listed : length (steps_of d) ≡ u16_at d 5
+        unfolding steps_of
+        all_listed = (walk_passed true P d 0 (u16_at d 5) (start P) S (sym steps)).counted
+
+        pub renews : length d ≤ length output → {room : ℕ} {idle : List Bool} → Noted P (start P) d room idle → u16_at d 5 ≤ room
+            → {left : List ℕ} {count : ℕ} → Copied (unflagged idle d (u16_at d 5)) output left count
+            → Renews c h d output (given (head_size + step_size * count)) left
+        unfolding renewed
+        renews roomy N enough {left} {count} K =
+            let xs = less_idle P (start P) (steps_of d) in
+            let C : Copied xs output left count = rw (N.tells enough) at K in
+            let sized = (encoded_lists xs).sized in
+            let bytes : head_size + step_size * count ≡ length (encoded xs) = omega (arith, C.counted, sized) in
+            let on = given_renewal P d (length output) (given_as roomy) in
+            let G = given_as roomy in
+            let room : head_size + step_size * length xs ≤ length output
+            = omega (arith, less_fewer P (start P) (steps_of d), G.counted, G.framed.sized) in
+            record {
+              answer = ap given bytes ∙ sym (call_on unrefused d (length output) ∙ on);
+              written =
+                  C.written
+                  ∙ header_written output _ xs refl room
+                  ∙ ap (λ (k : ℕ). encoded xs ++ drop k output) (sym sized)
+                  ∙ sym (output_on unrefused d output ∙ ap (λ (r : Answer ℕ). left_by r P d output) on);
+            }
 
 -- The whole call
 
-pub circuit_refused : (c h d output : List ℕ) {number place : ℕ} → refused number place ≡ circuit_call c → Renews c h d output (refused number place) output
+pub call_refused : (c h d output : List ℕ) {number place : ℕ} → refused number place ≡ tagged_call c h → Renews c h d output (refused number place) output
 unfolding renewal_call
-circuit_refused c h d output e =
-    renews_refused c h d output _ _
-    (on_refused c (λ (C : Circuit). and_then (sheet_on (sizes_of C) h) (λ (T : Sheet). renewal_on (tagged C T) d (length output))) e)
-
-pub sheet_refused : (c h d output : List ℕ) {z : Sizes} {number place : ℕ} → Sized c z → refused number place ≡ sheet_on z h
-    → Renews c h d output (refused number place) output
-unfolding renewal_call
-sheet_refused c h d output Z e =
-    renews_refused c h d output _ _
-    (sym
-    (on_sized (λ (C : Circuit). and_then (sheet_on (sizes_of C) h) (λ (T : Sheet). renewal_on (tagged C T) d (length output))) Z
-    ∙ rw (← (sizes_are Z), ← e)))
+call_refused c h d output e =
+    renews_refused c h d output _ _ (tagged_refused c h (λ (C : Circuit) (T : Sheet). renewal_on (tagged C T) d (length output)) e)
 
 -- RENEWED follows from the answer and what is left
-pub call_keeps : (c h d output left : List ℕ) (r : Answer ℕ) → Bytes d → Renews c h d output r left
-    → (r ≡ renewal_call c h d (length output)) × ((left ≡ renewal_output c h d output) × RenewedCall c h d output r left)
-call_keeps c h d output left r B A = (A.answer, (A.written, rw (A.answer, A.written) (renewed_call c h d output B)))
+pub renewed_kept : {c h d output left : List ℕ} {r : Answer ℕ} → Bytes d → Renews c h d output r left → RenewedCall c h d output r left
+renewed_kept {c} {h} {d} {output} B A = rw (A.answer, A.written) (renewed_call c h d output B)

@@ -1,38 +1,24 @@
--- Laws of copying: the first bytes of a step are stored, and of the first steps those that aren't noted as idle.
-use Prim.Native.Nat.{ℕ, ◌+◌, ◌*◌, ◌≤◌, ◌<◌}
+-- Laws of copying: of the first steps those that aren't noted as idle are stored.
+use Prim.Native.Nat.{ℕ, ◌+◌, ◌*◌, ◌<◌}
 use mathlib.Core.Path.{◌≡◌, refl, sym, ap, ◌∙◌}
-use mathlib.Core.Bool.{Bool, true, false}
+use mathlib.Core.Bool.{Bool, true, false, not}
 use mathlib.Core.List.{List, [], ◌∷◌, ◌++◌, append-nil}
 use native.Mathlib.Numerals.{add-one}
 use native.Mathlib.Omega.{arith}
-use lib.ListN.{length, length-append, length-drop, length-take, get_or, set, take, drop}
-use lib.Seq.{get_or-drop, get_or-take}
+use lib.ListN.{length, length-append, get_or, take, drop}
 use Rattle.circuit.specs.Bytes.{u16_at}
 use Rattle.derivation.specs.Steps.{head_size, step_size, step_start, steps_of}
 use Rattle.derivation.specs.Encoded.{header_bytes, step_bytes, steps_bytes, stored}
 use Rattle.derivation.specs.Inner.{unflagged}
 use Rattle.derivation.proofs.Walks.{step_known}
-use Rattle.derivation.proofs.Written.{byte_more, all_stored, nothing_stored, written_next}
+use Rattle.derivation.proofs.Written.{nothing_stored, written_next}
 use Rattle.renewal.specs.Inner.{Copied}
 use Rattle.renewal.proofs.Bytes.{Bytes, step_copied}
 
--- The bytes of a step
-
-module _ (d : List ℕ) (from : ℕ) (h : from + 7 ≤ length d) where
-  block_long : length (take 7 (drop from d)) ≡ 7
-  block_long = omega (arith, length-take 7 (drop from d), length-drop from d)
-
-  block_at : (j : ℕ) → j < 7 → get_or (take 7 (drop from d)) j 0 ≡ get_or d (from + j) 0
-  block_at j l = get_or-take 7 (drop from d) j 0 l ∙ get_or-drop from d j 0
-
-  -- one byte more
-  pub copy_more : (out₀ out : List ℕ) (at j : ℕ) → j < 7 → out ≡ stored out₀ at (take j (take 7 (drop from d)))
-      → set out (at + j) (get_or d (from + j) 0) ≡ stored out₀ at (take (j + 1) (take 7 (drop from d)))
-  copy_more out₀ out at j l e =
-      ap (set out (at + j)) (sym (block_at j l)) ∙ byte_more out₀ out at (take 7 (drop from d)) j (omega (arith, block_long)) e
-
-  pub copy_all : (out₀ out : List ℕ) (at j : ℕ) → 7 ≤ j → out ≡ stored out₀ at (take j (take 7 (drop from d))) → out ≡ stored out₀ at (take 7 (drop from d))
-  copy_all out₀ out at j l e = all_stored out₀ out at (take 7 (drop from d)) j (omega (arith, block_long)) e
+-- a test that is turned round
+pub told : (b : Bool) → not b ≡ false → b ≡ true
+told true e = refl
+told false e = sym e
 
 -- The steps
 

@@ -1,6 +1,6 @@
 // Steps copied from one derivation to another.
 
-ghost use Rattle.std.specs.Prelude.{◌≡◌, ◌+◌, ◌*◌, ◌≤◌, length, take, drop};
+ghost use Rattle.std.specs.Prelude.{◌≡◌, ◌+◌, ◌*◌, ◌≤◌, false, not, length, take, drop, get_or};
 ghost use Rattle.circuit.specs.Bytes.{u16_at};
 ghost use Rattle.derivation.specs.Steps.{head_size, step_size, step_start, steps_of};
 ghost use Rattle.derivation.specs.Encoded.{stored};
@@ -9,7 +9,6 @@ ghost use Rattle.renewal.specs.Inner.{Copied};
 
 use circuit::bytes::u16_at;
 use derivation::writer::put_header;
-use rules::view::mark_at;
 
 // Step k, counted from 0, to place `index` of the output.
 fn copy_step(derivation: &[u8], k: usize, output: &mut [u8], index: usize)
@@ -19,11 +18,14 @@ fn copy_step(derivation: &[u8], k: usize, output: &mut [u8], index: usize)
 {
     let from = 7 + 7 * k;
     let to = 7 + 7 * index;
-    let mut j: usize = 0;
-    while j < 7 {
-        output[to + j] = derivation[from + j];
-        j = j + 1;
-    }
+    output[to..to + 7].copy_from_slice(&derivation[from..from + 7]);
+}
+
+// Whether step k isn't noted as idle.
+fn is_kept(idle: &[bool], k: usize) -> bool
+    ensures { result ≡ not (get_or idle.now k false) }
+{
+    !idle.get(k).copied().unwrap_or(false)
 }
 
 // The steps that aren't noted as idle, one after the other, and the header before them. Gives how many there are.
@@ -35,15 +37,12 @@ pub(crate) fn copy_steps(derivation: &[u8], idle: &[bool], output: &mut [u8]) ->
 {
     let count = u16_at(derivation, 5) as usize;
     let mut index: usize = 0;
-    let mut k: usize = 0;
-    while k < count {
-        let noted = mark_at(idle, k);
-        k = k + 1;
-        if noted {
-            continue;
+    for k in 0..count {
+        let kept = is_kept(idle, k);
+        if kept {
+            copy_step(derivation, k, output, index);
+            index += 1;
         }
-        copy_step(derivation, k - 1, output, index);
-        index = index + 1;
     }
     put_header(output, index as u16);
     index
