@@ -15,9 +15,11 @@ use Rattle.laws.proofs.Forms.{others_at, others_from}
 use Rattle.laws.proofs.ProductRule.{product_met_lem}
 use Rattle.rules.specs.View.{mark_in}
 use Rattle.rules.specs.Rows.{entries, rank, involves, stands, forms_of, signal_on, forms_on, mark_on, Row}
+use Rattle.rules.specs.declared.rows.Entry.{Entry}
 use Rattle.rules.proofs.Ranks.{rank_zero, rank_below}
-use Rattle.rules.proofs.RowLaws.{stands_is, constant_stands, Entry, entries_are, row_entry, row_rising}
-use Rattle.solver.specs.Search.{Alone}
+use Rattle.rules.proofs.RowLaws.{stands_is, constant_stands, EntryIs, entries_are, row_entry, row_rising}
+use Rattle.std.specs.Prelude.{Option, None, Some, is_some}
+use Rattle.solver.specs.Search.{Alone, SomeAlone}
 use Rattle.solver.proofs.KeyWays.{named_within}
 
 -- What a product step says
@@ -61,14 +63,14 @@ module _ (K : Constraint) (m : ℕ → Bool) (u : ℕ) (e : product_met K m u �
 -- The walk
 
 -- of the entries before i all are marked, but one that C alone names, if there is a place
-pub record Seen (marks : List Bool) (row : List ℕ) (i place : ℕ) : Type 0 where
+pub record Seen (marks : List Bool) (row : List Entry) (i place : ℕ) : Type 0 where
   pub each : (j : ℕ) → j < i → 1 ≤ j → (j ≡ place → ⊥) → mark_on marks row j ≡ true
   pub held : 1 ≤ place → (place < i) × (forms_on row place ≡ 4) × (mark_on marks row place ≡ false)
 
-pub seen_start : (marks : List Bool) (row : List ℕ) → Seen marks row 1 0
+pub seen_start : (marks : List Bool) (row : List Entry) → Seen marks row 1 0
 seen_start marks row = record { each = λ j h l d. absurd (omega arith); held = λ l. absurd (omega arith) }
 
-module _ {marks : List Bool} {row : List ℕ} {i place : ℕ} (S : Seen marks row i place) where
+module _ {marks : List Bool} {row : List Entry} {i place : ℕ} (S : Seen marks row i place) where
   pub seen_marked : mark_on marks row i ≡ true → Seen marks row (i + 1) place
   seen_marked e =
       record {
@@ -83,7 +85,7 @@ module _ {marks : List Bool} {row : List ℕ} {i place : ℕ} (S : Seen marks ro
         held = λ l. (omega arith, f, e);
       }
 
-module _ {p n : ℕ} {K : Constraint} (W : WellFormedConstraint n p K) {row : List ℕ} (R : Row p n K row) (marks : List Bool) where
+module _ {p n : ℕ} {K : Constraint} (W : WellFormedConstraint n p K) {row : List Entry} (R : Row p n K row) (marks : List Bool) where
   abbrev m : ℕ → Bool
   m = mark_in marks
 
@@ -97,27 +99,19 @@ module _ {p n : ℕ} {K : Constraint} (W : WellFormedConstraint n p K) {row : Li
       let some = some_signal i l h in
       product_at K m u e (signal_on row i) some (sym (stands_is K _ some) ∙ (row_entry R i h).standing) free
 
-  pub alone_named : {i : ℕ} → 1 ≤ i → i < entries row → mark_on marks row i ≡ false → (forms_on row i ≡ 4 → ⊥) → Alone n K m 0
-  alone_named {i} l h free d =
-      record {
-        only = λ u a b f e. absurd (d ((row_entry R i h).forms ∙ ap (forms_of K) (only_at i l h free u e) ∙ product_four K m u e));
-        found = λ a. absurd (omega arith);
-      }
+  pub alone_named : {i : ℕ} → 1 ≤ i → i < entries row → mark_on marks row i ≡ false → (forms_on row i ≡ 4 → ⊥) → SomeAlone n K m None
+  alone_named {i} l h free d u a b f e = d ((row_entry R i h).forms ∙ ap (forms_of K) (only_at i l h free u e) ∙ product_four K m u e)
 
-  pub alone_two : {i place : ℕ} → Seen marks row i place → (place ≡ 0 → ⊥) → i < entries row → mark_on marks row i ≡ false → Alone n K m 0
-  alone_two {i} {place} S d h free =
+  pub alone_two : {i place : ℕ} → Seen marks row i place → (place ≡ 0 → ⊥) → i < entries row → mark_on marks row i ≡ false → SomeAlone n K m None
+  alone_two {i} {place} S d h free u a b f e =
       let first : 1 ≤ place = omega arith in
       let H = S.held first in
-      record {
-        only = λ u a b f e.
-            absurd (omega (
-              arith,
-              only_at place first (omega (arith, H.0)) H.2 u e,
-              only_at i (omega (arith, H.0)) h free u e,
-              row_rising R place i H.0 (omega (arith, entries_are R)),
-            ));
-        found = λ a. absurd (omega arith);
-      }
+      omega (
+        arith,
+        only_at place first (omega (arith, H.0)) H.2 u e,
+        only_at i (omega (arith, H.0)) h free u e,
+        row_rising R place i H.0 (omega (arith, entries_are R)),
+      )
 
   module _ {i place : ℕ} (S : Seen marks row i place) (all : entries row ≤ i) where
     -- every unmarked signal that is named is that of the place
@@ -132,12 +126,8 @@ module _ {p n : ℕ} {K : Constraint} (W : WellFormedConstraint n p K) {row : Li
         (λ d.
         true_or_false _ (ap m (sym is) ∙ S.each j (omega (arith, all, entries_are R, rank_below (stands K) s (suc n) (omega arith) e)) first d) free)
 
-    pub alone_none : place ≡ 0 → Alone n K m 0
-    alone_none z =
-        record {
-          only = λ u a b f e. absurd (omega (arith, (at_place u a b (product_involves K m u e) f).0));
-          found = λ a. absurd (omega arith);
-        }
+    pub alone_none : place ≡ 0 → SomeAlone n K m None
+    alone_none z u a b f e = omega (arith, (at_place u a b (product_involves K m u e) f).0)
 
     module _ (d : place ≡ 0 → ⊥) (inside : place < entries row) where
       abbrev t : ℕ
@@ -146,7 +136,7 @@ module _ {p n : ℕ} {K : Constraint} (W : WellFormedConstraint n p K) {row : Li
       H : (place < i) × (forms_on row place ≡ 4) × (mark_on marks row place ≡ false)
       H = S.held (omega arith)
 
-      E : Entry p n K row place
+      E : EntryIs p n K row place
       E = row_entry R place inside
 
       others : {f : Form} → Rises n p 0 f → ((s : ℕ) → names f s ≡ true → involves K s ≡ true) → others_marked m t f ≡ true
@@ -173,6 +163,45 @@ module _ {p n : ℕ} {K : Constraint} (W : WellFormedConstraint n p K) {row : Li
       unfolding mark_on
       alone_found =
           record {
+            least = some_signal place (omega arith) inside;
             only = λ u a b f e. (at_place u a b (product_involves K m u e) f).1;
-            found = λ a nonlinear. (E.within, H.2, meets nonlinear);
+            met = λ nonlinear. (E.within, H.2, meets nonlinear);
           }
+
+-- The walk in the code's terms
+
+-- the signal of the place, if there is one
+pub record Sought (marks : List Bool) (row : List Entry) (i : ℕ) (found : Option ℕ) : Type 0 where
+  pub place : ℕ
+  pub seen : Seen marks row i place
+  pub absent : place ≡ 0 → found ≡ None
+  pub present : 1 ≤ place → (found ≡ Some (signal_on row place)) × (place < entries row)
+
+pub sought_start : (marks : List Bool) (row : List Entry) → Sought marks row 1 None
+sought_start marks row = record { place = 0; seen = seen_start marks row; absent = λ z. refl; present = λ l. absurd (omega arith) }
+
+module _ {marks : List Bool} {row : List Entry} {i : ℕ} {found : Option ℕ} (S : Sought marks row i found) where
+  pub sought_marked : mark_on marks row i ≡ true → Sought marks row (i + 1) found
+  sought_marked e = record { place = S.place; seen = seen_marked S.seen e; absent = S.absent; present = S.present }
+
+  no_place : is_some found ≡ false → S.place ≡ 0
+  no_place e = by_equal S.place 0 (λ z. z) (λ d. true_or_false (is_some found) (ap is_some (S.present (omega arith)).0) e)
+
+  pub sought_found : 1 ≤ i → i < entries row → is_some found ≡ false → mark_on marks row i ≡ false → forms_on row i ≡ 4
+      → Sought marks row (i + 1) (Some (signal_on row i))
+  sought_found l h e free f =
+      record {
+        place = i;
+        seen = seen_found S.seen (no_place e) free f;
+        absent = λ z. absurd (omega arith);
+        present = λ a. (refl, h);
+      }
+
+  module _ {p n : ℕ} {K : Constraint} (W : WellFormedConstraint n p K) (R : Row p n K row) where
+    pub sought_two : is_some found ≡ true → i < entries row → mark_on marks row i ≡ false → SomeAlone n K (mark_in marks) None
+    sought_two e h free = alone_two W R marks S.seen (λ z. true_or_false (is_some found) e (ap is_some (S.absent z))) h free
+
+    pub sought_end : entries row ≤ i → SomeAlone n K (mark_in marks) found
+    sought_end all =
+        by_equal S.place 0 (λ z. rw (S.absent z) (alone_none W R marks S.seen all z))
+        (λ d. let P = S.present (omega arith) in rw P.0 (alone_found W R marks S.seen all d P.1))

@@ -1,12 +1,11 @@
 -- Keys of steps: their order is the order of the solver's choice, so the least key is the step that the bounds phase takes.
-use Prim.Native.Nat.{ℕ, ◌+◌, ◌*◌, ◌/◌, ◌%◌, ◌≤◌, ◌<◌}
+use Prim.Native.Nat.{ℕ, ◌≤◌, ◌<◌}
 use mathlib.Core.Path.{◌≡◌, refl, sym, ap, ◌∙◌}
 use mathlib.Core.Bool.{true, false}
-use mathlib.Core.List.{List}
-use mathlib.Core.Option.{Option, none, some}
+use mathlib.Core.Option as math
+use mathlib.Core.Option.{none, some}
 use mathlib.Core.Logic.{⊎_elim}
 use native.Mathlib.Omega.{arith}
-use native.Mathlib.Nat.{mod-lt, div-add-mod'}
 use lib.Dec.{ltb}
 use borrow.Author.Tests.{ltb-false, le-ltb}
 use Rattle.circuit.specs.Circuit.{Circuit, WellFormed, constraint_at}
@@ -18,41 +17,47 @@ use Rattle.laws.proofs.KindLaws.{number_is, number_below}
 use Rattle.laws.proofs.Sum.{true_or_false, by_order}
 use Rattle.laws.proofs.Best.{first_by_says, first_by_holds, lowers_says, bounding_fields, best_none, best_some}
 use Rattle.laws.proofs.Best.{Bounding}
-use Rattle.rules.specs.Rows.{at}
-use Rattle.solver.specs.Bounds.{key_of, no_key, LowersTo, Holder, Keys, Least}
+use Rattle.std.specs.Prelude.{Option, None, Some}
+use Rattle.rules.specs.Promise.{kind_of}
+use Rattle.solver.specs.Bounds.{key_of, no_key, key_in, least_of, place_of, reference_of, Narrow, AllNarrow, LowersTo, Holder, IsKey, Least}
+use Rattle.solver.specs.Choice.{step_of, choice_of}
+use Rattle.solver.specs.declared.keys.Key.{Key}
+use Rattle.solver.specs.declared.keys.Choice.{Choice}
 use Rattle.solver.proofs.KeyLaws.{lowers_bounding, lowers_below, lowers_to, lowers_step}
 
 -- A key and its parts
-
-pub key_kind : (b t q : ℕ) → q < 8 → key_of b t q % 8 ≡ q
-unfolding key_of
-key_kind b t q few = omega (arith, div-add-mod' ((b * 65536 + t) * 8 + q) 8, mod-lt ((b * 65536 + t) * 8 + q) {m = 8} (omega arith))
-
-pub key_target : (b t q : ℕ) → t < 65536 → q < 8 → key_of b t q / 8 % 65536 ≡ t
-unfolding key_of
-key_target b t q small few =
-    let pair = b * 65536 + t in
-    let rest : (pair * 8 + q) / 8 ≡ pair = omega (arith, div-add-mod' (pair * 8 + q) 8, mod-lt (pair * 8 + q) {m = 8} (omega arith)) in
-    ap (λ (x : ℕ). x % 65536) rest ∙ omega (arith, div-add-mod' pair 65536, mod-lt pair {m = 65536} (omega arith))
 
 -- a key has three bits for the number of a kind
 pub kind_small : (q : Kind) → kind_number q < 8
 kind_small q = number_below 8 refl q
 
-same_step : (x y : Step) → x.kind ≡ y.kind → x.target ≡ y.target → x.constraint ≡ y.constraint → x.reference ≡ y.reference → x ≡ y
+pub key_parts : (b t q : ℕ) {b' t' q' : ℕ} → t < 4294967296 → q < 8 → t' < 4294967296 → q' < 8 → key_of b t q ≡ key_of b' t' q'
+    → (b ≡ b') × (t ≡ t') × (q ≡ q')
+unfolding key_of
+key_parts b t q h few h' few' e = (omega arith, omega arith, omega arith)
+
+pub key_number : (b t q b' t' q' : ℕ) → q < 8 → q' < 8 → key_of b t q ≡ key_of b' t' q' → q ≡ q'
+unfolding key_of
+key_number b t q b' t' q' few few' e = omega arith
+
+pub key_small : {key : Key} → Narrow key → key_in key < no_key
+unfolding key_of
+key_small {key} N = omega (arith, kind_small (kind_of key.kind), N.bound, N.target)
+
+pub same_step : (x y : Step) → x.kind ≡ y.kind → x.target ≡ y.target → x.constraint ≡ y.constraint → x.reference ≡ y.reference → x ≡ y
 same_step x y a b c d =
     ap (λ (q : Kind). step q x.target x.constraint x.reference) a
     ∙ ap (λ (t : ℕ). step y.kind t x.constraint x.reference) b
     ∙ ap (λ (k : ℕ). step y.kind y.target k x.reference) c
     ∙ ap (λ (r : ℕ). step y.kind y.target y.constraint r) d
 
-module _ (P : Problem) (S : Standing) (narrow : P.n < 65536) (positive : 0 < P.p) (below : P.p ≤ 4294967296) where
+module _ (P : Problem) (S : Standing) (narrow : P.n < 4294967296) (positive : 0 < P.p) (below : P.p ≤ 4294967296) where
   abbrev keyed : Step → ℕ
   keyed x = key_of (new_bound P S x) x.target (kind_number x.kind)
 
   -- what a step that lowers a bound has
   record Small (x : Step) : Type 0 where
-    target : x.target < 65536
+    target : x.target < 4294967296
     constraint : (1 ≤ x.constraint) × (x.constraint ≤ P.m)
     reference : x.reference ≡ 0
     most : kind_number x.kind < 8
@@ -120,7 +125,7 @@ module _ (P : Problem) (S : Standing) (narrow : P.n < 65536) (positive : 0 < P.p
   best_is : (x : Step) → lowers P S x ≡ true → ((y : Step) → lowers P S y ≡ true → precedes P S y x ≡ false) → best_bound P S ≡ some x
   best_is x l h = go (best_bound P S) refl
     where
-      go : (o : Option Step) → best_bound P S ≡ o → best_bound P S ≡ some x
+      go : (o : math.Option Step) → best_bound P S ≡ o → best_bound P S ≡ some x
       go none e = true_or_false _ l (best_none P S e x)
       go (some y) e =
           let b = best_some P S y e in
@@ -129,7 +134,7 @@ module _ (P : Problem) (S : Standing) (narrow : P.n < 65536) (positive : 0 < P.p
   best_not : ((x : Step) → lowers P S x ≡ true → ⊥) → best_bound P S ≡ none
   best_not h = go (best_bound P S) refl
     where
-      go : (o : Option Step) → best_bound P S ≡ o → best_bound P S ≡ none
+      go : (o : math.Option Step) → best_bound P S ≡ o → best_bound P S ≡ none
       go none e = e
       go (some y) e = absurd (h y (best_some P S y e).0)
 
@@ -143,12 +148,11 @@ pub record Taken (C : Circuit) (S : Standing) (k key : ℕ) : Type 0 where
   pub bound : ℕ
   pub lowers_it : LowersTo C.p C.n (constraint_at C k) S.bound kind target bound
   pub chosen : (first : ℕ → ℕ) → best_bound (given C first) S ≡ some (step kind target k 0)
-  pub is_kind : key % 8 ≡ kind_number kind
-  pub is_target : key / 8 % 65536 ≡ target
+  pub is_key : key ≡ key_of bound target (kind_number kind)
 
-module _ (C : Circuit) (W : WellFormed C) (S : Standing) (keys : List ℕ) (K : Keys C S.bound keys)
-    (r : ℕ) (L : Least keys C.m r) where
-  narrow : C.n < 65536
+module _ (C : Circuit) (W : WellFormed C) (S : Standing) (keys : ℕ → ℕ) (top : keys 0 ≡ no_key)
+    (each : (k : ℕ) → 1 ≤ k → k ≤ C.m → IsKey C.p C.n (constraint_at C k) S.bound (keys k)) (r : ℕ) (L : Least keys C.m r) where
+  narrow : C.n < 4294967296
   narrow = omega (arith, W.n_most)
 
   positive : 0 < C.p
@@ -162,10 +166,10 @@ module _ (C : Circuit) (W : WellFormed C) (S : Standing) (keys : List ℕ) (K : 
     P = given C first
 
     -- the key of a step is that of its constraint
-    key_of_lem : (y : Step) → lowers P S y ≡ true → at keys y.constraint ≡ keyed P S narrow positive below y
+    key_of_lem : (y : Step) → lowers P S y ≡ true → keys y.constraint ≡ keyed P S narrow positive below y
     key_of_lem y l =
         let s = small P S narrow positive below y l in
-        (K.each y.constraint s.constraint.0 s.constraint.1).only y.kind y.target (new_bound P S y) (lowers_to P S y l)
+        (each y.constraint s.constraint.0 s.constraint.1).only y.kind y.target (new_bound P S y) (lowers_to P S y l)
 
     pub nothing_left : r ≡ 0 → best_bound P S ≡ none
     unfolding key_of
@@ -173,21 +177,19 @@ module _ (C : Circuit) (W : WellFormed C) (S : Standing) (keys : List ℕ) (K : 
         best_not P S narrow positive below
         (λ y l.
         let s = small P S narrow positive below y l in
-        let top : at keys r ≡ no_key = ap (at keys) e ∙ K.top in
+        let top : keys r ≡ no_key = ap keys e ∙ top in
         omega (arith, L.least y.constraint s.constraint.1, key_of_lem y l, s.target, s.most, s.bound))
 
     -- a step with the least key is the choice
-    is_chosen : (x : Step) → lowers P S x ≡ true → x.constraint ≡ r → keyed P S narrow positive below x ≡ at keys r → best_bound P S ≡ some x
+    is_chosen : (x : Step) → lowers P S x ≡ true → x.constraint ≡ r → keyed P S narrow positive below x ≡ keys r → best_bound P S ≡ some x
     is_chosen x l e own =
         best_is P S narrow positive below x l
         (λ y m.
         key_first P S narrow positive below x y l m (omega (arith, key_of_lem y m, L.least y.constraint (small P S narrow positive below y m).constraint.1))
         (λ h. omega (arith, key_of_lem y m, L.first y.constraint (omega arith))))
 
-  taken_by : 1 ≤ r → Holder C.p C.n (constraint_at C r) S.bound (at keys r) → Taken C S r (at keys r)
+  taken_by : 1 ≤ r → Holder C.p C.n (constraint_at C r) S.bound (keys r) → Taken C S r (keys r)
   taken_by low H =
-      let few = kind_small H.kind in
-      let short : H.target < 65536 = omega (arith, H.lowers.most, narrow) in
       record {
         kind = H.kind;
         bounding = lowers_bounding _ _ _ _ H.lowers;
@@ -195,8 +197,7 @@ module _ (C : Circuit) (W : WellFormed C) (S : Standing) (keys : List ℕ) (K : 
         bound = H.bound;
         lowers_it = H.lowers;
         chosen = chosen;
-        is_kind = ap (λ (k : ℕ). k % 8) H.is_key ∙ key_kind H.bound H.target (kind_number H.kind) few;
-        is_target = ap (λ (k : ℕ). k / 8 % 65536) H.is_key ∙ key_target H.bound H.target (kind_number H.kind) short few;
+        is_key = H.is_key;
       }
     where
       chosen : (first : ℕ → ℕ) → best_bound (given C first) S ≡ some (step H.kind H.target r 0)
@@ -205,7 +206,26 @@ module _ (C : Circuit) (W : WellFormed C) (S : Standing) (keys : List ℕ) (K : 
           is_chosen first (step H.kind H.target r 0) g.0 refl
           (ap (λ (v : ℕ). key_of v H.target (kind_number H.kind)) g.1 ∙ sym H.is_key)
 
-  pub taken_step : (r ≡ 0 → ⊥) → Taken C S r (at keys r)
+  pub taken_step : (r ≡ 0 → ⊥) → Taken C S r (keys r)
   taken_step h =
-      ⊎_elim (λ (e : at keys r ≡ no_key). absurd (omega (arith, K.top, L.first 0 (omega arith)))) (taken_by (omega arith))
-      (K.each r (omega arith) L.within).held
+      ⊎_elim (λ (e : keys r ≡ no_key). absurd (omega (arith, top, L.first 0 (omega arith)))) (taken_by (omega arith))
+      (each r (omega arith) L.within).held
+
+  -- the step of the least key
+  module _ (choice : Choice) (N : Narrow choice.key) (is-r : choice.constraint ≡ r) (is_least : key_in choice.key ≡ keys r) (alone : choice.reference ≡ 0) where
+    H : Taken C S r (keys r)
+    H = taken_step (λ z. omega (arith, key_small N, is_least, top, ap keys z))
+
+    pub choice_is : (first : ℕ → ℕ) → best_bound (given C first) S ≡ some (step_of choice)
+    choice_is first =
+        let parts = key_parts choice.key.bound choice.key.target (kind_number (kind_of choice.key.kind)) N.target (kind_small _)
+        (omega (arith, H.lowers_it.most, narrow)) (kind_small H.kind) (is_least ∙ H.is_key) in
+        H.chosen first ∙ ap (λ (x : Step). some x) (sym (same_step (step_of choice) (step H.kind H.target r 0) (number_is parts.2) parts.1 is-r alone))
+
+-- The choice of the phase, where one step or none is the lowest
+module _ {C : Circuit} (W : WellFormed C) (S : Standing) (keys : ℕ → ℕ) (top : keys 0 ≡ no_key)
+    (each : (k : ℕ) → 1 ≤ k → k ≤ C.m → IsKey C.p C.n (constraint_at C k) S.bound (keys k)) where
+  pub least_choice : (lowest : Option Choice) → AllNarrow lowest → Least keys C.m (place_of lowest) → least_of lowest ≡ keys (place_of lowest)
+      → reference_of lowest ≡ 0 → (first : ℕ → ℕ) → choice_of lowest ≡ best_bound (given C first) S
+  least_choice None N L e alone first = sym (nothing_left C W S keys top each 0 L first refl)
+  least_choice (Some choice) N L e alone first = sym (choice_is C W S keys top each choice.constraint L choice N refl e alone first)

@@ -1,36 +1,46 @@
 -- The keys of all constraints under way: found one after the other, the least kept; and what stays of them where a bound is lowered.
-use Prim.Native.Nat.{ℕ, suc, ◌+◌, ◌≤◌, ◌<◌}
+use Prim.Native.Nat.{ℕ, ◌+◌, ◌≤◌, ◌<◌}
 use mathlib.Core.Path.{◌≡◌, refl, sym, ap, ◌∙◌}
 use mathlib.Core.List.{List}
 use mathlib.Core.Logic.{◌⊎◌, inl, inr, ⊎_elim}
 use native.Mathlib.Omega.{arith}
 use lib.ListN.{length, get_or, set, length-set, replicate}
 use lib.Seq.{get_or-set_same, get_or-set_other}
+use borrow.Author.Tests.{ne_eqb}
+use Rattle.std.specs.Prelude.{Option, None, Some}
 use Rattle.field.specs.Prime.{Prime}
-use Rattle.circuit.specs.Circuit.{Circuit, WellFormedConstraint, constraint_at}
+use Rattle.circuit.specs.Circuit.{Circuit, WellFormed, WellFormedConstraint, constraint_at}
 use Rattle.circuit.specs.Reader.{constraint_in}
+use Rattle.laws.specs.Problem.{given}
+use Rattle.laws.specs.Standing.{Standing}
+use Rattle.laws.specs.Solver.{best_bound}
+use Rattle.solver.specs.Choice.{choice_of}
 use Rattle.laws.proofs.Sum.{true_or_false, by_equal, by_order}
 use Rattle.rules.proofs.ViewLaws.{get_d_repeated}
-use Rattle.rules.specs.Rows.{involves, at, Row, row_of}
+use Rattle.rules.specs.Rows.{involves, Row, row_of}
+use Rattle.rules.specs.declared.rows.Entry.{Entry}
 use Rattle.circuit.specs.Call.{circuit_of}
 use Rattle.circuit.specs.Offsets.{part_of}
 use Rattle.circuit.specs.declared.reader.Sizes.{Sizes}
 use Rattle.circuit.proofs.OffsetLaws.{sized_part}
 use Rattle.solver.specs.Links.{Prepared, Forgotten}
-use Rattle.solver.specs.Bounds.{no_key, IsKey, Keys, SomeKeys, Found, Least}
+use Rattle.solver.specs.Bounds.{no_key, key_in, least_in, known_in, key_at, least_of, place_of, reference_of, Narrow, AllNarrow, Lower, no_step, stays, lowers, with_zeroth, IsKey, Keys, SomeKeys, Found, Least}
+use Rattle.solver.specs.declared.keys.Key.{Key}
+use Rattle.solver.specs.declared.keys.Choice.{Choice}
 use Rattle.solver.proofs.KeyLaws.{key_kept}
+use Rattle.solver.proofs.Choice.{least_choice}
 
 -- One constraint
 
-module _ {c table ends rows : List ℕ} {z : Sizes} (D : Prepared c table ends rows z) {k : ℕ} (first : 1 ≤ k) (last : k ≤ z.m)
+module _ {c table ends : List ℕ} {rows : List Entry} {z : Sizes} (D : Prepared c table ends rows z) {k : ℕ} (first : 1 ≤ k) (last : k ≤ z.m)
     {part : List ℕ} (is-part : part ≡ part_of c table k) where
   pub constraint_here : constraint_in part ≡ constraint_at (circuit_of c) k
   constraint_here = ap constraint_in is-part ∙ sized_part D.sized D.offsets k first last
 
-  pub row_here : {row : List ℕ} → row ≡ row_of table ends rows k → Row z.p z.n (constraint_in part) row
+  pub row_here : {row : List Entry} → row ≡ row_of table ends rows k → Row z.p z.n (constraint_in part) row
   row_here e = rw (constraint_here, D.sized.is_p, D.sized.is_n, e) (D.made.row k first (omega (arith, D.sized.is_m)))
 
-  pub key_here : {row : List ℕ} → row ≡ row_of table ends rows k → {b : ℕ → ℕ} {key : ℕ}
+  pub key_here : {row : List Entry} → row ≡ row_of table ends rows k → {b : ℕ → ℕ} {key : ℕ}
       → ((n : ℕ) → Prime z.p → WellFormedConstraint n z.p (constraint_in part) → Row z.p n (constraint_in part) row
       → ((s : ℕ) → b s < z.p) → IsKey z.p n (constraint_in part) b key)
       → ((s : ℕ) → b s < (circuit_of c).p) → IsKey (circuit_of c).p (circuit_of c).n (constraint_at (circuit_of c) k) b key
@@ -39,40 +49,59 @@ module _ {c table ends rows : List ℕ} {z : Sizes} (D : Prepared c table ends r
       rw (Z.is_p, Z.is_n, constraint_here) at
       (h z.n (rw Z.is_p Z.formed.prime) (rw (constraint_here, Z.is_p, Z.is_n) (Z.formed.each k)) (row_here e) (rw Z.is_p low))
 
-pub found_new : {C : Circuit} (b : ℕ → ℕ) (k : ℕ) (before : List ℕ) (key : ℕ) → k < length before → IsKey C.p C.n (constraint_at C k) b key
-    → Found C b k key before (set before k key)
-unfolding at
+pub found_new : {C : Circuit} (b : ℕ → ℕ) (k : ℕ) (before : List (Option (Option Key))) (key : Option Key) → k < length before
+    → IsKey C.p C.n (constraint_at C k) b (least_in key) → Found C b k key before (set before k (Some key))
 found_new b k before key h I =
-    record { is_key = I; here = get_or-set_same before k key 0 h; kept = λ j d. get_or-set_other before k j key 0 d; sized = length-set before k key }
+    record {
+      is_key = I;
+      here = get_or-set_same before k (Some key) None h;
+      kept = λ j d. get_or-set_other before k j (Some key) None d;
+      sized = length-set before k (Some key);
+    }
 
-pub found_known : (C : Circuit) (b : ℕ → ℕ) (k : ℕ) (keys : List ℕ)
-    → (at keys k ≡ 0) ⊎ IsKey C.p C.n (constraint_at C k) b (at keys k) → (get_or keys k 0 ≡ 0 → ⊥) → Found C b k (get_or keys k 0) keys keys
-unfolding at
-found_known C b k keys K d = record { is_key = ⊎_elim (λ z. absurd (d z)) (λ I. I) K; here = refl; kept = λ j e. refl; sized = refl }
+pub found_known : (C : Circuit) (b : ℕ → ℕ) (k : ℕ) (keys : List (Option (Option Key))) (key : Option Key) → get_or keys k None ≡ Some key
+    → (get_or keys k None ≡ None) ⊎ IsKey C.p C.n (constraint_at C k) b (key_at keys k) → Found C b k key keys keys
+found_known C b k keys key e K =
+    record { is_key = ⊎_elim (λ z. cc) (λ I. rw e at I) K; here = e; kept = λ j d. refl; sized = refl }
 
 -- The least of the keys, one more at a time
 
-module _ {keys later : List ℕ} {k r lowest key : ℕ} (L : Least keys k r) (is_lowest : lowest ≡ at keys r) (here : at later (k + 1) ≡ key)
-    (kept : (j : ℕ) → j ≤ k → at later j ≡ at keys j) where
-  pub least_new : key < lowest → Least later (k + 1) (k + 1)
+pub zeroth : (x : ℕ) (keys : ℕ → ℕ) → with_zeroth x keys 0 ≡ x
+unfolding with_zeroth
+zeroth x keys = refl
+
+pub nonzeroth : (x : ℕ) (keys : ℕ → ℕ) (k : ℕ) → 1 ≤ k → with_zeroth x keys k ≡ keys k
+unfolding with_zeroth
+nonzeroth x keys k l = rw (ne_eqb k 0 (λ z. omega arith)) refl
+
+-- where what is kept of the places up to k is the same, so are their keys
+pub zeroth_kept : (x : ℕ) {keys later : ℕ → ℕ} {k : ℕ} → ((j : ℕ) → j ≤ k → later j ≡ keys j) → (j : ℕ) → j ≤ k
+    → with_zeroth x later j ≡ with_zeroth x keys j
+zeroth_kept x {keys} {later} same j h =
+    by_equal j 0 (λ z. rw z (zeroth x later ∙ sym (zeroth x keys)))
+    (λ d. nonzeroth x later j (omega arith) ∙ same j h ∙ sym (nonzeroth x keys j (omega arith)))
+
+module _ {keys later : ℕ → ℕ} {k i r lowest key : ℕ} (is_i : i ≡ k + 1) (L : Least keys k r) (is_lowest : lowest ≡ keys r) (here : later i ≡ key)
+    (kept : (j : ℕ) → j ≤ k → later j ≡ keys j) where
+  pub least_new : key < lowest → Least later i i
   least_new l =
       record {
         within = omega arith;
-        least = λ j h. by_equal j (k + 1) (λ q. rw q (omega arith)) (λ d. omega (arith, kept j (omega arith), L.least j (omega arith)));
+        least = λ j h. by_equal j i (λ q. rw q (omega arith)) (λ d. omega (arith, kept j (omega arith), L.least j (omega arith)));
         first = λ j h. omega (arith, kept j (omega arith), L.least j (omega arith));
       }
 
-  pub least_on : lowest ≤ key → Least later (k + 1) r
+  pub least_on : lowest ≤ key → Least later i r
   least_on l =
       record {
         within = omega (arith, L.within);
         least = λ j h.
-            by_equal j (k + 1) (λ q. rw (q, here) (omega (arith, kept r L.within)))
+            by_equal j i (λ q. rw (q, here) (omega (arith, kept r L.within)))
             (λ d. omega (arith, kept r L.within, kept j (omega arith), L.least j (omega arith)));
         first = λ j h. omega (arith, kept r L.within, kept j (omega (arith, L.within)), L.first j h);
       }
 
-pub least_start : (keys : List ℕ) → Least keys 0 0
+pub least_start : (keys : ℕ → ℕ) → Least keys 0 0
 least_start keys =
     record {
       within = omega arith;
@@ -82,84 +111,116 @@ least_start keys =
 
 -- The walk
 
--- the keys of the constraints up to k are known, and that of r is the least of them
-pub record Finding (C : Circuit) (b : ℕ → ℕ) (keys₀ : List ℕ) (k r lowest : ℕ) (keys : List ℕ) : Type 0 where
+-- the keys of constraints with none at place 0
+abbrev pub placed : List (Option (Option Key)) → ℕ → ℕ
+placed keys = with_zeroth no_key (key_at keys)
+
+-- the keys of the constraints up to k are known, and that of `lowest` is the least of them
+pub record Finding (C : Circuit) (b : ℕ → ℕ) (keys₀ : List (Option (Option Key))) (k : ℕ) (lowest : Option Choice) (keys : List (Option (Option Key)))
+    : Type 0 where
   pub few : k ≤ C.m
   pub sized : length keys ≡ length keys₀
   pub low : (s : ℕ) → b s < C.p
-  pub top : at keys 0 ≡ no_key
-  pub done : (j : ℕ) → 1 ≤ j → j ≤ k → IsKey C.p C.n (constraint_at C j) b (at keys j)
-  pub rest : (j : ℕ) → k < j → j ≤ C.m → (at keys j ≡ 0) ⊎ IsKey C.p C.n (constraint_at C j) b (at keys j)
-  pub least : Least keys k r
-  pub is_lowest : lowest ≡ at keys r
+  pub done : (j : ℕ) → 1 ≤ j → j ≤ k → IsKey C.p C.n (constraint_at C j) b (key_at keys j)
+  pub rest : (j : ℕ) → k < j → j ≤ C.m → (get_or keys j None ≡ None) ⊎ IsKey C.p C.n (constraint_at C j) b (key_at keys j)
+  pub least : Least (placed keys) k (place_of lowest)
+  pub is_lowest : least_of lowest ≡ placed keys (place_of lowest)
+  pub small : least_of lowest ≤ no_key
+  pub alone : reference_of lowest ≡ 0
+  pub narrow : AllNarrow lowest
 
-pub finding_start : {C : Circuit} {b : ℕ → ℕ} {keys : List ℕ} → SomeKeys C b keys → Finding C b keys 0 0 no_key keys
-finding_start {keys = keys} K =
+pub finding_start : {C : Circuit} {b : ℕ → ℕ} {keys : List (Option (Option Key))} {k : ℕ} → k ≡ 0 → SomeKeys C b keys → Finding C b keys k None keys
+finding_start {keys = keys} z K =
+    rw z
     record {
       few = omega arith;
       sized = refl;
       low = K.low;
-      top = K.top;
       done = λ j l h. absurd (omega arith);
       rest = λ j l h. K.each j (omega arith) h;
-      least = least_start keys;
-      is_lowest = sym K.top;
+      least = least_start _;
+      is_lowest = sym (zeroth _ _);
+      small = omega arith;
+      alone = refl;
+      narrow = tt;
     }
 
-module _ {C : Circuit} {b : ℕ → ℕ} {keys₀ : List ℕ} {k r lowest : ℕ} {keys : List ℕ} (F : Finding C b keys₀ k r lowest keys) where
+module _ {C : Circuit} {b : ℕ → ℕ} {keys₀ : List (Option (Option Key))} {k : ℕ} {lowest : Option Choice} {keys : List (Option (Option Key))}
+    (F : Finding C b keys₀ k lowest keys) where
   pub finding_known : SomeKeys C b keys
-  finding_known = record { low = F.low; top = F.top; each = λ j l h. by_order k j (λ d. F.rest j d h) (λ d. inr (F.done j l d)) }
+  finding_known = record { low = F.low; each = λ j l h. by_order k j (λ d. F.rest j d h) (λ d. inr (F.done j l d)) }
 
-  pub finding_end : {m : ℕ} → m ≡ C.m → m ≤ k → Keys C b keys × Least keys C.m r
-  finding_end is_m h =
+  pub finding_end : C.m ≤ k → Keys C b keys × Least (placed keys) C.m (place_of lowest)
+  finding_end h =
       let end : k ≡ C.m = omega (arith, F.few) in
-      (record { top = F.top; each = λ j l m. F.done j l (omega arith) }, rw end at F.least)
+      (record { each = λ j l m. F.done j l (omega arith) }, rw end at F.least)
 
-  module _ {m key : ℕ} {later : List ℕ} (is_m : m ≡ C.m) (more : k < m) (N : Found C b (k + 1) key keys later) where
-    kept : (j : ℕ) → j ≤ k → at later j ≡ at keys j
-    kept j h = N.kept j (λ (z : j ≡ k + 1). omega arith)
+  -- what is lowest at the end is the choice
+  pub finding_choice : WellFormed C → C.m ≤ k → (first : ℕ → ℕ) (S : Standing) → S.bound ≡ b
+      → choice_of lowest ≡ best_bound (given C first) S
+  finding_choice W h first S e =
+      let found = finding_end h in
+      least_choice W S (placed keys) (zeroth _ _)
+      (λ j l m. rw (e, nonzeroth no_key (key_at keys) j l) (found.0.each j l m)) lowest F.narrow found.1 F.is_lowest F.alone first
 
-    next : (r' lowest' : ℕ) → Least later (k + 1) r' → lowest' ≡ at later r' → Finding C b keys₀ (k + 1) r' lowest' later
-    next r' lowest' L e =
+  module _ {i : ℕ} {key : Option Key} {after : List (Option (Option Key))} (is_i : i ≡ k + 1) (more : i ≤ C.m) (N : Found C b i key keys after) where
+    kept : (j : ℕ) → j ≤ k → placed after j ≡ placed keys j
+    kept = zeroth_kept no_key (λ j h. ap known_in (N.kept j (λ (z : j ≡ i). omega arith)))
+
+    here : placed after i ≡ least_in key
+    here = nonzeroth no_key (key_at after) i (omega arith) ∙ ap known_in N.here
+
+    next : (lowest' : Option Choice) → Least (placed after) i (place_of lowest') → least_of lowest' ≡ placed after (place_of lowest')
+        → least_of lowest' ≤ no_key → reference_of lowest' ≡ 0 → AllNarrow lowest' → Finding C b keys₀ i lowest' after
+    next lowest' L e small alone narrow =
         record {
-          few = omega arith;
+          few = more;
           sized = N.sized ∙ F.sized;
           low = F.low;
-          top = kept 0 (omega arith) ∙ F.top;
-          done = λ j l h. by_equal j (k + 1) (λ q. rw (q, N.here) N.is_key) (λ d. rw (N.kept j d) (F.done j l (omega arith)));
-          rest = λ j l h. rw (N.kept j (λ (z : j ≡ k + 1). omega arith)) (F.rest j (omega arith) h);
+          done = λ j l h.
+              by_equal j i (λ q. rw (q, N.here) N.is_key) (λ d. rw (N.kept j d) (F.done j l (omega arith)));
+          rest = λ j l h. rw (N.kept j (λ (z : j ≡ i). omega arith)) (F.rest j (omega arith) h);
           least = L;
           is_lowest = e;
+          small = small;
+          alone = alone;
+          narrow = narrow;
         }
 
-    pub finding_new : key < lowest → Finding C b keys₀ (k + 1) (k + 1) key later
-    finding_new l = next (k + 1) key (least_new F.least F.is_lowest N.here kept l) (sym N.here)
+    finding_new : {x : Key} → key ≡ Some x → Narrow x → key_in x < least_of lowest
+        → Finding C b keys₀ i (Some (record { key = x; constraint = i; reference = 0 })) after
+    finding_new {x} e N l =
+        let is-here : placed after i ≡ key_in x = here ∙ ap least_in e in
+        next (Some (record { key = x; constraint = i; reference = 0 })) (least_new is_i F.least F.is_lowest is-here kept l) (sym is-here)
+        (omega (arith, F.small)) refl N
 
-    pub finding_on : lowest ≤ key → Finding C b keys₀ (k + 1) r lowest later
+    finding_on : least_of lowest ≤ least_in key → Finding C b keys₀ i lowest after
     finding_on l =
-        next r lowest (least_on F.least F.is_lowest N.here kept l) (F.is_lowest ∙ sym (kept r F.least.within))
+        next lowest (least_on is_i F.least F.is_lowest here kept l) (F.is_lowest ∙ sym (kept _ F.least.within)) F.small F.alone F.narrow
+
+    pub finding_next : {lowest' : Option Choice} → Lower lowest i key lowest' → Finding C b keys₀ i lowest' after
+    finding_next L = go refl L
+      where
+        go : {key' : Option Key} {lowest' : Option Choice} → key' ≡ key → Lower lowest i key' lowest' → Finding C b keys₀ i lowest' after
+        go e no_step = finding_on (rw (← e) F.small)
+        go e (stays l) = finding_on (rw (← e) l)
+        go e (lowers N l) = finding_new (sym e) N l
 
 -- Between turns
 
 -- at the start no key is known
-pub no_keys : (C : Circuit) (b : ℕ → ℕ) (n : ℕ) → ((s : ℕ) → b s < C.p) → SomeKeys C b (set (replicate (suc n) 0) 0 no_key)
-unfolding at
-no_keys C b n low =
-    record {
-      low = low;
-      top = get_or-set_same (replicate (suc n) 0) 0 no_key 0 (omega arith);
-      each = λ k l h. inl (get_or-set_other (replicate (suc n) 0) 0 k no_key 0 (λ (z : k ≡ 0). omega arith) ∙ get_d_repeated (suc n) k 0);
-    }
+pub no_keys : (C : Circuit) (b : ℕ → ℕ) (n : ℕ) → ((s : ℕ) → b s < C.p) → SomeKeys C b (replicate n None)
+no_keys C b n low = record { low = low; each = λ k l h. inl (get_d_repeated n k None) }
 
 -- where the bound of a signal changes, keys are forgotten, but for constraints that don't name the signal, whose keys stay
-pub keys_kept : (C : Circuit) → 0 < C.p → (b b' : ℕ → ℕ) (u : ℕ) → ((s : ℕ) → (s ≡ u → ⊥) → b s ≡ b' s) → (before later : List ℕ)
+pub keys_kept : (C : Circuit) → 0 < C.p → (b b' : ℕ → ℕ) (u : ℕ) → ((s : ℕ) → (s ≡ u → ⊥) → b s ≡ b' s) → (before later : List (Option (Option Key)))
     → Keys C b before → Forgotten C u before later → ((s : ℕ) → b' s < C.p) → SomeKeys C b' later
-keys_kept C positive b b' u same before later K F low = record { low = low; top = F.top ∙ K.top; each = each }
+keys_kept C positive b b' u same before later K F low = record { low = low; each = each }
   where
-    each : (k : ℕ) → 1 ≤ k → k ≤ C.m → (at later k ≡ 0) ⊎ IsKey C.p C.n (constraint_at C k) b' (at later k)
+    each : (k : ℕ) → 1 ≤ k → k ≤ C.m → (get_or later k None ≡ None) ⊎ IsKey C.p C.n (constraint_at C k) b' (key_at later k)
     each k l m =
         ⊎_elim inl
         (λ w. inr (rw w.0
         (key_kept C.p C.n (constraint_at C k) b b' positive (λ s h e. same s (λ q. true_or_false _ e (ap (involves (constraint_at C k)) q ∙ w.1)))
-        (at before k) (K.each k l m))))
+        (key_at before k) (K.each k l m))))
         (F.each k l m)

@@ -1,7 +1,9 @@
+pub mod InTable
 pub mod LinkLaws
 pub mod TableLaws
 pub mod SearchLaws
 pub mod Progress
+pub mod Adding
 pub mod KeyLaws
 pub mod Choice
 pub mod KeyWays

@@ -1,5 +1,5 @@
 -- The lowest key is that of the step that the marks phase takes: no step that marks an unmarked signal is earlier.
-use Prim.Native.Nat.{ℕ, ◌/◌, ◌%◌, ◌≤◌, ◌<◌}
+use Prim.Native.Nat.{ℕ, ◌≤◌, ◌<◌}
 use mathlib.Core.Path.{◌≡◌, refl, sym, ap, ◌∙◌}
 use mathlib.Core.Bool.{true, false}
 use mathlib.Core.List.{List}
@@ -18,13 +18,20 @@ use Rattle.laws.proofs.Sum.{and_left, and_right, and_both, true_or_false, by_equ
 use Rattle.laws.proofs.Best.{first_by_holds}
 use Rattle.laws.proofs.Turns.{within_says, adds_says, adds_holds, adds_target}
 use Rattle.laws.proofs.First.{first_is, first_not}
-use Rattle.rules.specs.Rows.{at}
-use Rattle.solver.specs.Bounds.{key_of, no_key}
+use Rattle.laws.proofs.KindLaws.{number_is}
+use Rattle.std.specs.Prelude.{Option, None, Some}
+use Rattle.rules.specs.Promise.{kind_of}
+use Rattle.solver.specs.Bounds.{key_of, no_key, key_in, Narrow, with_zeroth}
 use Rattle.solver.specs.Marks.{Unmarked, MarksBy, product, digits, MarksZero, mark_key, KeyHolder, FirstKey, Swept}
+use Rattle.solver.specs.Marks.{reference_in, known_key, mark_keys, mark_references}
 use Rattle.solver.specs.Marks as key
-use Rattle.solver.specs.Choice.{mark_kind}
-use Rattle.solver.proofs.Choice.{key_kind, key_target, kind_small}
+use Rattle.solver.specs.Choice.{step_of, choice_of}
+use Rattle.solver.specs.declared.keys.Choice.{Choice}
+use Rattle.solver.specs.declared.marking.Candidate.{Candidate}
+use Rattle.solver.proofs.Choice.{key_parts, key_small, kind_small, same_step}
+use Rattle.solver.proofs.KeySearch.{zeroth, nonzeroth}
 use Rattle.solver.proofs.MarkKeyLaws.{key_map, known_low}
+use Rattle.solver.proofs.SweepLaws.{Sweeping}
 
 -- What a step that marks says
 
@@ -102,12 +109,6 @@ module _ (P : Problem) (S : Standing) where
       adds_mark Digits t k r
       (record { target = U; names = within_holds P.m k l h; refers = within_holds P.n r a c; meets = e; is_mark = refl }) U.free
 
-kind_is : (P : Problem) (S : Standing) {k t r : ℕ} {q : Kind} → StepAt P S k q t r → (x : ℕ) → x ≡ kind_number q → mark_kind x ≡ q
-unfolding mark_kind
-kind_is P S (by_none z (key.zero U e)) x i = rw i refl
-kind_is P S (by_one l h (product U e)) x i = rw i refl
-kind_is P S (by_one l h (digits U a c e)) x i = rw i refl
-
 -- The order of keys, then constraints, then references, is the order of steps
 
 key_first : (x y : Step) → mark_key x.kind x.target ≤ mark_key y.kind y.target
@@ -130,40 +131,53 @@ key_first x y h g f =
 
 -- The choice
 
-module _ {C : Circuit} (narrow : C.n < 65536) (S : Standing) {keys refs : List ℕ} {r : ℕ} (W : Swept C S.bound S.marked C.m r keys refs)
+module _ {C : Circuit} (narrow : C.n < 4294967296) (S : Standing) {x r : ℕ} {kept : List (Option (Option Candidate))}
+    (W : Swept C S.bound S.marked x C.m r kept)
     (first : ℕ → ℕ) where
   abbrev P : Problem
   P = given C first
 
+  -- the keys and references by place
+  abbrev keys : ℕ → ℕ
+  keys = with_zeroth x (mark_keys kept)
+
+  abbrev refs : ℕ → ℕ
+  refs = with_zeroth 0 (λ k. reference_in (mark_references kept k))
+
   abbrev At : ℕ → Kind → ℕ → ℕ → Type 0
   At k q t v = adds_by marks P S (step q t k v) ≡ true
 
-  low_at : (q : Kind) (t k v : ℕ) → StepAt P S k q t v → (at keys k ≤ mark_key q t) × (k ≤ C.m)
-  low_at q t k v (by_none z M) = rw z ((W.zeros.low q t v M).0, omega arith)
-  low_at q t k v (by_one l h M) = (⊎_elim (λ (z : at keys k ≡ 0). omega arith) (λ N. known_low N M) (W.kept.each k l h), h)
+  low_at : (q : Kind) (t k v : ℕ) → StepAt P S k q t v → (keys k ≤ mark_key q t) × (k ≤ C.m)
+  low_at q t k v (by_none z M) = rw (z, zeroth x (mark_keys kept)) ((W.zeros.low q t v M).0, omega arith)
+  low_at q t k v (by_one l h M) = (
+    rw (nonzeroth x (mark_keys kept) k l)
+        (⊎_elim (λ z. let e : mark_keys kept k ≡ 0 = ap known_key z in omega arith) (λ N. known_low N M) (W.known.each k l h)),
+    h,
+  )
 
   -- the lowest key is at most that of every step
   least_at : (y : Step) → adds_by marks P S y ≡ true
-      → (at keys r ≤ mark_key y.kind y.target) × (y.constraint < r → at keys r < mark_key y.kind y.target)
+      → (keys r ≤ mark_key y.kind y.target) × (y.constraint < r → keys r < mark_key y.kind y.target)
   least_at y a =
       let w = low_at y.kind y.target y.constraint y.reference (adding_at P S _ _ _ _ a) in
       (omega (arith, w.0, W.least.least y.constraint w.1), λ h. omega (arith, w.0, W.least.first y.constraint h))
 
-  pub choice_none : at keys r ≡ no_key → first_adding marks P S ≡ none
+  pub choice_none : keys r ≡ no_key → first_adding marks P S ≡ none
   unfolding key_of
   choice_none e =
       first_not marks P S
       (λ y a. omega (arith, (least_at y a).0, (marking P S y a).target.most, kind_small y.kind))
 
-  exact_at : FirstKey (At r) (at keys r) (at refs r)
+  exact_at : FirstKey (At r) (keys r) (refs r)
   exact_at =
       by_equal r 0
       (λ z.
-      rw (z, W.kept.top)
+      rw (z, zeroth x (mark_keys kept), zeroth 0 (λ k. reference_in (mark_references kept k)))
       (key_map (λ q t v M. at_adding P S (by_none refl M)) (λ q t v a. zero_at_lem (adding_at P S q t 0 v a)) W.zeros))
       (λ d.
-      key_map (λ q t v M. at_adding P S (by_one (omega arith) W.least.within M)) (λ q t v a. one_at d (adding_at P S q t r v a))
-      (W.exact (omega arith)))
+      rw (nonzeroth x (mark_keys kept) r (omega arith), nonzeroth 0 (λ k. reference_in (mark_references kept k)) r (omega arith))
+      (key_map (λ q t v M. at_adding P S (by_one (omega arith) W.least.within M)) (λ q t v a. one_at d (adding_at P S q t r v a))
+      (W.exact (omega arith))))
     where
       zero_at_lem : {q : Kind} {t v : ℕ} → StepAt P S 0 q t v → MarksZero C.n S.bound S.marked q t v
       zero_at_lem (by_none e M) = M
@@ -173,24 +187,33 @@ module _ {C : Circuit} (narrow : C.n < 65536) (S : Standing) {keys refs : List �
       one_at d (by_none e M) = absurd (d e)
       one_at d (by_one l h M) = M
 
-  chosen : (H : KeyHolder (At r) (at keys r) (at refs r)) → first_adding marks P S ≡ some (step H.kind H.target r (at refs r))
+  chosen : (H : KeyHolder (At r) (keys r) (refs r)) → first_adding marks P S ≡ some (step H.kind H.target r (refs r))
   chosen H =
-      first_is marks P S (step H.kind H.target r (at refs r)) H.is
+      first_is marks P S (step H.kind H.target r (refs r)) H.is
       (λ y a.
       let w = least_at y a in
-      key_first (step H.kind H.target r (at refs r)) y (omega (arith, H.is_key, w.0)) (λ h. omega (arith, H.is_key, w.1 h))
+      key_first (step H.kind H.target r (refs r)) y (omega (arith, H.is_key, w.0)) (λ h. omega (arith, H.is_key, w.1 h))
       (λ z e. (exact_at.low y.kind y.target y.reference (rw (sym z) a)).1 (H.is_key ∙ e)))
 
-  pub choice_some : (at keys r ≡ no_key → ⊥) → {q : Kind} {t v : ℕ} → q ≡ mark_kind (at keys r % 8) → t ≡ at keys r / 8 % 65536 → v ≡ at refs r
-      → first_adding marks P S ≡ some (step q t r v)
-  choice_some d {q} {t} {v} is_kind is_target is-reference = ⊎_elim (λ z. absurd (d z)) go exact_at.held
+  pub choice_some : (choice : Choice) → Narrow choice.key → choice.constraint ≡ r → key_in choice.key ≡ keys r → choice.reference ≡ refs r
+      → first_adding marks P S ≡ some (step_of choice)
+  choice_some choice N is-r is_key is-reference = ⊎_elim (λ z. absurd (omega (arith, key_small N))) go exact_at.held
     where
-      go : KeyHolder (At r) (at keys r) (at refs r) → first_adding marks P S ≡ some (step q t r v)
+      go : KeyHolder (At r) (keys r) (refs r) → first_adding marks P S ≡ some (step_of choice)
       go H =
-          let few = kind_small H.kind in
-          let short : H.target < 65536 = omega (arith, (marking P S _ H.is).target.most) in
-          let kind : q ≡ H.kind
-          = is_kind ∙ kind_is P S (adding_at P S _ _ _ _ H.is) _ (ap (λ (x : ℕ). x % 8) H.is_key ∙ key_kind 0 H.target _ few) in
-          let target : t ≡ H.target
-          = is_target ∙ ap (λ (x : ℕ). x / 8 % 65536) H.is_key ∙ key_target 0 H.target (kind_number H.kind) short few in
-          chosen H ∙ sym (rw (kind, target, is-reference) refl)
+          let parts = key_parts choice.key.bound choice.key.target (kind_number (kind_of choice.key.kind)) N.target (kind_small _)
+          (omega (arith, (marking P S _ H.is).target.most)) (kind_small H.kind) (is_key ∙ H.is_key) in
+          chosen H ∙ ap (λ (y : Step). some y) (sym (same_step (step_of choice) (step H.kind H.target r (refs r)) (number_is parts.2) parts.1 is-r is-reference))
+
+-- The choice of the phase
+module _ {C : Circuit} (narrow : C.n < 4294967296) (S : Standing) {x : ℕ} {lowest : Option Choice} {kept₀ kept : List (Option (Option Candidate))}
+    (W : Sweeping C S.bound S.marked x C.m lowest kept₀ kept) (first : ℕ → ℕ) where
+  pub sweeping_choice : choice_of lowest ≡ first_adding marks (given C first) S
+  sweeping_choice = go lowest W
+    where
+      go : (lowest : Option Choice) → Sweeping C S.bound S.marked x C.m lowest kept₀ kept → choice_of lowest ≡ first_adding marks (given C first) S
+      go None W = sym (choice_none narrow S W.swept first (sym W.is_lowest))
+      go (Some choice) W =
+          sym (choice_some narrow S W.swept first choice W.narrow refl W.is_lowest
+          (by_equal choice.constraint 0 (λ z. W.by_none z ∙ rw z (sym (zeroth 0 _)))
+          (λ d. W.by_one (omega arith) ∙ sym (nonzeroth 0 _ choice.constraint (omega arith)))))

@@ -1,5 +1,5 @@
 -- The first step by which a constraint marks an unmarked signal, as a key: loose and exact, and while the marks of its signals stay.
-use Prim.Native.Nat.{ℕ, zero, suc, ◌+◌, ◌%◌, ◌≤◌, ◌<◌}
+use Prim.Native.Nat.{ℕ, zero, suc, ◌+◌, ◌≤◌, ◌<◌}
 use mathlib.Core.Path.{◌≡◌, refl, sym, ap, ◌∙◌}
 use mathlib.Core.Bool.{Bool, true, false, not, ◌&&◌, ◌||◌}
 use mathlib.Core.Logic.{inl, inr, ⊎_elim}
@@ -8,20 +8,22 @@ use lib.Dec.{eqb}
 use borrow.Author.Tests.{eqb-true, eq-eqb, not-true}
 use Rattle.circuit.specs.Circuit.{Constraint, Form, names}
 use Rattle.laws.specs.Rules.{linear, reduced, occurs, zero_met, others_marked, product_met, live, separated, digits_met}
-use Rattle.laws.specs.Step.{Kind, Zero, Product, Digits}
+use Rattle.laws.specs.Step.{Kind, Zero, Product, Digits, kind_number}
+use Rattle.laws.proofs.KindLaws.{number_is}
 use Rattle.laws.proofs.Sum.{and_left, and_right, and_both, or_left, or_right, true_or_false, false_by, by_equal, by_order}
 use Rattle.laws.proofs.Forms.{others_at, others_from}
 use Rattle.laws.proofs.ProductRule.{product_met_lem}
 use Rattle.laws.proofs.DigitsRule.{DigitsMet, digits_met_lem, live_yes}
 use Rattle.laws.proofs.Monotone.{digits_met_from}
 use Rattle.rules.specs.Rows.{involves}
-use Rattle.rules.specs.Weights.{FirstLive, FirstReference}
-use Rattle.solver.specs.Search.{Alone}
+use Rattle.rules.specs.Weights.{LowestLive, FirstReference}
+use Rattle.std.specs.Prelude.{Option, None, Some}
+use Rattle.solver.specs.Search.{Alone, SomeAlone}
 use Rattle.solver.specs.Bounds.{key_of, no_key}
-use Rattle.solver.specs.Marks.{Unmarked, MarksBy, product, digits, MarksZero, zero_at, First, mark_key, FirstKey, Loose, Known, loose, exact}
+use Rattle.solver.specs.Marks.{Unmarked, MarksBy, product, digits, MarksZero, zero_at, First, mark_key, FirstKey, Loose, Known, loose, exact, reference_in}
 use Rattle.solver.specs.Marks as marks
 use Rattle.solver.proofs.KeyLaws.{occurs_involves}
-use Rattle.solver.proofs.Choice.{key_kind}
+use Rattle.solver.proofs.Choice.{key_number, kind_small}
 
 -- Keys of any steps
 
@@ -46,21 +48,21 @@ key_order q t u h = omega arith
 pub record Passed (test : ℕ → Bool) (s : ℕ) : Type 0 where
   pub fails : (u : ℕ) → 1 ≤ u → u ≤ s → test u ≡ false
 
-pub counted_start : (test : ℕ → Bool) → Passed test 0
-counted_start test = record { fails = λ u l h. absurd (omega arith) }
+pub counted_start : (test : ℕ → Bool) {s : ℕ} → s ≡ 0 → Passed test s
+counted_start test z = record { fails = λ u l h. absurd (omega arith) }
 
 module _ {test : ℕ → Bool} {s : ℕ} (Q : Passed test s) where
-  pub counted_on : test (s + 1) ≡ false → Passed test (s + 1)
-  counted_on e = record { fails = λ u l h. by_equal u (s + 1) (λ z. rw z e) (λ d. Q.fails u l (omega arith)) }
+  pub counted_on : {t : ℕ} → t ≡ s + 1 → test t ≡ false → Passed test t
+  counted_on {t} n e = record { fails = λ u l h. by_equal u t (λ z. rw z e) (λ d. Q.fails u l (omega arith)) }
 
   past : (u : ℕ) → 1 ≤ u → test u ≡ true → s < u
   past u l e = by_order s u (λ h. h) (λ h. true_or_false _ e (Q.fails u l h))
 
-  pub counted_found : {n : ℕ} → s < n → test (s + 1) ≡ true → First test n (s + 1)
-  counted_found h e = record { low = λ u l g i. (omega arith, omega (arith, past u l i)); found = λ l. (omega arith, e) }
+  pub counted_found : {n t : ℕ} → t ≡ s + 1 → t ≤ n → test t ≡ true → First test n (Some t)
+  counted_found z h e = (omega arith, h, e, λ u l i. omega (arith, past u l i))
 
-  pub counted_none : {n : ℕ} → n ≤ s → First test n 0
-  counted_none h = record { low = λ u l g i. absurd (omega (arith, past u l i)); found = λ l. absurd (omega arith) }
+  pub counted_none : {n : ℕ} → n ≤ s → First test n None
+  counted_none h u l g e = omega (arith, past u l e)
 
 module _ (b : ℕ → ℕ) (m : ℕ → Bool) (s : ℕ) where
   pub zero_yes : b s ≡ 0 → m s ≡ false → zero_at b m s ≡ true
@@ -75,29 +77,31 @@ module _ (b : ℕ → ℕ) (m : ℕ → Bool) (s : ℕ) where
   unfolding zero_at zero_met
   zero_bound d = false_by _ (λ e. d (eqb-true (b s) 0 (and_left _ (not (m s)) e)))
 
-module _ {n : ℕ} {b : ℕ → ℕ} {m : ℕ → Bool} {t : ℕ} (F : First (zero_at b m) n t) where
-  zero_low : {q : Kind} {u r : ℕ} → MarksZero n b m q u r → (q ≡ Zero) × (1 ≤ t) × (t ≤ u)
+module _ {n : ℕ} {b : ℕ → ℕ} {m : ℕ → Bool} where
+  pub zero_none : First (zero_at b m) n None → FirstKey (MarksZero n b m) no_key 0
   unfolding zero_at
-  zero_low (marks.zero U e) = let w = F.low _ U.least U.most (and_both _ _ e (ap not U.free)) in (refl, w.0, w.1)
+  zero_none F = no_step none
+    where
+      none : (q : Kind) (u r : ℕ) → MarksZero n b m q u r → ⊥
+      none q u r (marks.zero U e) = F u U.least U.most (and_both _ _ e (ap not U.free))
 
-  pub zero_none : t ≡ 0 → FirstKey (MarksZero n b m) no_key 0
-  zero_none z = no_step (λ q u r M. omega (arith, (zero_low M).1))
-
-  pub zero_some : (t ≡ 0 → ⊥) → {key : ℕ} → key ≡ mark_key Zero t → FirstKey (MarksZero n b m) key 0
+  pub zero_some : {t : ℕ} → First (zero_at b m) n (Some t) → {key : ℕ} → key ≡ mark_key Zero t → FirstKey (MarksZero n b m) key 0
   unfolding zero_at
-  zero_some d {key} e =
-      let w = F.found (omega arith) in
+  zero_some {t} F {key} e =
       record {
-        low = λ q u r M. let z = zero_low M in (rw (e, z.0) (key_order Zero t u z.2), λ k. omega arith);
+        low = λ q u r M. let z = zero_low M in (rw (e, z.0) (key_order Zero t u z.1), λ k. omega arith);
         held = inr (record {
           kind = Zero;
           target = t;
           is =
-              marks.zero {t = t} (record { least = omega arith; most = w.0; free = not-true _ (and_right (zero_met b t) _ w.1) })
-              (and_left _ (not (m t)) w.1);
+              marks.zero {t = t} (record { least = F.0; most = F.1; free = not-true _ (and_right (zero_met b t) _ F.2) })
+              (and_left _ (not (m t)) F.2);
           is_key = e;
         });
       }
+    where
+      zero_low : {q : Kind} {u r : ℕ} → MarksZero n b m q u r → (q ≡ Zero) × (t ≤ u)
+      zero_low (marks.zero U e) = (refl, F.3 _ U.least (and_both _ _ e (ap not U.free)))
 
 -- The digits rule
 
@@ -127,22 +131,24 @@ record ByDigits (p n : ℕ) (K : Constraint) (b : ℕ → ℕ) (m : ℕ → Bool
 
 module _ {p n : ℕ} {K : Constraint} {b : ℕ → ℕ} {m : ℕ → Bool} where
   -- not linear: a product at the one unmarked signal
-  module _ (nonlinear : linear K ≡ false) {t : ℕ} (A : Alone n K m t) where
-    product_only : {q : Kind} {u r : ℕ} → MarksBy p n K b m q u r → (q ≡ Product) × (u ≡ t) × (1 ≤ u)
-    product_only (digits N l h e) = true_or_false _ (digits_met_lem p n K b m _ _ e).is_linear nonlinear
-    product_only {u = u} (product N e) = (refl, A.only u N.least N.most N.free e, N.least)
+  module _ (nonlinear : linear K ≡ false) where
+    product_by : {q : Kind} {u r : ℕ} → MarksBy p n K b m q u r → (q ≡ Product) × Unmarked m n u × (product_met K m u ≡ true)
+    product_by (digits N l h e) = true_or_false _ (digits_met_lem p n K b m _ _ e).is_linear nonlinear
+    product_by (product N e) = (refl, N, e)
 
-    pub product_none : t ≡ 0 → Known p n K b m no_key 0
-    product_none z = exact (no_step (λ q u r M. let w = product_only M in omega (arith, w.1, w.2)))
+    pub product_none : SomeAlone n K m None → Known p n K b m no_key None
+    product_none A = exact (no_step (λ q u r M. let w = product_by M in A u w.1.least w.1.most w.1.free w.2))
 
-    pub product_key : (t ≡ 0 → ⊥) → {key : ℕ} → key ≡ mark_key Product t → Known p n K b m key 0
-    product_key d {key} is =
-        let some : 1 ≤ t = omega arith in
-        let w = A.found some nonlinear in
+    pub product_key : {t : ℕ} → Alone n K m t → {key : ℕ} → key ≡ mark_key Product t → Known p n K b m key None
+    product_key {t} A {key} is =
+        let w = A.met nonlinear in
         exact
         (record {
-          low = λ q u r M. let o = product_only M in (rw (is, o.0, o.1) (omega arith), λ k. omega arith);
-          held = inr (record { kind = Product; target = t; is = product (record { least = some; most = w.0; free = w.1 }) w.2; is_key = is });
+          low = λ q u r M.
+              let o = product_by M in
+              let same : u ≡ t = A.only u o.1.least o.1.most o.1.free o.2 in
+              (rw (is, o.0, same) (omega arith), λ k. omega arith);
+          held = inr (record { kind = Product; target = t; is = product (record { least = A.least; most = w.0; free = w.1 }) w.2; is_key = is });
         })
 
   -- linear: digits at the lowest unmarked signal with a coefficient, by the lowest reference that separates
@@ -155,20 +161,19 @@ module _ {p n : ℕ} {K : Constraint} {b : ℕ → ℕ} {m : ℕ → Bool} where
     digits_live : {q : Kind} {u r : ℕ} → MarksBy p n K b m q u r → live (reduced p K) m u ≡ true
     digits_live M = let w = digits_only M in live_yes p K m _ w.unmarked.least w.met.has_target w.unmarked.free
 
-    pub digits_none : {t : ℕ} → FirstLive n (reduced p K) m t → t ≡ 0 → Known p n K b m no_key 0
-    digits_none F z =
-        exact (no_step (λ q u r M. let w = digits_only M in omega (arith, (F.low _ w.unmarked.least w.unmarked.most (digits_live M)).0)))
+    pub digits_none : ((s : ℕ) → 1 ≤ s → s ≤ n → live (reduced p K) m s ≡ false) → Known p n K b m no_key None
+    digits_none F =
+        exact (no_step (λ q u r M. let w = digits_only M in true_or_false _ (digits_live M) (F u w.unmarked.least w.unmarked.most)))
 
-    pub digits_loose : {t : ℕ} → FirstLive n (reduced p K) m t → (t ≡ 0 → ⊥) → {key : ℕ} → key ≡ mark_key Digits t → Known p n K b m key 0
-    digits_loose {t} F d e =
-        loose refl (record { is_linear = is_linear; target = t; some = omega arith; first = F; is_key = e })
+    pub digits_loose : {t : ℕ} → LowestLive n (reduced p K) m t → {key : ℕ} → key ≡ mark_key Digits t → Known p n K b m key None
+    digits_loose {t} F e = loose refl (record { is_linear = is_linear; target = t; first = F; is_key = e })
 
   module _ {key : ℕ} (L : Loose p n K m key) where
     loose_low : {q : Kind} {u r : ℕ} → MarksBy p n K b m q u r → key ≤ mark_key q u
     loose_low {u = u} M =
         let w = digits_only L.is_linear M in
         rw (L.is_key, w.is)
-        (key_order Digits L.target u (L.first.low u w.unmarked.least w.unmarked.most (digits_live L.is_linear M)).1)
+        (key_order Digits L.target u (L.first.low u w.unmarked.least w.unmarked.most (digits_live L.is_linear M)))
 
     module _ {reference : ℕ} (F : FirstReference p n (reduced p K) b m reference) where
       pub loose_none : reference ≡ 0 → FirstKey (MarksBy p n K b m) no_key 0
@@ -182,7 +187,6 @@ module _ {p n : ℕ} {K : Constraint} {b : ℕ → ℕ} {m : ℕ → Bool} where
       unfolding digits_met
       loose_exact d =
           let R = F.found (omega arith) in
-          let T = L.first.found L.some in
           record {
             low = λ q u r M.
                 let w = digits_only L.is_linear M in
@@ -191,42 +195,46 @@ module _ {p n : ℕ} {K : Constraint} {b : ℕ → ℕ} {m : ℕ → Bool} where
               kind = Digits;
               target = L.target;
               is =
-                  digits {r = reference} (record { least = L.some; most = T.0; free = live_free (reduced p K) m L.target T.1 }) (omega arith) R.0
-                  (and_both _ _ (and_both _ _ L.is_linear (and_both _ _ (live_occurs (reduced p K) m L.target T.1) R.1)) R.2);
+                  digits {r = reference} (record { least = L.first.least; most = L.first.most; free = live_free (reduced p K) m L.target L.first.is }) (omega arith) R.0
+                  (and_both _ _ (and_both _ _ L.is_linear (and_both _ _ (live_occurs (reduced p K) m L.target L.first.is) R.1)) R.2);
               is_key = L.is_key;
             });
           }
 
   -- what is known
 
-  pub known_low : {key reference : ℕ} → Known p n K b m key reference → {q : Kind} {t r : ℕ} → MarksBy p n K b m q t r → key ≤ mark_key q t
+  pub known_low : {key : ℕ} {reference : Option ℕ} → Known p n K b m key reference → {q : Kind} {t r : ℕ} → MarksBy p n K b m q t r → key ≤ mark_key q t
   known_low (loose z L) M = loose_low L M
   known_low (exact F) M = (F.low _ _ _ M).0
 
-  module _ {key reference : ℕ} where
-    -- the code's test of a loose key
-    pub known_loose : Known p n K b m key reference → (eqb reference 0 && eqb (key % 8) 5) ≡ true → Loose p n K m key
-    known_loose (loose z L) e = L
-    known_loose (exact F) e = ⊎_elim none (λ H. held H.target H.is_key (eqb-true reference 0 (and_left _ (eqb (key % 8) 5) e)) H.is) F.held
+  module _ {key : ℕ} {reference : Option ℕ} where
+    loose_by : (x t : ℕ) → key ≡ key_of x t 5 → reference ≡ None → Known p n K b m key reference → Loose p n K m key
+    unfolding key_of
+    loose_by x t five z (loose e L) = L
+    loose_by x t five z (exact F) = ⊎_elim (λ e. absurd (none e)) (λ H. absurd (held H.target (sym five ∙ H.is_key) (rw z refl) H.is)) F.held
       where
-        five : key % 8 ≡ 5
-        five = eqb-true (key % 8) 5 (and_right (eqb reference 0) _ e)
+        none : key ≡ no_key → ⊥
+        none e = omega arith
 
-        none : key ≡ no_key → Loose p n K m key
-        none z = let w : no_key % 8 ≡ 5 = ap (λ (x : ℕ). x % 8) (sym z) ∙ five in absurd (omega arith)
+        held : {q : Kind} (u : ℕ) {r : ℕ} → key_of x t 5 ≡ mark_key q u → r ≡ 0 → MarksBy p n K b m q u r → ⊥
+        held u k e (product N f) = omega (arith, key_number x t 5 0 u 4 (omega arith) (omega arith) k)
+        held u k e (digits N l h f) = omega arith
 
-        held : {q : Kind} (t : ℕ) {r : ℕ} → key ≡ mark_key q t → r ≡ 0 → MarksBy p n K b m q t r → Loose p n K m key
-        held t k z (product N f) = absurd (omega (arith, five, ap (λ (x : ℕ). x % 8) k, key_kind 0 t 4 (omega arith)))
-        held t k z (digits N l h f) = absurd (omega arith)
+    -- a digits step without a reference
+    pub known_loose : (b' t' : ℕ) {k : Kind} → key ≡ key_of b' t' (kind_number k) → (k ≡ Digits) × (reference ≡ None)
+        → Known p n K b m key reference → Loose p n K m key
+    known_loose b' t' e d N = loose_by b' t' (e ∙ ap (λ (q : Kind). key_of b' t' (kind_number q)) d.0) d.1 N
 
-    pub known_exact : Known p n K b m key reference → (eqb reference 0 && eqb (key % 8) 5) ≡ false → FirstKey (MarksBy p n K b m) key reference
-    known_exact (exact F) e = F
-    known_exact (loose z L) e =
-        true_or_false _
-        (and_both _ _ (eq-eqb reference 0 z)
-        (eq-eqb (key % 8) 5 (ap (λ (x : ℕ). x % 8) L.is_key ∙ key_kind 0 L.target 5 (omega arith)))) e
+    exact_by : (reference ≡ None → (t : ℕ) → key ≡ mark_key Digits t → ⊥) → Known p n K b m key reference
+        → FirstKey (MarksBy p n K b m) key (reference_in reference)
+    exact_by d (exact F) = F
+    exact_by d (loose z L) = absurd (d z L.target L.is_key)
 
--- C of the constraint that starts a part
+    pub known_exact : (b' t' : ℕ) {k : Kind} → key ≡ key_of b' t' (kind_number k) → ((k ≡ Digits) × (reference ≡ None) → ⊥)
+        → Known p n K b m key reference → FirstKey (MarksBy p n K b m) key (reference_in reference)
+    known_exact b' t' {k} e d N =
+        exact_by (λ z t h. d (number_is (key_number b' t' (kind_number k) 0 t 5 (kind_small k) (omega arith) (sym e ∙ h)), z)) N
+
 -- While the marks of the signals that the constraint names stay
 
 abbrev Same : Constraint → (ℕ → Bool) → (ℕ → Bool) → Type 0
@@ -274,18 +282,19 @@ module _ (p n : ℕ) (K : Constraint) (b : ℕ → ℕ) (positive : 0 < p) where
         (digits_met_from p K b b m m' (λ s. omega arith) (live_kept (back same)) n t r e)
 
   module _ {m m' : ℕ → Bool} (same : Same K m m') where
-    pub known_kept : {key reference : ℕ} → Known p n K b m key reference → Known p n K b m' key reference
+    pub known_kept : {key : ℕ} {reference : Option ℕ} → Known p n K b m key reference → Known p n K b m' key reference
     known_kept (exact F) = exact (key_map (λ q t r M. marks_kept same M) (λ q t r M. marks_kept (back same) M) F)
     known_kept (loose z L) =
         loose z
         (record {
           is_linear = L.is_linear;
           target = L.target;
-          some = L.some;
           first =
               record {
+                least = L.first.least;
+                most = L.first.most;
+                is = live_kept same L.target L.first.is;
                 low = λ s l h e. L.first.low s l h (live_kept (back same) s e);
-                found = λ l. let w = L.first.found l in (w.0, live_kept same L.target w.1);
               };
           is_key = L.is_key;
         })

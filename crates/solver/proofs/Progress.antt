@@ -1,7 +1,7 @@
 -- A phase of the solver under way: the steps so far, what is still to come, and where a step that is taken leads.
 use Prim.Native.Nat.{ℕ, zero, suc, ◌+◌, ◌*◌, ◌-◌, ◌≤◌, ◌<◌}
 use mathlib.Core.Path.{◌≡◌, refl, sym, ap, ◌∙◌}
-use mathlib.Core.Bool.{Bool, true, cond}
+use mathlib.Core.Bool.{true, false}
 use mathlib.Core.List.{List, [], ◌∷◌, ◌++◌, append_assoc, append-nil}
 use mathlib.Core.Option.{Option, none, some}
 use native.Mathlib.Omega.{arith}
@@ -9,14 +9,16 @@ use lib.ListN.{length, length-append}
 use Rattle.circuit.specs.Call.{circuit_of}
 use Rattle.circuit.specs.declared.reader.Sizes.{Sizes}
 use Rattle.laws.specs.Problem.{Problem, given}
-use Rattle.laws.specs.Standing.{Standing, Change, apply}
-use Rattle.laws.specs.Step.{names_of, Step, Rule, rule, met, change, after, replay}
-use Rattle.laws.specs.Solver.{adds_by, turns}
-use Rattle.laws.proofs.Sum.{and_left}
+use Rattle.laws.specs.Standing.{Standing, apply}
+use Rattle.laws.specs.Step.{names_of, Step, in_range, Rule, rule, rule_of, met, change, adds, after, replay}
+use Rattle.laws.specs.Solver.{turns}
 use Rattle.laws.proofs.Order.{replay_append}
+use Rattle.laws.proofs.Sum.{true_or_false}
 use Rattle.laws.proofs.Turns.{adds_says}
 use Rattle.laws.proofs.Optimum.{fits_says}
-use Rattle.rules.specs.Promise.{subject_in, Gives, Asked}
+use Rattle.rules.specs.Promise.{subject_in, view, Taken, Asked}
+use Rattle.rules.specs.declared.rows.Entry.{Entry}
+use Rattle.rules.specs.declared.standing.Outcome.{Outcome}
 use Rattle.rules.specs.Rows.{row_of}
 use Rattle.derivation.specs.Steps.{head_size, step_size}
 use Rattle.derivation.specs.Encoded.{step_bytes, steps_bytes, stored}
@@ -109,22 +111,34 @@ module _ {choose : Standing → Option Step} {P : Problem} {S₀ : Standing} {ou
 -- A step that is taken
 
 -- a step that adds, taken by the part of the file that it names and the row of its constraint, leads to the standing after it
-module _ {c table ends rows : List ℕ} {z : Sizes} (D : Prepared c table ends rows z) (x : Step) {part row : List ℕ}
+module _ {c table ends : List ℕ} {rows : List Entry} {z : Sizes} (D : Prepared c table ends rows z) (x : Step) {part : List ℕ} {row : List Entry}
     (is-part : part ≡ part_named (names_of x.kind) c table x.constraint) (is_row : row ≡ row_of table ends rows x.constraint)
-    {b idle : Bool} {S S' : Standing}
-    (gives : Asked x.kind z.p z.n part row x.target x.reference
-    → Gives b idle S S' x.target (rule x.kind (subject_in z.p z.n part) S x.target x.reference)) where
-  pub step_taken : (sort : Change → Bool) (first : ℕ → ℕ) → adds_by sort (given (circuit_of c) first) S x ≡ true
-      → S' ≡ after (given (circuit_of c) first) S x
-  unfolding adds_by rule_in after change met
-  step_taken sort first a =
-      let P = given (circuit_of c) first in
-      let Z = D.sized in
-      let says = fits_says P S x (adds_says P S x (and_left _ (sort (change P S x)) a)).0 in
-      let asked = step_asked Z D.offsets first x says.0
+    (S : Standing) (first : ℕ → ℕ) (a : adds (given (circuit_of c) first) S x ≡ true) where
+  abbrev P : Problem
+  P = given (circuit_of c) first
+
+  says : (in_range P x ≡ true) × (met P S x ≡ true)
+  says = fits_says P S x (adds_says P S x a).0
+
+  asked : Asked x.kind z.p z.n part row x.target x.reference
+  asked =
+      rw (is-part, is_row)
+      (step_asked D.sized D.offsets first x says.0
       (λ e f.
-      let k = constraint_named Z D.offsets first x says.0 e in
-      D.made.row x.constraint k.0 (omega (arith, k.1, Z.is_m))) in
-      ((rw is-part at (rw is_row at gives)) asked).next
-      ∙ ap (λ (R : Rule). cond R.met (apply R.change S x.target) S) (rule_is Z D.offsets first x says.0 S)
-      ∙ ap (λ (b : Bool). cond b (apply (change P S x) S x.target) S) says.1
+      let k = constraint_named D.sized D.offsets first x says.0 e in
+      D.made.row x.constraint k.0 (omega (arith, k.1, D.sized.is_m))))
+
+  same_rule : rule x.kind (subject_in z.p z.n part) S x.target x.reference ≡ rule_of P S x
+  unfolding rule_in
+  same_rule =
+      ap (λ (p : List ℕ). rule x.kind (subject_in z.p z.n p) S x.target x.reference) is-part ∙ rule_is D.sized D.offsets first x says.0 S
+
+  pub step_taken : {y : Outcome}
+      → (Asked x.kind z.p z.n part row x.target x.reference → Taken z.p y S x.target (rule x.kind (subject_in z.p z.n part) S x.target x.reference))
+      → view z.p y.next ≡ after P S x
+  unfolding after change
+  step_taken gives = (gives asked).next ∙ ap (λ (R : Rule). apply R.change S x.target) same_rule
+
+  pub step_unmet : (Asked x.kind z.p z.n part row x.target x.reference → (rule x.kind (subject_in z.p z.n part) S x.target x.reference).met ≡ false) → ⊥
+  unfolding met
+  step_unmet gives = true_or_false _ says.1 (ap (λ (R : Rule). R.met) (sym same_rule) ∙ gives asked)

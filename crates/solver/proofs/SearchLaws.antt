@@ -3,36 +3,17 @@ use Prim.Native.Nat.{ℕ, ◌+◌, ◌-◌, ◌≤◌, ◌<◌}
 use mathlib.Core.Path.{◌≡◌, refl, sym, ap, ◌∙◌}
 use mathlib.Core.Bool.{Bool, true, false, not, ◌&&◌}
 use mathlib.Core.List.{List}
-use mathlib.Core.Logic.{inl, inr}
-use native.Mathlib.Omega.{arith}
 use lib.Dec.{ltb, leb}
-use lib.ListN.{length, get_or}
-use borrow.Author.Tests.{ltb-true, eq-eqb, ne_eqb, lt-ltb, le-ltb, le-leb, lt-leb, not-true}
+use borrow.Author.Tests.{ltb-true, eq-eqb, ne_eqb, lt-ltb, not-true}
 use Rattle.circuit.specs.Bytes.{byte_at, u16_at}
 use Rattle.circuit.specs.Circuit.{Form, names}
 use Rattle.circuit.specs.Reader.{form_in}
 use Rattle.laws.proofs.Sum.{and_left, and_right, and_both, true_or_false, true_by}
-use Rattle.rules.specs.View.{mark_in, mark_past}
-use Rattle.rules.proofs.ViewLaws.{mark_past_lem}
+use Rattle.rules.specs.View.{mark_in}
 use Rattle.rules.proofs.Walk.{terms_from, turn, terms_end, form_start}
-use Rattle.solver.specs.Search.{SomeUnmarked}
 
 abbrev pub unmarked_at : List Bool → ℕ → Bool
 unmarked_at marks s = ltb 0 s && leb s 256 && not (mark_in marks s)
-
-module _ (marks : List Bool) (s : ℕ) where
-  pub unmarked_zero : s ≡ 0 → false ≡ unmarked_at marks s
-  unmarked_zero e = rw (le-ltb 0 s (omega arith))
-
-  pub unmarked_high : (s ≡ 0 → ⊥) → 256 < s → false ≡ unmarked_at marks s
-  unmarked_high d h = rw (lt-ltb 0 s (omega arith), lt-leb s 256 h)
-
-  pub unmarked_read : (s ≡ 0 → ⊥) → s ≤ 256 → not (get_or marks s false) ≡ unmarked_at marks s
-  unfolding mark_past
-  unmarked_read d h = rw (lt-ltb 0 s (omega arith), le-leb s 256 h)
-
-  pub unmarked_past : (s ≡ 0 → ⊥) → s ≤ 256 → length marks ≤ s → true ≡ unmarked_at marks s
-  unmarked_past d h l = rw (lt-ltb 0 s (omega arith), le-leb s 256 h, mark_past_lem false marks s l)
 
 -- the unmarked signals of the form are those of the terms that are left
 pub record Unfound (m : ℕ → Bool) (f : Form) (part : List ℕ) (left at : ℕ) : Type 0 where
@@ -43,7 +24,7 @@ unfound_start m part count e = record { same = λ s l h. ap (λ (f : Form). name
 
 module _ (marks : List Bool) (f : Form) (part : List ℕ) (left at : ℕ) (U : Unfound (mark_in marks) f part left at) where
   module _ (some : 0 < left) (signal : ℕ) (known : signal ≡ u16_at part at) (b : Bool) (is : b ≡ unmarked_at marks signal) where
-    pub unmarked_found : b ≡ true → SomeUnmarked (mark_in marks) f signal
+    pub unmarked_found : b ≡ true → (1 ≤ signal) × (names f signal ≡ true) × (mark_in marks signal ≡ false)
     unfolding names
     unmarked_found e =
         let h : unmarked_at marks signal ≡ true = sym is ∙ e in
@@ -52,14 +33,11 @@ module _ (marks : List Bool) (f : Form) (part : List ℕ) (left at : ℕ) (U : U
         let free : mark_in marks signal ≡ false = not-true _ (and_right (ltb 0 signal && leb signal 256) _ h) in
         let here : names (terms_from part left at) signal ≡ true
         = rw (turn part left at some signal known, low, eq-eqb signal signal refl) refl in
-        record {
-          found = inr (one, U.same signal one free ∙ here, free);
-          missed = λ (z : signal ≡ 0). absurd (omega arith);
-        }
+        (one, U.same signal one free ∙ here, free)
 
-    pub unmarked_on : b ≡ false → Unfound (mark_in marks) f part (left - 1) (at + 6)
+    pub unmarked_on : {left' at' : ℕ} → left' ≡ left - 1 → at' ≡ at + 6 → b ≡ false → Unfound (mark_in marks) f part left' at'
     unfolding names
-    unmarked_on e = record { same = λ s l h. U.same s l h ∙ later s l h (leb signal 256) refl }
+    unmarked_on is_left is-at e = rw (is_left, is-at) (record { same = λ s l h. U.same s l h ∙ later s l h (leb signal 256) refl })
       where
         later : (s : ℕ) → 1 ≤ s → mark_in marks s ≡ false → (c : Bool) → leb signal 256 ≡ c
             → names (terms_from part left at) s ≡ names (terms_from part (left - 1) (at + 6)) s
@@ -72,11 +50,6 @@ module _ (marks : List Bool) (f : Form) (part : List ℕ) (left at : ℕ) (U : U
                 (sym is ∙ e)
         later s l h false g = rw (turn part left at some signal known, g) refl
 
-  pub unmarked_none : left ≤ 0 → SomeUnmarked (mark_in marks) f 0
+  pub unmarked_none : left ≤ 0 → (s : ℕ) → 1 ≤ s → names f s ≡ true → mark_in marks s ≡ true
   unfolding names
-  unmarked_none h =
-      record {
-        found = inl refl;
-        missed = λ z s l e.
-            true_by _ (λ d. true_or_false _ e (U.same s l d ∙ ap (λ (g : Form). names g s) (terms_end part left at h)));
-      }
+  unmarked_none h s l e = true_by _ (λ d. true_or_false _ e (U.same s l d ∙ ap (λ (g : Form). names g s) (terms_end part left at h)))

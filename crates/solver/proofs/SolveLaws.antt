@@ -1,5 +1,5 @@
 -- The call from what its parts answer: the two phases one after the other, the bytes that they leave, and the answer.
-use Prim.Native.Nat.{ℕ, ◌+◌, ◌*◌, ◌/◌, ◌≤◌, ◌<◌, min}
+use Prim.Native.Nat.{ℕ, ◌+◌, ◌*◌, ◌≤◌, ◌<◌, min}
 use mathlib.Core.Path.{◌≡◌, refl, sym, ap, ◌∙◌}
 use mathlib.Core.Bool.{Bool, true, false}
 use mathlib.Core.List.{List, ◌++◌}
@@ -8,71 +8,61 @@ use lib.Dec.{leb}
 use lib.ListN.{length, drop, replicate, length-append, length-replicate}
 use borrow.Author.Tests.{le-leb, lt-leb}
 use Rattle.circuit.specs.Circuit.{Circuit, WellFormed}
-use Rattle.circuit.specs.Answer.{Answer, refused, given, ask, and_then}
-use Rattle.circuit.specs.Call.{circuit_of, circuit_call, sizes_of, Sized}
+use Rattle.circuit.specs.Answer.{Answer, refused, given, ask}
+use Rattle.circuit.specs.Call.{circuit_of, circuit_call, Sized}
 use Rattle.circuit.specs.declared.reader.Sizes.{Sizes}
-use Rattle.circuit.proofs.Sized.{on_sized, on_refused, sizes_are}
+use Rattle.circuit.proofs.Sized.{call_sized}
 use Rattle.laws.specs.Problem.{Problem, largest}
 use Rattle.laws.specs.Standing.{Standing, start, marks}
 use Rattle.laws.specs.Solver.{best_bound, first_adding, turns, bound_steps, bounded, mark_steps, solution}
 use Rattle.laws.proofs.Order.{replay_append}
 use Rattle.laws.proofs.Solution.{solution_length}
 use Rattle.tags.specs.Tag.{Sheet, tagged}
-use Rattle.tags.specs.Sheet.{sheet_of, sheet_on, Fitting, Unrefused}
-use Rattle.tags.proofs.SheetLaws.{sheet_fitting, sized_unrefused}
-use Rattle.tags.proofs.Tagged.{first_most}
+use Rattle.tags.specs.Sheet.{sheet_of, sheet_on, Unrefused}
+use Rattle.tags.specs.Tagged.{tagged_call}
+use Rattle.tags.proofs.SheetLaws.{sized_unrefused, tagged_refused}
+use Rattle.tags.proofs.TaggedLaws.{first_most}
 use Rattle.derivation.specs.Encoded.{header_bytes, steps_bytes, encoded, stored}
 use Rattle.derivation.specs.Inner.{tagged_in, judged_by, first_view}
-use Rattle.derivation.specs.Call.{bit, marks_from, total}
 use Rattle.derivation.proofs.CallLaws.{start_is, judged_is}
 use Rattle.derivation.proofs.Encoding.{encoded_lists}
-use Rattle.derivation.proofs.MarkLaws.{marks_counted}
 use Rattle.derivation.proofs.Written.{written_append, header_written}
 use Rattle.solver.specs.Call.{Solved, own, reached, solved, room_for, solver_on, solver_call, left_by, solver_output}
-use Rattle.circuit.specs.Offsets.{Offsets}
-use Rattle.circuit.proofs.OffsetLaws.{sized_offsets}
 use Rattle.laws.specs.Problem as laws
 use Rattle.laws.proofs.Turns.{none_done, turns_short}
 use Rattle.laws.proofs.Greedy.{reached_start, bound_phase}
 use Rattle.rules.proofs.ViewLaws.{get_d_repeated}
 use Rattle.rules.specs.Rows.{at}
-use Rattle.solver.specs.Links.{AllRows, Prepared, Blank, Unlinked, Entries}
+use Rattle.rules.specs.declared.rows.Entry.{Entry}
+use Rattle.solver.specs.Links.{places, Blank, Unlinked}
+use Rattle.solver.specs.declared.links.Link.{Link}
 use Rattle.solver.specs.Bounds.{Lowered}
 use Rattle.solver.specs.Choice.{Marked, Taken}
 use Rattle.solver.specs.Demand.{Demand}
-use Rattle.solver.specs.Inner.{Taking, Solves}
+use Rattle.solver.specs.Inner.{Solves}
 use Rattle.solver.proofs.Demand.{call_on, output_on, demand}
-
--- The count of marks
-
-pub marked_counted : (m : ℕ → Bool) (s count : ℕ) → count ≡ total (marks_from m 0 s) → m (s + 1) ≡ true → count + 1 ≡ total (marks_from m 0 (s + 1))
-marked_counted m s count e h = marks_counted m s count 1 e (sym (ap bit h))
-
-pub unmarked_counted : (m : ℕ → Bool) (s count : ℕ) → count ≡ total (marks_from m 0 s) → m (s + 1) ≡ false → count ≡ total (marks_from m 0 (s + 1))
-unmarked_counted m s count e h =
-    let same : count ≡ count + 0 = omega arith in
-    same ∙ marks_counted m s count 0 e (sym (ap bit h))
 
 -- A circuit or a sheet that is refused
 
--- what is answered for a circuit that isn't refused
-abbrev answer_on : List ℕ → List ℕ → Circuit → Answer Solved
-answer_on h output C = and_then (sheet_on (sizes_of C) h) (λ (T : Sheet). solver_on (tagged C T) T (length output))
+solves_refused : (c h output : List ℕ) {number place : ℕ} → refused number place ≡ solver_call c h (length output)
+    → Solves c h output (refused number place) output
+unfolding solver_output
+solves_refused c h output e = record { answer = e; written = rw (← e) }
 
-module _ (c h output : List ℕ) {number place : ℕ} where
-  solves_refused : refused number place ≡ solver_call c h (length output) → Solves c h output (refused number place) output
-  unfolding solver_output
-  solves_refused e = record { answer = e; written = rw (← e) }
-
-  pub circuit_refused : refused number place ≡ circuit_call c → Solves c h output (refused number place) output
-  unfolding solver_call
-  circuit_refused e = solves_refused (on_refused c (answer_on h output) e)
-
-  pub sheet_refused : {z : Sizes} → Sized c z → refused number place ≡ sheet_on z h → Solves c h output (refused number place) output
-  unfolding solver_call
-  sheet_refused Z e = solves_refused (sym (on_sized (answer_on h output) Z ∙ rw (← (sizes_are Z), ← e)))
+pub call_refused : (c h output : List ℕ) {number place : ℕ} → refused number place ≡ tagged_call c h → Solves c h output (refused number place) output
+unfolding solver_call
+call_refused c h output e =
+    solves_refused c h output (tagged_refused c h (λ (C : Circuit) (T : Sheet). solver_on (tagged C T) T (length output)) e)
 
 -- A circuit and a sheet that aren't refused
+
+-- what a circuit with a sheet says of both
+pub record Taking (c h : List ℕ) (z : Sizes) : Type 0 where
+  pub sized : Sized c z
+  pub sheeted : sheet_on z h ≡ given (sheet_of h)
+
+pub taking : {c h : List ℕ} {z : Sizes} → circuit_call c ≡ given z → sheet_on z h ≡ given (sheet_of h) → Taking c h z
+taking read fits = record { sized = call_sized read; sheeted = fits }
 
 module _ (c h : List ℕ) (z : Sizes) (K : Taking c h z) where
   abbrev C : Circuit
@@ -99,9 +89,6 @@ module _ (c h : List ℕ) (z : Sizes) (K : Taking c h z) where
   room_short output short =
       let few : leb (room_for C.n) (length output) ≡ false = lt-leb (room_for C.n) (length output) (omega (arith, Z.is_n)) in
       solves_refused c h output (sym (call_on output U ∙ ap (λ (b : Bool). ask b 25 0 (given (solved P T))) few))
-
-  pub fits_sheet : Fitting z.n z.p T
-  fits_sheet = sheet_fitting z h T K.sheeted
 
   -- the start
   pub start_view : (S : Standing) → S ≡ first_view z.p z.i h → S ≡ start P
@@ -191,36 +178,29 @@ pub both_taken : {P : Problem} {S S₁ S₂ : Standing} {output output₁ output
     → Marked P S₁ S₂ output₁ output₂ base steps → Taken P S S₂ output output₂ steps
 both_taken L M = record { middle = _; half = _; base = _; lowered = L; marked = M }
 
--- arrays of so many entries are enough
-pub entries_for : {bytes m : ℕ} (x : ℕ) → bytes / 6 + m + 1 ≤ x → Entries bytes m (replicate (2 * x) 0) (replicate x 0) (replicate x 0)
-entries_for x h =
-    record {
-      rows_room = simp length-replicate (omega (arith, h));
-      befores_room = simp length-replicate (omega arith);
-      owners_room = simp length-replicate (omega arith);
-    }
-
--- what making the table asks, of arrays of the call's own, all zeros, and of those lent, and what the phases ask of the rows made
-module _ {c table : List ℕ} {z : Sizes} (Z : Sized c z) (O : Offsets c (min z.m 512) table) where
-  pub table_blank : {rows befores owners : List ℕ} → Entries (length c) z.m rows befores owners → Blank c table z (replicate 513 0) rows owners
+-- what making the table asks, of arrays of the call's own
+module _ {c : List ℕ} {z : Sizes} (Z : Sized c z) where
+  pub table_blank : (x : ℕ) (entry : Entry) (link : Link) → places (length c) z.m ≤ x
+      → Blank (length c) z.m (replicate 513 0) (replicate x entry) (replicate x link)
   unfolding at
-  table_blank E =
+  table_blank x entry link few =
       record {
-        sized = Z;
-        offsets = sized_offsets Z O;
-        roomy = record { ends_room = simp length-replicate (omega (arith, Z.is_m, Z.formed.m_most)); rows_room = E.rows_room };
-        owners_room = E.owners_room;
+        roomy = record {
+          ends_room = simp length-replicate (omega (arith, Z.is_m, Z.formed.m_most));
+          rows_room = simp length-replicate few;
+        };
+        links_room = simp length-replicate (omega arith);
         none = λ k. get_d_repeated {A = ℕ} 513 k 0;
       }
 
-  pub table_unlinked : {rows befores owners : List ℕ} → Entries (length c) z.m rows befores owners → Unlinked z.n rows (replicate 257 0) befores
+  pub table_unlinked : Unlinked z.n (replicate 257 0)
   unfolding at
-  table_unlinked E =
+  table_unlinked =
       record {
         lasts_room = simp length-replicate (omega (arith, Z.is_n, Z.formed.n_most));
         fresh = λ s. get_d_repeated {A = ℕ} 257 s 0;
-        befores_room = E.befores_room;
       }
 
-  pub table_prepared : {ends rows : List ℕ} → AllRows (circuit_of c) table ends rows → Prepared c table ends rows z
-  table_prepared R = record { sized = Z; offsets = sized_offsets Z O; made = R }
+  -- the room that is always enough
+  pub most_places : places (length c) z.m ≤ 10513
+  most_places = omega (arith, Z.most, Z.is_m, Z.formed.m_most)

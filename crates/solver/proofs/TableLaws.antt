@@ -1,100 +1,91 @@
 -- The rows of all constraints under way, and what they are in the end.
-use Prim.Native.Nat.{ℕ, ◌+◌, ◌/◌, ◌≤◌, ◌<◌}
+use Prim.Native.Nat.{ℕ, ◌+◌, ◌≤◌}
 use mathlib.Core.Path.{◌≡◌, sym, ◌∙◌}
 use mathlib.Core.List.{List}
 use mathlib.Core.Logic.{inl, ⊎_elim}
 use native.Mathlib.Omega.{arith}
-use borrow.Author.Rules.{rules}
-use lib.ListN.{length, get_or}
+use lib.ListN.{length}
 use Rattle.circuit.specs.Call.{circuit_of, Sized}
 use Rattle.circuit.specs.Offsets.{Offsets}
 use Rattle.circuit.specs.declared.reader.Sizes.{Sizes}
 use Rattle.laws.proofs.Sum.{by_equal}
-use Rattle.rules.specs.Rows.{at, start_of, row_size, Rows, Roomy, RowMade}
+use Rattle.rules.specs.Rows.{at, start_of, row_size, Roomy, RowMade}
 use Rattle.rules.proofs.RoomLaws.{rows_apart, row_within, row_inside}
-use Rattle.solver.specs.Links.{AllRows, Spread, Linked, Linkable, Links, Blank, Made, Unlinked}
+use Rattle.solver.specs.Links.{places, AllRows, Owned, Linked, SameOwners, Linkable, Links, Blank, Made, Unlinked}
+use Rattle.rules.specs.declared.rows.Entry.{Entry}
+use Rattle.solver.specs.declared.links.Link.{Link}
 
--- the arrays keep their lengths, and the rows of k constraints are made
-pub record Making (c table : List ℕ) (z : Sizes) (ends₀ rows₀ owners₀ : List ℕ) (k : ℕ) (ends rows owners : List ℕ) : Type 0 where
-  pub few : k ≤ z.m
-  pub ends_kept : length ends ≡ length ends₀
-  pub rows_kept : length rows ≡ length rows₀
-  pub owners_kept : length owners ≡ length owners₀
-  pub made : Made (circuit_of c) table k ends rows owners
+module _ {c table : List ℕ} {z : Sizes} (Z : Sized c z) (O : Offsets c z.m table) {ends₀ : List ℕ} {rows₀ : List Entry} {links₀ : List Link}
+    (B : Blank (length c) z.m ends₀ rows₀ links₀) where
+  pub making_start : {k : ℕ} → k ≡ 0 → Made (circuit_of c) table k ends₀ rows₀ links₀
+  making_start e =
+      rw e
+      record {
+        all = record { each = λ k l m. inl (B.none k) };
+        end = λ j l m. absurd (omega arith);
+        rest = λ j l. B.none j;
+        owner = λ j e l m. absurd (omega arith);
+      }
 
-module _ {c table : List ℕ} {z : Sizes} {ends₀ rows₀ owners₀ : List ℕ} (B : Blank c table z ends₀ rows₀ owners₀) where
-  pub making_start : Making c table z ends₀ rows₀ owners₀ 0 ends₀ rows₀ owners₀
-  making_start =
-      let none : Rows (circuit_of c) table ends₀ rows₀ = record { each = λ k l m. inl (B.none k) } in
-      let made : Made (circuit_of c) table 0 ends₀ rows₀ owners₀
-      = record { all = none; end = λ j l m. absurd (omega arith); rest = λ j l. B.none j; owner = λ j e l m. absurd (omega arith) } in
-      search rules
+  pub roomy : {ends : List ℕ} {rows : List Entry} → length ends ≡ length ends₀ → length rows ≡ length rows₀ → Roomy (length c) z.m ends rows
+  roomy e r = record { ends_room = omega (arith, B.roomy.ends_room); rows_room = omega (arith, B.roomy.rows_room) }
 
-  roomy : {k : ℕ} {ends rows owners : List ℕ} → Making c table z ends₀ rows₀ owners₀ k ends rows owners → Roomy (length c) z.m ends rows
-  roomy G = record { ends_room = omega (arith, B.roomy.ends_room, G.ends_kept); rows_room = omega (arith, B.roomy.rows_room, G.rows_kept) }
-
-  -- the row of the next constraint, by what its making promises
-  pub making_row : {k : ℕ} {ends rows owners ends' rows' : List ℕ} → Making c table z ends₀ rows₀ owners₀ k ends rows owners → k < z.m
-      → (Sized c z → Offsets c z.m table → Roomy (length c) z.m ends rows → 1 ≤ k + 1 → k + 1 ≤ z.m → Rows (circuit_of c) table ends rows
-      → RowMade (circuit_of c) table (k + 1) ends rows ends' rows')
-      → RowMade (circuit_of c) table (k + 1) ends rows ends' rows'
-  making_row G more h = h B.sized B.offsets (roomy G) (omega arith) (omega arith) G.made.all
-
-  module _ {k : ℕ} {ends rows owners ends' rows' : List ℕ} (more : k < z.m) (M : Made (circuit_of c) table k ends rows owners)
-      (N : RowMade (circuit_of c) table (k + 1) ends rows ends' rows') where
-    pub end_is : get_or ends' (k + 1) 0 ≡ start_of table (k + 1) + row_size (circuit_of c) (k + 1)
-    unfolding at
-    end_is = N.end (M.rest (k + 1) (omega arith))
+  module _ {k i : ℕ} {ends ends' : List ℕ} {rows rows' : List Entry} {links : List Link} (is_i : i ≡ k + 1) (more : i ≤ z.m) (M : Made (circuit_of c) table k ends rows links)
+      (N : RowMade (circuit_of c) table i ends rows ends' rows') where
+    pub end_is : at ends' i ≡ start_of table i + row_size (circuit_of c) i
+    end_is = N.end (M.rest i (omega arith))
 
     -- the entries of the row are within the array
-    pub row_entries : (start_of table (k + 1) / 2 ≤ get_or ends' (k + 1) 0 / 2) × (get_or ends' (k + 1) 0 / 2 ≤ length owners₀)
+    pub row_entries : (start_of table i ≤ at ends' i) × (at ends' i ≤ length links₀)
     row_entries =
-        let end = row_inside B.sized B.offsets B.roomy (k + 1) (omega arith) (omega arith) in
-        (omega (arith, end_is), omega (arith, end_is, end, B.owners_room))
+        let end = row_inside Z O B.roomy i (omega arith) more in
+        (omega (arith, end_is), omega (arith, end_is, end, B.links_room))
 
-    pub made_on : {owners' : List ℕ} → Spread (k + 1) (start_of table (k + 1) / 2) (get_or ends' (k + 1) 0 / 2) owners owners'
-        → Made (circuit_of c) table (k + 1) ends' rows' owners'
-    unfolding at start_of row_size
-    made_on {owners'} P =
+    pub made_on : {links' : List Link} → Owned i (start_of table i) (at ends' i) links links'
+        → Made (circuit_of c) table i ends' rows' links'
+    unfolding row_size
+    made_on {links'} P =
         record {
           all = N.all;
-          end = λ j l m. by_equal j (k + 1) (λ e. rw e end_is) (λ d. N.ends_kept j d ∙ M.end j l (omega arith));
-          rest = λ j l. N.ends_kept j (λ (e : j ≡ k + 1). omega arith) ∙ M.rest j (omega arith);
+          end = λ j l m. by_equal j i (λ e. rw e end_is) (λ d. N.ends_kept j d ∙ M.end j l (omega arith));
+          rest = λ j l. N.ends_kept j (λ (e : j ≡ i). omega arith) ∙ M.rest j (omega arith);
           owner = λ j e l m a b.
-              by_equal j (k + 1) (λ i. P.each e (omega (arith, rw i at a)) (omega (arith, rw i at b, end_is)) ∙ sym i)
+              by_equal j i (λ q. P.each e (omega (arith, rw q at a)) (omega (arith, rw q at b, end_is)) ∙ sym q)
               (λ d.
-              let apart = rows_apart B.sized B.offsets j (k + 1) l (omega arith) (omega arith) in
+              let apart = rows_apart Z O j i l (omega arith) more in
               P.kept e (inl (omega (arith, apart, M.end j l (omega arith), N.ends_kept j d)))
               ∙ M.owner j e l (omega arith) a (omega (arith, N.ends_kept j d)));
         }
 
-  pub linkable : {rows lasts befores : List ℕ} → Unlinked z.n rows₀ lasts befores → length rows ≡ length rows₀
-      → Linkable (length c / 6 + z.m + 1) rows lasts befores
-  linkable U h =
-      let few = B.sized.formed.m_most in
-      search rules
+  pub linkable : {rows : List Entry} {lasts : List ℕ} {links : List Link} → Unlinked z.n lasts → length rows ≡ length rows₀ → length links ≡ length links₀
+      → Linkable (places (length c) z.m) rows lasts links
+  linkable U h l =
+      record {
+        inside = omega (arith, B.roomy.rows_room);
+        room = omega (arith, B.roomy.rows_room, B.links_room);
+        small = omega (arith, Z.most, Z.is_m, Z.formed.m_most);
+        fresh = U.fresh;
+      }
 
-  module _ {ends rows owners : List ℕ} (M : Made (circuit_of c) table z.m ends rows owners) where
+  module _ {ends : List ℕ} {rows : List Entry} {links : List Link} (M : Made (circuit_of c) table z.m ends rows links) where
     pub all_rows : AllRows (circuit_of c) table ends rows
     unfolding start_of
     all_rows =
         record {
           row = λ k l m.
-              ⊎_elim (λ e. absurd (omega (arith, M.end k l (omega (arith, B.sized.is_m)), e))) (λ r. r) (M.all.each k l m);
+              ⊎_elim (λ e. absurd (omega (arith, M.end k l (omega (arith, Z.is_m)), e))) (λ r. r) (M.all.each k l m);
         }
 
-    pub all_links : {lasts befores lasts₀ befores₀ : List ℕ} → Unlinked z.n rows₀ lasts₀ befores₀ → length lasts ≡ length lasts₀
-        → length befores ≡ length befores₀ → length owners ≡ length owners₀
-        → Linked rows (length c / 6 + z.m + 1) lasts befores → Links (circuit_of c) table ends rows lasts befores owners
-    all_links U hl hb ho L =
+    pub all_links : {lasts lasts₀ : List ℕ} {links' : List Link} → Unlinked z.n lasts₀ → length lasts ≡ length lasts₀
+        → length links ≡ length links₀ → Linked rows (places (length c) z.m) lasts links' → SameOwners links links'
+        → Links (circuit_of c) (places (length c) z.m) table ends rows lasts links'
+    all_links U hl hb L same =
         record {
-          end = length c / 6 + z.m + 1;
           linked = L;
-          owner = λ k e l m. M.owner k e l (omega (arith, B.sized.is_m));
+          owner = λ k e l m a b. same.owner e ∙ M.owner k e l (omega (arith, Z.is_m)) a b;
           within = λ k l m.
-              let h : k ≤ z.m = omega (arith, B.sized.is_m) in
-              omega (arith, M.end k l h, row_within B.sized B.offsets k l h);
-          lasts_room = omega (arith, U.lasts_room, B.sized.is_n);
-          befores_room = omega (arith, U.befores_room, B.roomy.rows_room);
-          owners_room = omega (arith, B.owners_room, B.roomy.rows_room);
+              let h : k ≤ z.m = omega (arith, Z.is_m) in
+              omega (arith, M.end k l h, row_within Z O k l h);
+          lasts_room = omega (arith, U.lasts_room, Z.is_n);
+          links_room = omega (arith, same.sized, B.links_room, B.roomy.rows_room);
         }

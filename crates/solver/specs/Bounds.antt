@@ -1,24 +1,73 @@
 -- What the bounds phase keeps of each constraint: the one step by which it lowers a bound, as a key. Keys are compared as numbers.
 -- How the solver runs, not what it means.
-use Rattle.std.specs.Prelude.{ℕ, ◌+◌, ◌*◌, ◌≤◌, ◌<◌, ◌≡◌, Bool, true, false, List, ◌⊎◌, length}
+use Rattle.std.specs.Prelude.{ℕ, ◌+◌, ◌*◌, ◌≤◌, ◌<◌, ◌≡◌, Bool, true, false, cond, eqb, List, ◌⊎◌, length, get_or, Option, None, Some}
 use Rattle.circuit.specs.Circuit.{Circuit, Constraint, constraint_at}
 use Rattle.laws.specs.Problem.{Problem}
 use Rattle.laws.specs.Standing.{Standing, at_most}
 use Rattle.laws.specs.Step.{Kind, kind_number, Rule, rule, replay}
 use Rattle.laws.specs.Solver.{best_bound, turns}
-use Rattle.rules.specs.Rows.{at}
+use Rattle.rules.specs.Promise.{kind_of}
 use Rattle.derivation.specs.Steps.{head_size}
 use Rattle.derivation.specs.Encoded.{steps_bytes, stored}
+use Rattle.solver.specs.declared.keys.Key.{Key}
+use Rattle.solver.specs.declared.keys.Choice.{Choice}
 
 -- Keys
 
--- the key of a step: new bound, target (16 bits) and number of the kind (3 bits)
+-- the key of a step: new bound, target (32 bits) and number of the kind (3 bits), as one number, so that keys are ordered as numbers are
 unfoldable pub key_of : ℕ → ℕ → ℕ → ℕ
-key_of bound target kind = (bound * 65536 + target) * 8 + kind
+key_of bound target kind = (bound * 4294967296 + target) * 8 + kind
 
 -- above all keys of steps
 abbrev pub no_key : ℕ
-no_key = 0xffff_ffff_ffff_ffff
+no_key = 147573952589676412928
+
+abbrev pub key_in : Key → ℕ
+key_in key = key_of key.bound key.target (kind_number (kind_of key.kind))
+
+abbrev pub least_in : Option Key → ℕ
+least_in None = no_key
+least_in (Some key) = key_in key
+
+-- what is kept of a constraint: its key, or 0 where nothing is known
+abbrev pub known_in : Option (Option Key) → ℕ
+known_in None = 0
+known_in (Some found) = least_in found
+
+abbrev pub key_at : List (Option (Option Key)) → ℕ → ℕ
+key_at keys k = known_in (get_or keys k None)
+
+-- the lowest step so far: its key, and the place that it has by its constraint
+abbrev pub least_of : Option Choice → ℕ
+least_of None = no_key
+least_of (Some choice) = key_in choice.key
+
+abbrev pub place_of : Option Choice → ℕ
+place_of None = 0
+place_of (Some choice) = choice.constraint
+
+abbrev pub reference_of : Option Choice → ℕ
+reference_of None = 0
+reference_of (Some choice) = choice.reference
+
+-- a key whose numbers have 32 bits
+pub record Narrow (key : Key) : Type 0 where
+  pub bound : key.bound < 4294967296
+  pub target : key.target < 4294967296
+
+abbrev pub AllNarrow : Option Choice → Type 0
+AllNarrow None = Unit {0}
+AllNarrow (Some choice) = Narrow choice.key
+
+-- the lower of the lowest step so far and that of constraint k, if it has a key; of two with equal keys the former
+pub data Lower (lowest : Option Choice) (k : ℕ) : Option Key → Option Choice → Type 0 where
+  no_step : Lower lowest k None lowest
+  stays : {key : Key} → least_of lowest ≤ key_in key → Lower lowest k (Some key) lowest
+  lowers : {key : Key} → Narrow key → key_in key < least_of lowest → Lower lowest k (Some key) (Some (record { key = key; constraint = k; reference = 0 }))
+
+-- keys of constraints, with x at place 0
+unfoldable pub with_zeroth : ℕ → (ℕ → ℕ) → ℕ → ℕ
+with_zeroth x keys k = cond (eqb k 0) x (keys k)
 
 unfoldable pub unmarked : ℕ → Bool
 unmarked s = false
@@ -52,35 +101,33 @@ pub record IsKey (p n : ℕ) (K : Constraint) (b : ℕ → ℕ) (key : ℕ) : Ty
   pub only : (q : Kind) (t x : ℕ) → LowersTo p n K b q t x → key ≡ key_of x t (kind_number q)
   pub held : (key ≡ no_key) ⊎ Holder p n K b key
 
--- the key of each constraint; none at 0
-pub record Keys (C : Circuit) (b : ℕ → ℕ) (keys : List ℕ) : Type 0 where
-  pub top : at keys 0 ≡ no_key
-  pub each : (k : ℕ) → 1 ≤ k → k ≤ C.m → IsKey C.p C.n (constraint_at C k) b (at keys k)
+-- the key of each constraint
+pub record Keys (C : Circuit) (b : ℕ → ℕ) (keys : List (Option (Option Key))) : Type 0 where
+  pub each : (k : ℕ) → 1 ≤ k → k ≤ C.m → IsKey C.p C.n (constraint_at C k) b (key_at keys k)
 
--- the key of each constraint that is known, 0 for the others; none at 0; over bounds below p
-pub record SomeKeys (C : Circuit) (b : ℕ → ℕ) (keys : List ℕ) : Type 0 where
+-- the key of each constraint of which something is known; over bounds below p
+pub record SomeKeys (C : Circuit) (b : ℕ → ℕ) (keys : List (Option (Option Key))) : Type 0 where
   pub low : (s : ℕ) → b s < C.p
-  pub top : at keys 0 ≡ no_key
-  pub each : (k : ℕ) → 1 ≤ k → k ≤ C.m → (at keys k ≡ 0) ⊎ IsKey C.p C.n (constraint_at C k) b (at keys k)
+  pub each : (k : ℕ) → 1 ≤ k → k ≤ C.m → (get_or keys k None ≡ None) ⊎ IsKey C.p C.n (constraint_at C k) b (key_at keys k)
 
 -- k is the number of a constraint, of which something is kept
-pub record Kept (m k : ℕ) (keys : List ℕ) : Type 0 where
+pub record Kept {A : Type 0} (m k : ℕ) (keys : List A) : Type 0 where
   pub first : 1 ≤ k
   pub last : k ≤ m
   pub room : m < length keys
 
 -- the key of constraint k is found, and the others are kept
-pub record Found (C : Circuit) (b : ℕ → ℕ) (k key : ℕ) (before later : List ℕ) : Type 0 where
-  pub is_key : IsKey C.p C.n (constraint_at C k) b key
-  pub here : at later k ≡ key
-  pub kept : (j : ℕ) → (j ≡ k → ⊥) → at later j ≡ at before j
+pub record Found (C : Circuit) (b : ℕ → ℕ) (k : ℕ) (key : Option Key) (before later : List (Option (Option Key))) : Type 0 where
+  pub is_key : IsKey C.p C.n (constraint_at C k) b (least_in key)
+  pub here : get_or later k None ≡ Some key
+  pub kept : (j : ℕ) → (j ≡ k → ⊥) → get_or later j None ≡ get_or before j None
   pub sized : length later ≡ length before
 
 -- r is the place of the least of the keys 0 to m, the first of them
-pub record Least (keys : List ℕ) (m r : ℕ) : Type 0 where
+pub record Least (keys : ℕ → ℕ) (m r : ℕ) : Type 0 where
   pub within : r ≤ m
-  pub least : (k : ℕ) → k ≤ m → at keys r ≤ at keys k
-  pub first : (k : ℕ) → k < r → at keys r < at keys k
+  pub least : (k : ℕ) → k ≤ m → keys r ≤ keys k
+  pub first : (k : ℕ) → k < r → keys r < keys k
 
 -- What the phase asks and leaves
 

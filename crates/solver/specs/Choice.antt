@@ -1,24 +1,31 @@
--- What the marks phase chooses, and what it leaves. How the solver runs, not what it means.
-use Rattle.std.specs.Prelude.{ℕ, ◌+◌, ◌*◌, ◌≡◌, cond, List, eqb, length}
-use Rattle.std.proofs.Math.Option.{Option, none, some}
-use Rattle.laws.specs.Problem.{Problem}
+-- What a phase chooses, and what it leaves. How the solver runs, not what it means.
+use Rattle.std.specs.Prelude.{ℕ, ◌+◌, ◌*◌, ◌≡◌, true, List, length, Option, None, Some}
+use Rattle.std.proofs.Math.Option as math
+use Rattle.circuit.specs.Circuit.{Circuit}
+use Rattle.laws.specs.Problem.{Problem, given}
 use Rattle.laws.specs.Standing.{Standing, marks}
-use Rattle.laws.specs.Step.{Kind, Zero, Product, Digits, Step, replay}
+use Rattle.laws.specs.Step.{Step, adds, after, replay}
 use Rattle.laws.specs.Solver.{step, first_adding, turns}
 use Rattle.rules.specs.Promise.{kind_of}
 use Rattle.derivation.specs.Steps.{head_size, step_size}
 use Rattle.derivation.specs.Encoded.{steps_bytes, stored}
 use Rattle.solver.specs.Bounds.{Lowered}
-use Rattle.solver.specs.declared.marks.Choice.{Choice}
-use Rattle.solver.specs.declared.marks.Choice.TheVariants as variants
+use Rattle.solver.specs.declared.keys.Choice.{Choice}
 
--- the kind of a step that marks, by its number
-unfoldable pub mark_kind : ℕ → Kind
-mark_kind x = cond (eqb x 3) Zero (cond (eqb x 4) Product Digits)
+abbrev pub step_of : Choice → Step
+step_of choice = step (kind_of choice.key.kind) choice.key.target choice.constraint choice.reference
 
-abbrev pub choice_of : Choice → Option Step
-choice_of variants.Nothing = none
-choice_of (variants.Taken kind target constraint reference) = some (step (kind_of kind) target constraint reference)
+abbrev pub choice_of : Option Choice → math.Option Step
+choice_of None = math.none
+choice_of (Some choice) = math.some (step_of choice)
+
+-- the step is in range, meets its rule and isn't idle; no rule looks at the first bounds
+abbrev pub Adds : Circuit → Standing → Step → Type 0
+Adds C S x = (f : ℕ → ℕ) → adds (given C f) S x ≡ true
+
+-- S' is the standing to which it leads
+abbrev pub TakenBy : Circuit → Standing → Step → Standing → Type 0
+TakenBy C S x S' = (f : ℕ → ℕ) → S' ≡ after (given C f) S x
 
 -- the steps of the marks phase from a standing on
 abbrev pub marks_from : Problem → Standing → List Step

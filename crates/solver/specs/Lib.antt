@@ -1,4 +1,5 @@
 pub mod Links
+pub mod Table
 pub mod Search
 pub mod Bounds
 pub mod Marks

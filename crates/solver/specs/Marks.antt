@@ -1,11 +1,12 @@
 -- What the marks phase keeps of each constraint: its first step that marks an unmarked signal, as a key. How the solver runs, not what it means.
-use Rattle.std.specs.Prelude.{ℕ, ◌≤◌, ◌<◌, ◌≡◌, Bool, true, false, not, ◌&&◌, List, ◌⊎◌, length}
+use Rattle.std.specs.Prelude.{ℕ, ◌≤◌, ◌≡◌, Bool, true, false, not, ◌&&◌, List, ◌⊎◌, length, get_or, Option, None, Some}
 use Rattle.circuit.specs.Circuit.{Circuit, Constraint, constraint_at}
 use Rattle.laws.specs.Rules.{linear, reduced, zero_met, product_met, digits_met}
 use Rattle.laws.specs.Step.{Kind, Zero, Product, Digits, kind_number}
-use Rattle.rules.specs.Rows.{at}
-use Rattle.rules.specs.Weights.{FirstLive}
-use Rattle.solver.specs.Bounds.{key_of, no_key, Least}
+use Rattle.rules.specs.Weights.{LowestLive}
+use Rattle.solver.specs.Bounds.{key_of, no_key, key_in, least_of, place_of, reference_of, AllNarrow, with_zeroth, Least}
+use Rattle.solver.specs.declared.keys.Choice.{Choice}
+use Rattle.solver.specs.declared.marking.Candidate.{Candidate}
 
 -- Steps that mark
 
@@ -28,10 +29,10 @@ pub data MarksZero (n : ℕ) (b : ℕ → ℕ) (m : ℕ → Bool) : Kind → ℕ
 unfoldable pub zero_at : (ℕ → ℕ) → (ℕ → Bool) → ℕ → Bool
 zero_at b m t = zero_met b t && not (m t)
 
--- t is the lowest signal of 1 to n that passes the test, 0 where none does
-pub record First (test : ℕ → Bool) (n t : ℕ) : Type 0 where
-  pub low : (s : ℕ) → 1 ≤ s → s ≤ n → test s ≡ true → (1 ≤ t) × (t ≤ s)
-  pub found : 1 ≤ t → (t ≤ n) × (test t ≡ true)
+-- the lowest signal of 1 to n that passes the test, if one does
+abbrev pub First : (ℕ → Bool) → ℕ → Option ℕ → Type 0
+First test n None = (s : ℕ) → 1 ≤ s → s ≤ n → test s ≡ true → ⊥
+First test n (Some t) = (1 ≤ t) × (t ≤ n) × (test t ≡ true) × ((s : ℕ) → 1 ≤ s → test s ≡ true → t ≤ s)
 
 -- Keys
 
@@ -51,40 +52,71 @@ pub record FirstKey (Q : Kind → ℕ → ℕ → Type 0) (key reference : ℕ) 
   pub low : (q : Kind) (t r : ℕ) → Q q t r → (key ≤ mark_key q t) × (key ≡ mark_key q t → reference ≤ r)
   pub held : (key ≡ no_key) ⊎ KeyHolder Q key reference
 
+-- the first zero step, by no constraint
+pub record ZeroStep (n : ℕ) (b : ℕ → ℕ) (m : ℕ → Bool) (found : Option Choice) : Type 0 where
+  pub first : FirstKey (MarksZero n b m) (least_of found) 0
+  pub place : place_of found ≡ 0
+  pub alone : reference_of found ≡ 0
+  pub narrow : AllNarrow found
+
 -- a loose key, of a linear constraint: the first digits step if some reference separates the unmarked signals
 pub record Loose (p n : ℕ) (K : Constraint) (m : ℕ → Bool) (key : ℕ) : Type 0 where
   pub is_linear : linear K ≡ true
   pub target : ℕ
-  pub some : 1 ≤ target
-  pub first : FirstLive n (reduced p K) m target
+  pub first : LowestLive n (reduced p K) m target
   pub is_key : key ≡ mark_key Digits target
 
--- what is kept of a constraint where something is known; the reference is 0 while the key is loose
-pub data Known (p n : ℕ) (K : Constraint) (b : ℕ → ℕ) (m : ℕ → Bool) (key reference : ℕ) : Type 0 where
-  loose : reference ≡ 0 → Loose p n K m key → Known p n K b m key reference
-  exact : FirstKey (MarksBy p n K b m) key reference → Known p n K b m key reference
+-- a reference as a field of a step, 0 where there is none
+abbrev pub reference_in : Option ℕ → ℕ
+reference_in None = 0
+reference_in (Some r) = r
 
--- The constraints of a circuit
+-- what is kept of a constraint where something is known; there is no reference while the key is loose
+pub data Known (p n : ℕ) (K : Constraint) (b : ℕ → ℕ) (m : ℕ → Bool) (key : ℕ) (reference : Option ℕ) : Type 0 where
+  loose : reference ≡ None → Loose p n K m key → Known p n K b m key reference
+  exact : FirstKey (MarksBy p n K b m) key (reference_in reference) → Known p n K b m key reference
 
--- what is kept of each constraint, 0 where nothing is known; place 0 is that of the zero steps
-pub record MarkKeys (C : Circuit) (b : ℕ → ℕ) (m : ℕ → Bool) (keys references : List ℕ) : Type 0 where
-  pub keys_room : C.m < length keys
-  pub references_room : C.m < length references
-  pub top : at references 0 ≡ 0
-  pub each : (k : ℕ) → 1 ≤ k → k ≤ C.m → (at keys k ≡ 0) ⊎ Known C.p C.n (constraint_at C k) b m (at keys k) (at references k)
+-- What is kept of the constraints
+
+abbrev pub found_key : Option Candidate → ℕ
+found_key None = no_key
+found_key (Some x) = key_in x.key
+
+abbrev pub found_reference : Option Candidate → Option ℕ
+found_reference None = None
+found_reference (Some x) = x.reference
+
+-- the key, 0 where nothing is known
+abbrev pub known_key : Option (Option Candidate) → ℕ
+known_key None = 0
+known_key (Some found) = found_key found
+
+abbrev pub known_reference : Option (Option Candidate) → Option ℕ
+known_reference None = None
+known_reference (Some found) = found_reference found
+
+abbrev pub mark_keys : List (Option (Option Candidate)) → ℕ → ℕ
+mark_keys kept k = known_key (get_or kept k None)
+
+abbrev pub mark_references : List (Option (Option Candidate)) → ℕ → Option ℕ
+mark_references kept k = known_reference (get_or kept k None)
+
+-- what is known of each constraint of which something is
+pub record MarkKeys (C : Circuit) (b : ℕ → ℕ) (m : ℕ → Bool) (kept : List (Option (Option Candidate))) : Type 0 where
+  pub each : (k : ℕ) → 1 ≤ k → k ≤ C.m
+      → (get_or kept k None ≡ None) ⊎ Known C.p C.n (constraint_at C k) b m (mark_keys kept k) (mark_references kept k)
 
 -- constraint k has been looked at: something is known of it, and what is known of the others is as before
-pub record Looked (C : Circuit) (b : ℕ → ℕ) (m : ℕ → Bool) (k key : ℕ) (keys references keys' references' : List ℕ) : Type 0 where
-  pub kept : MarkKeys C b m keys' references'
-  pub here : at keys' k ≡ key
-  pub known : Known C.p C.n (constraint_at C k) b m key (at references' k)
-  pub others : (j : ℕ) → (j ≡ k → ⊥) → (at keys' j ≡ at keys j) × (at references' j ≡ at references j)
-  pub keys_sized : length keys' ≡ length keys
-  pub references_sized : length references' ≡ length references
+pub record Looked (C : Circuit) (b : ℕ → ℕ) (m : ℕ → Bool) (k : ℕ) (found : Option Candidate) (before later : List (Option (Option Candidate)))
+    : Type 0 where
+  pub known : Known C.p C.n (constraint_at C k) b m (found_key found) (found_reference found)
+  pub here : get_or later k None ≡ Some found
+  pub others : (j : ℕ) → (j ≡ k → ⊥) → get_or later j None ≡ get_or before j None
+  pub sized : length later ≡ length before
 
--- constraints 1 to k have been looked at: the key at r is exact, the least, and the first of the least
-pub record Swept (C : Circuit) (b : ℕ → ℕ) (m : ℕ → Bool) (k r : ℕ) (keys references : List ℕ) : Type 0 where
-  pub kept : MarkKeys C b m keys references
-  pub zeros : FirstKey (MarksZero C.n b m) (at keys 0) 0
-  pub least : Least keys k r
-  pub exact : 1 ≤ r → FirstKey (MarksBy C.p C.n (constraint_at C r) b m) (at keys r) (at references r)
+-- constraints 1 to k have been looked at, and x is the key of the zero steps: the key at r is exact, the least, and the first of the least
+pub record Swept (C : Circuit) (b : ℕ → ℕ) (m : ℕ → Bool) (x k r : ℕ) (kept : List (Option (Option Candidate))) : Type 0 where
+  pub known : MarkKeys C b m kept
+  pub zeros : FirstKey (MarksZero C.n b m) x 0
+  pub least : Least (with_zeroth x (mark_keys kept)) k r
+  pub exact : 1 ≤ r → FirstKey (MarksBy C.p C.n (constraint_at C r) b m) (mark_keys kept r) (reference_in (mark_references kept r))

@@ -3,8 +3,17 @@
 use derivation::answer::Verdict;
 use tags::shown::Shown;
 
-// A refusal's number and place, or how many signals are marked, the verdict, what is shown of the sheet and the bytes of the derivation written.
-#[derive(Clone, Copy)]
+// How many signals are marked, the verdict, what is shown of the sheet and the bytes of the derivation written.
+#[derive(Clone, Copy, Debug, PartialEq, Eq)]
+pub(crate) struct Solved {
+    pub count: u32,
+    pub verdict: Verdict,
+    pub shown: Shown,
+    pub bytes: usize,
+}
+
+// A refusal's number and place, or what was solved.
+#[derive(Clone, Copy, Debug, PartialEq, Eq)]
 pub enum SolverAnswer {
     Refused {
         number: u32,

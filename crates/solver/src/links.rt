@@ -1,91 +1,47 @@
-// Links between the entries of rows that hold the same signal: where a signal changes, what was kept of the constraints that name it is
-// forgotten.
+// Links between the entries of rows that hold the same signal, by which what is kept of the constraints that name it is found.
 
-ghost use Rattle.std.specs.Prelude.{◌≡◌, List, ℕ, ◌≤◌, ◌<◌, length, set};
-ghost use Rattle.rules.specs.Rows.{at};
-ghost use Rattle.circuit.specs.Circuit.{Circuit};
-ghost use Rattle.solver.specs.Links.{AllRows, Linkable, Linked, Links, Spread, Walkable, Forgotten, cleared};
+ghost use Rattle.std.specs.Prelude.{◌≤◌, length};
+ghost use Rattle.solver.specs.Links.{Linkable, Linked, SameOwners, Owned};
 
-use rules::rows::FORMS;
+use rules::rows::Entry;
 
-// A 16-bit number as an index.
-fn index(x: u16) -> usize
-    ensures { (result ≡ x) × (result < 65536) }
-{
-    x as usize
+// Of an entry: one more than the place of the last entry before it with the same signal, 0 where there is none; and whose row it is in.
+// Stays: a list linked by places in one array, since the libraries have no heap.
+#[derive(Clone, Copy, Debug, PartialEq, Eq)]
+pub(crate) struct Link {
+    pub before: u16,
+    pub owner: u16,
 }
 
-fn wide(x: u32) -> usize
-    ensures { result ≡ x }
-{
-    x as usize
-}
-
-// The number at a place, 0 past the end.
-fn number_at(list: &[u16], i: usize) -> u16
-    ensures { result ≡ at list.now i }
-{
-    if i < list.len() { list[i] } else { 0 }
-}
-
-// Puts a number at a place, unless that is past the end.
-fn put_at(list: &mut [u16], i: usize, x: u16)
-    ensures { list.new ≡ set list.old i x }
-{
-    if i < list.len() {
-        list[i] = x;
-    }
-}
-
-// Makes 0 what is kept of constraint k; there is no constraint 0.
-fn clear_at(kept: &mut [u64], k: usize)
-    ensures { kept.new ≡ cleared k kept.old }
-{
-    if k == 0 {
-        return;
-    }
-    if k < kept.len() {
-        kept[k] = 0;
-    }
+impl Link {
+    // Of no row: what fills an array of links.
+    pub const NONE: Link = Link {
+        before: 0,
+        owner: 0,
+    };
 }
 
 // Notes that the entries from start to end are those of constraint k.
-pub(crate) fn own(owners: &mut [u16], start: usize, end: usize, k: u16)
-    requires { (start ≤ end) × (end ≤ length owners.old) }
-    ensures { Spread k start end owners.old owners.new }
+pub(crate) fn own(links: &mut [Link], start: usize, end: usize, k: u16)
+    requires { (start ≤ end) × (end ≤ length links.old) }
+    ensures { Owned k start end links.old links.new }
 {
-    let mut i = start;
-    while i < end {
-        owners[i] = k;
-        i = i + 1;
+    for i in start..end {
+        links[i].owner = k;
     }
 }
 
 // Links each of the first `end` entries to the last one before it with the same signal.
-pub(crate) fn link(rows: &[u32], lasts: &mut [u16], befores: &mut [u16], end: usize)
-    requires { Linkable end rows.now lasts.old befores.old }
-    ensures { Linked rows.now end lasts.new befores.new }
+pub(crate) fn link_entries(rows: &[Entry], lasts: &mut [u16], links: &mut [Link], end: usize)
+    requires { Linkable end rows.now lasts.old links.old }
+    ensures linked { Linked rows.now end lasts.new links.new }
+    ensures owned { SameOwners links.old links.new }
 {
-    let mut e: usize = 0;
-    while e < end {
-        let s = wide(rows[2 * e] % FORMS);
-        befores[e] = number_at(lasts, s);
-        e = e + 1;
-        put_at(lasts, s, e as u16);
-    }
-}
-
-// Forgets what is kept of the constraints that name the signal.
-pub(crate) fn forget(lasts: &[u16], befores: &[u16], owners: &[u16], kept: &mut [u64], signal: u32)
-    requires { Walkable lasts.now befores.now owners.now signal }
-    ensures { (C : Circuit) (table ends rows : List ℕ) → AllRows C table ends rows
-        → Links C table ends rows lasts.now befores.now owners.now → C.m < length kept.old
-        → 1 ≤ signal → signal ≤ C.n → Forgotten C signal kept.old kept.new }
-{
-    let mut next = index(lasts[signal as usize]);
-    while 0 < next {
-        let e = next - 1;
-        clear_at(kept, index(owners[e]));
-        next = index(befores[e]);
+    for e in 0..end {
+        let signal = usize::from(rows[e].signal);
+        links[e].before = lasts.get(signal).copied().unwrap_or(0);
+        if signal < lasts.len() {
+            lasts[signal] = e as u16 + 1;
+        }
     }
 }

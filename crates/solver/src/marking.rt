@@ -1,172 +1,191 @@
-// Mark keys: for each constraint the first step by it that marks an unmarked signal, by target, kind and reference. Until the reference of a digits
-// step is sought, its key is loose: only a lower bound, which is cheap and often enough.
+// The search of the marks phase: the lowest unmarked target that some step marks, by the lowest kind, constraint and reference. What is kept of a
+// constraint may be loose: a digits step whose reference isn't sought yet, which is a lower bound, cheap and often enough.
 
-ghost use Rattle.std.specs.Prelude.{◌≡◌, ◌&&◌, ℕ, ◌%◌, ◌≤◌, ◌<◌, eqb, length};
+ghost use Rattle.std.specs.Prelude.{◌≡◌, ◌↔◌, IsTrue, None, ℕ, ◌≤◌, ◌<◌, length};
 ghost use Rattle.circuit.specs.Circuit.{WellFormedConstraint};
 ghost use Rattle.circuit.specs.Reader.{constraint_in};
-ghost use Rattle.circuit.specs.Call.{circuit_of};
-ghost use Rattle.rules.specs.View.{bound_in, mark_in};
-ghost use Rattle.rules.specs.Rows.{entries, Row};
-ghost use Rattle.solver.specs.Links.{Prepared};
-ghost use Rattle.solver.specs.Bounds.{Kept, no_key};
-ghost use Rattle.solver.specs.Marks.{zero_at, First, MarksZero, FirstKey, Known, MarkKeys, Looked, Swept};
+ghost use Rattle.laws.specs.Problem.{given};
+ghost use Rattle.laws.specs.Standing as laws;
+ghost use Rattle.laws.specs.Solver.{first_adding};
+ghost use Rattle.rules.specs.View.{bound_in, mark_in, view_of};
+ghost use Rattle.rules.specs.Rows.{Row};
+ghost use Rattle.rules.specs.Promise.{kind_of};
+ghost use Rattle.solver.specs.Bounds.{Kept, key_in};
+ghost use Rattle.solver.specs.Marks.{zero_at, First, mark_key, found_key, found_reference, ZeroStep, Known, MarkKeys, Looked};
+ghost use Rattle.solver.specs.Choice.{choice_of};
+ghost use Rattle.solver.specs.Table.{circuit_in, sizes_in};
 
-use crate::keys::{NO_KEY, key_of};
+use crate::keys::{Choice, Key, Known};
 use crate::search::product_target;
-use circuit::offsets::part_of;
-use circuit::reader::Sizes;
+use crate::table::Table;
 use rules::constraint::is_linear;
 use rules::digits::{first_live, prepare, separates_at};
-use rules::rows::{FORMS, row_of};
+use rules::rows::Entry;
+use rules::standing::Kind;
 use rules::view::{bound_at, mark_at};
 
-// The lowest unmarked signal with bound 0, 0 where there is none.
-fn first_zero<'a>(bounds: &'a [u32], marks: &'a [bool], n: u32, p: u32) -> u32
+// A step that marks, by a constraint that is known. A digits step without a reference is loose.
+#[derive(Clone, Copy, Debug, PartialEq, Eq)]
+pub(crate) struct Candidate {
+    pub key: Key,
+    pub reference: Option<u32>,
+}
+
+impl Candidate {
+    ghost use Rattle.solver.specs.Bounds.{key_in};
+    ghost use Rattle.solver.specs.Marks.{mark_key};
+    ghost use Rattle.laws.specs.Step as step;
+
+    // One without a reference.
+    fn new(target: u32, kind: Kind) -> Candidate
+        ensures key { key_in result.key ≡ mark_key (kind_of kind) target }
+        ensures loose { result.reference ≡ None }
+    {
+        Candidate {
+            key: mark_key(target, kind),
+            reference: None,
+        }
+    }
+
+    fn is_loose(self) -> bool
+        ensures { IsTrue result ↔ ((kind_of self.key.kind ≡ step.Digits) × (self.reference ≡ None)) }
+    {
+        self.key.kind == Kind::Digits && self.reference.is_none()
+    }
+}
+
+// The key of a step of this kind that marks the target.
+fn mark_key(target: u32, kind: Kind) -> Key
+    ensures { key_in result ≡ mark_key (kind_of kind) target }
+{
+    Key {
+        bound: 0,
+        target,
+        kind,
+    }
+}
+
+// Whether s is an unmarked signal with bound 0.
+#[tactic(auto, unfolding(crate::specs::Marks::zero_at, laws::specs::Rules::zero_met))]
+fn is_zero(bounds: &[u32], marks: &[bool], p: u32, s: u32) -> bool
+    ensures { result ≡ zero_at (bound_in p bounds.now) (mark_in marks.now) s }
+{
+    bound_at(bounds, s as usize, p) == 0 && !mark_at(marks, s as usize)
+}
+
+// The lowest unmarked signal with bound 0.
+fn first_zero(bounds: &[u32], marks: &[bool], n: u32, p: u32) -> Option<u32>
     ensures { First (zero_at (bound_in p bounds.now) (mark_in marks.now)) n result }
 {
-    let mut s: u32 = 0;
-    while s < n {
-        s = s + 1;
-        if bound_at(bounds, s as usize, p) == 0 {
-            if !mark_at(marks, s as usize) {
-                return s;
-            }
+    for s in 1..=n {
+        if is_zero(bounds, marks, p, s) {
+            return Some(s);
         }
     }
-    0
+    None
 }
 
-// The key of the first zero step.
-fn zero_key<'a>(bounds: &'a [u32], marks: &'a [bool], n: u32, p: u32) -> u64
-    ensures { FirstKey (MarksZero n (bound_in p bounds.now) (mark_in marks.now)) result 0 × (result ≤ no_key) }
+// The first zero step, which names no constraint.
+fn zero_step(bounds: &[u32], marks: &[bool], n: u32, p: u32) -> Option<Choice>
+    ensures { ZeroStep n (bound_in p bounds.now) (mark_in marks.now) result }
 {
-    let t = first_zero(bounds, marks, n, p);
-    if t == 0 {
-        return NO_KEY;
-    }
-    key_of(0, t, 3)
+    let target = first_zero(bounds, marks, n, p)?;
+    Some(Choice {
+        key: mark_key(target, Kind::Zero),
+        constraint: 0,
+        reference: 0,
+    })
 }
 
-// The key of a constraint, loose if it is linear: the lowest unmarked signal with a coefficient. Another has at most a product step.
-fn low_key(part: &[u8], row: &[u32], marks: &[bool]) -> u64
+// The step of a constraint, loose if it is linear: at the lowest unmarked signal with a coefficient. Another has at most a product step.
+fn low_step(part: &[u8], row: &[Entry], marks: &[bool]) -> Option<Candidate>
     ensures { (p n : ℕ) (b : ℕ → ℕ) → 0 < p → WellFormedConstraint n p (constraint_in part.now)
         → Row p n (constraint_in part.now) row.now
-        → Known p n (constraint_in part.now) b (mark_in marks.now) result 0 }
+        → Known p n (constraint_in part.now) b (mark_in marks.now) (found_key result) (found_reference result) }
 {
     if is_linear(part) {
-        let t = first_live(row, marks);
-        if t == 0 {
-            return NO_KEY;
-        }
-        return key_of(0, t, 5);
+        let lowest = first_live(row, marks)?;
+        return Some(Candidate::new(lowest, Kind::Digits));
     }
-    let t = product_target(row, marks);
-    if t == 0 {
-        return NO_KEY;
-    }
-    key_of(0, t, 4)
+    let target = product_target(row, marks)?;
+    Some(Candidate::new(target, Kind::Product))
 }
 
-// Whether a key is loose: a digits step without a reference.
-fn is_loose(key: u64, reference: u32) -> bool
-    ensures { result ≡ (eqb reference 0 && eqb (key % 8) 5) }
-{
-    if reference != 0 {
-        return false;
-    }
-    key % 8 == 5
-}
-
-// The key of constraint k, a loose one where nothing is known.
+// What is known of constraint k, a loose step where nothing was.
 fn look_at(
-    circuit: &[u8],
-    table: &[u32],
-    ends: &[u32],
-    rows: &[u32],
+    table: &Table,
     marks: &[bool],
-    keys: &mut [u64],
-    references: &mut [u32],
-    sizes: Sizes,
+    kept: &mut [Known<Candidate>],
     k: u32,
-) -> u64
-    requires { Prepared circuit.now table.now ends.now rows.now sizes × Kept sizes.m k keys.old × (sizes.m < length references.old) }
-    ensures { (b : ℕ → ℕ) → MarkKeys (circuit_of circuit.now) b (mark_in marks.now) keys.old references.old
-        → Looked (circuit_of circuit.now) b (mark_in marks.now) k result keys.old references.old
-        keys.new references.new }
+) -> Option<Candidate>
+    requires { Kept (sizes_in table.now).m k kept.old }
+    ensures { (b : ℕ → ℕ) → MarkKeys (circuit_in table.now) b (mark_in marks.now) kept.old
+        → Looked (circuit_in table.now) b (mark_in marks.now) k result kept.old kept.new }
 {
     let place = k as usize;
-    let known = keys[place];
-    if known != 0 {
+    if let Some(known) = kept[place] {
         return known;
     }
-    let row = row_of(table, ends, rows, k);
-    let key = low_key(part_of(circuit, table, k), row, marks);
-    keys[place] = key;
-    references[place] = 0;
-    key
+    let found = low_step(table.part(k), table.row(k), marks);
+    kept[place] = Some(found);
+    found
 }
 
-// Where a search over the references of a row ends: at once where none can separate its unmarked signals.
-fn search_end(row: &[u32], count: usize) -> usize
-    ensures { (result ≤ entries row.now) × (count < 32 → result ≡ entries row.now) }
+// The step of the first place with the lowest key: that of a constraint, or the zero step. Where a key is loose and below those before, its references
+// are searched, up to the first whose step meets its rule.
+pub(crate) fn lowest_key(
+    table: &Table,
+    bounds: &[u32],
+    marks: &[bool],
+    kept: &mut [Known<Candidate>],
+) -> Option<Choice>
+    requires { MarkKeys (circuit_in table.now) (bound_in (sizes_in table.now).p bounds.now) (mark_in marks.now) kept.old
+        × ((sizes_in table.now).m < length kept.old) }
+    ensures known { MarkKeys (circuit_in table.now) (bound_in (sizes_in table.now).p bounds.now) (mark_in marks.now) kept.new }
+    ensures chosen { (f : ℕ → ℕ) → choice_of result
+        ≡ first_adding laws.marks (given (circuit_in table.now) f) (view_of (sizes_in table.now).p bounds.now marks.now) }
 {
-    if 32 <= count {
-        return 0;
-    }
-    row.len() / 2
-}
-
-// The first place with the lowest key: that of a constraint, 0 for the zero steps. Where a key is loose and below those before, its references are
-// searched, up to the first whose step meets its rule.
-pub(crate) fn lowest_key<'a>(
-    circuit: &[u8],
-    table: &[u32],
-    ends: &[u32],
-    rows: &[u32],
-    bounds: &'a [u32],
-    marks: &'a [bool],
-    keys: &mut [u64],
-    references: &mut [u32],
-    sizes: Sizes,
-) -> u32
-    requires { Prepared circuit.now table.now ends.now rows.now sizes
-        × MarkKeys (circuit_of circuit.now) (bound_in sizes.p bounds.now) (mark_in marks.now) keys.old references.old }
-    ensures { Swept (circuit_of circuit.now) (bound_in sizes.p bounds.now) (mark_in marks.now)
-        (circuit_of circuit.now).m result keys.new references.new }
-{
-    let mut r: u32 = 0;
-    let mut lowest = zero_key(bounds, marks, sizes.n, sizes.p);
-    keys[0] = lowest;
-    let mut k: u32 = 0;
-    'constraints: while k < sizes.m {
-        k = k + 1;
+    let sizes = table.constraints.file.sizes;
+    let mut lowest = zero_step(bounds, marks, sizes.n, sizes.p);
+    'constraints: for passed in 0..sizes.m {
+        let k = passed + 1;
         let place = k as usize;
-        let key = look_at(
-            circuit, table, ends, rows, marks, keys, references, sizes, k,
-        );
-        if key < lowest {
-            if is_loose(key, references[place]) {
-                let row = row_of(table, ends, rows, k);
-                let few = prepare(row, bounds, marks, sizes.p);
-                let end = search_end(row, few.count);
-                let mut i: usize = 1;
-                while i < end {
-                    if separates_at(row, marks, few, sizes.p, i) {
-                        keys[place] = key;
-                        references[place] = row[2 * i] % FORMS;
-                        r = k;
-                        lowest = key;
-                        continue 'constraints;
-                    }
-                    i = i + 1;
-                }
-                keys[place] = NO_KEY;
-                references[place] = 0;
-            } else {
-                r = k;
-                lowest = key;
+        let Some(candidate) = look_at(table, marks, kept, k) else {
+            continue;
+        };
+        let key = candidate.key;
+        if !key.is_below(lowest) {
+            continue;
+        }
+        if !candidate.is_loose() {
+            lowest = Some(Choice {
+                key,
+                constraint: k,
+                reference: candidate.reference.unwrap_or(0),
+            });
+            continue;
+        }
+        let row = table.row(k);
+        let Some(few) = prepare(row, bounds, marks, sizes.p) else {
+            kept[place] = Some(None);
+            continue;
+        };
+        for i in 1..row.len() {
+            if separates_at(row, marks, &few, sizes.p, i) {
+                let reference = u32::from(row[i].signal);
+                kept[place] = Some(Some(Candidate {
+                    key,
+                    reference: Some(reference),
+                }));
+                lowest = Some(Choice {
+                    key,
+                    constraint: k,
+                    reference,
+                });
+                continue 'constraints;
             }
         }
+        kept[place] = Some(None);
     }
-    r
+    lowest
 }

@@ -5,69 +5,56 @@ ghost use Rattle.circuit.specs.Circuit.{Constraint, WellFormedConstraint};
 ghost use Rattle.circuit.specs.Reader.{signals_most, form_in};
 ghost use Rattle.rules.specs.View.{mark_in};
 ghost use Rattle.rules.specs.Rows.{Row};
-ghost use Rattle.solver.specs.Search.{SomeUnmarked, Alone};
+ghost use Rattle.solver.specs.Search.{SomeUnmarked, SomeAlone};
 
 use circuit::bytes::{byte_at, u16_at};
-use rules::rows::FORMS;
+use rules::rows::Entry;
 use rules::view::mark_at;
 
-// The forms of a signal that C alone names.
-const IN_C: u32 = 4;
+// The most signals of a circuit.
+const SIGNALS_MOST: u32 = 256;
 
-// An unmarked signal of the form at the start of the part, 0 where it has none.
-pub(crate) fn unmarked_in(part: &[u8], marks: &[bool]) -> u32
+// The forms of a signal that C alone names.
+const IN_C: u8 = 4;
+
+// An unmarked signal of the form at the start of the part.
+pub(crate) fn unmarked_in(part: &[u8], marks: &[bool]) -> Option<u32>
     ensures { SomeUnmarked (mark_in marks.now) (form_in part.now) result }
 {
-    let mut left = byte_at(part, 0);
-    let mut at: usize = 1;
-    while 0 < left {
-        let signal = u16_at(part, at);
+    for i in 0..byte_at(part, 0) as usize {
+        let signal = u16_at(part, 1 + 6 * i);
         if is_unmarked(marks, signal) {
-            return signal;
+            return Some(signal);
         }
-        at = at + 6;
-        left = left - 1;
     }
-    0
+    None
 }
 
 // Whether a term on this signal names an unmarked signal. Signals above 256 are passed over.
 fn is_unmarked(marks: &[bool], signal: u32) -> bool
     ensures { result ≡ (ltb 0 signal && leb signal signals_most && not (mark_in marks.now signal)) }
 {
-    if signal == 0 {
-        return false;
-    }
-    if 256 < signal {
-        return false;
-    }
-    let at = signal as usize;
-    if at < marks.len() { !marks[at] } else { true }
+    0 < signal && signal <= SIGNALS_MOST && !mark_at(marks, signal as usize)
 }
 
-// The one unmarked signal of a row, if C alone names it: where the constraint isn't linear, the target of its product step. 0 where there is none.
-pub(crate) fn product_target(row: &[u32], marks: &[bool]) -> u32
+// The one unmarked signal of a row, if C alone names it: where the constraint isn't linear, the target of its product step.
+pub(crate) fn product_target(row: &[Entry], marks: &[bool]) -> Option<u32>
     ensures { (p n : ℕ) (K : Constraint) → WellFormedConstraint n p K → Row p n K row.now
-        → Alone n K (mark_in marks.now) result }
+        → SomeAlone n K (mark_in marks.now) result }
 {
-    let count = row.len() / 2;
-    let mut place: usize = 0;
-    let mut next: usize = 1;
-    while next < count {
-        let i = next;
-        next = next + 1;
-        if !mark_at(marks, (row[2 * i] % FORMS) as usize) {
-            if row[2 * i] / FORMS != IN_C {
-                return 0;
-            }
-            if place != 0 {
-                return 0;
-            }
-            place = i;
+    let mut found: Option<u32> = None;
+    for i in 1..row.len() {
+        let entry = row[i];
+        if entry.is_marked(marks) {
+            continue;
         }
+        if entry.forms != IN_C {
+            return None;
+        }
+        if found.is_some() {
+            return None;
+        }
+        found = Some(u32::from(entry.signal));
     }
-    if place == 0 {
-        return 0;
-    }
-    row[2 * place] % FORMS
+    found
 }

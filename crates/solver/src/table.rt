@@ -1,58 +1,154 @@
-// The rows of all constraints, made once per call and linked.
+// The table that both phases work on: the rows of all constraints, made once per call and linked; and how a step is taken with it.
 
-ghost use Rattle.std.specs.Prelude.{◌≡◌};
+ghost use Rattle.std.specs.Prelude.{◌≡◌, ◌≤◌, ◌<◌, ◌+◌, ◌*◌, length};
 ghost use Rattle.circuit.specs.Call.{circuit_of};
-ghost use Rattle.solver.specs.Links.{AllRows, Links, Blank, Made, Unlinked};
+ghost use Rattle.solver.specs.Links.{places, AllRows, Links, Blank, Made, Unlinked, Forgotten};
 
-use crate::links::{link, own};
+use crate::keys::Choice;
+use crate::links::{Link, link_entries, own};
+use circuit::file::Constraints;
 use circuit::reader::Sizes;
-use rules::rows::{make_row, start_of};
+use derivation::step::{Step, part_named};
+use derivation::writer::put_step;
+use rules::rows::{Entry, make_row, row_of, start_of};
+use rules::standing::Standing;
 
-fn wide(x: u32) -> usize
-    ensures { result ≡ x }
-{
-    x as usize
+// A circuit's constraints, their rows and where those end, each signal's last entry, and the links of the entries.
+#[derive(Clone, Copy)]
+pub(crate) struct Table<'a> {
+    pub constraints: &'a Constraints<'a>,
+    pub ends: &'a [u32; 513],
+    pub rows: &'a [Entry],
+    pub lasts: &'a [u16; 257],
+    pub links: &'a [Link],
+    ghost made: { AllRows (circuit_of constraints.now.file.bytes.now) constraints.now.offsets ends.now rows.now },
+    ghost linked: { Links (circuit_of constraints.now.file.bytes.now) (places (length constraints.now.file.bytes.now) constraints.now.file.sizes.m)
+        constraints.now.offsets ends.now rows.now lasts.now links.now },
+}
+
+impl<'a> Table<'a> {
+    ghost use Rattle.rules.specs.Promise.{view};
+    ghost use Rattle.derivation.specs.Steps.{head_size, step_size};
+    ghost use Rattle.derivation.specs.Encoded.{step_bytes, stored};
+    ghost use Rattle.solver.specs.Table.{circuit_in, sizes_in, part_in, row_in};
+    ghost use Rattle.solver.specs.Choice.{step_of, Adds, TakenBy};
+
+    // The part of the circuit bytes that starts at constraint k.
+    pub fn part(&self, k: u32) -> &'a [u8]
+        ensures { result.now ≡ part_in self.now k }
+    {
+        let constraints = self.constraints;
+        constraints.part(k)
+    }
+
+    // The row of constraint k.
+    pub fn row(&self, k: u32) -> &'a [Entry]
+        ensures { result.now ≡ row_in self.now k }
+    {
+        let constraints = self.constraints;
+        let ends = self.ends;
+        let rows = self.rows;
+        row_of(&constraints.offsets, ends, rows, k)
+    }
+
+    // Forgets what is kept of the constraints that name the signal.
+    pub fn forget<T: Copy>(&self, kept: &mut [Option<T>], signal: u32)
+        requires { (1 ≤ signal) × (signal ≤ (circuit_in self.now).n) × ((circuit_in self.now).m < length kept.old) }
+        ensures { Forgotten (circuit_in self.now) signal kept.old kept.new }
+    {
+        let mut next = usize::from(self.lasts[signal as usize]);
+        while 0 < next {
+            let link = self.links[next - 1];
+            let owner = usize::from(link.owner);
+            if owner < kept.len() {
+                kept[owner] = None;
+            }
+            next = usize::from(link.before);
+        }
+    }
+
+    // Writes a step that adds as number `index`, counted from 0, takes it, and forgets what is kept of the constraints that name its target.
+    pub fn take<T: Copy>(
+        &self,
+        standing: Standing,
+        choice: Choice,
+        output: &mut [u8],
+        index: u32,
+        kept: &mut [Option<T>],
+    ) -> Standing
+        requires { Adds (circuit_in self.now) (view (sizes_in self.now).p standing) (step_of choice) × (index ≤ 512)
+            × ((circuit_in self.now).m < length kept.old) }
+        ensures written { output.new ≡ stored output.old (head_size + step_size * index) (step_bytes (step_of choice)) }
+        ensures taken { TakenBy (circuit_in self.now) (view (sizes_in self.now).p standing) (step_of choice) (view (sizes_in self.now).p result) }
+        ensures forgotten { Forgotten (circuit_in self.now) choice.key.target kept.old kept.new }
+    {
+        let key = choice.key;
+        let target = key.target as u16;
+        let constraint = choice.constraint as u16;
+        let reference = choice.reference as u16;
+        let step = Step {
+            kind: key.kind,
+            target,
+            constraint,
+            reference,
+        };
+        put_step(output, index, step);
+        let constraints = self.constraints;
+        let file = constraints.file;
+        let part = part_named(
+            key.kind,
+            file.bytes,
+            &constraints.offsets,
+            choice.constraint,
+        );
+        let row = self.row(choice.constraint);
+        self.forget(kept, key.target);
+        let outcome = standing.step(
+            key.kind,
+            part,
+            row,
+            file.sizes.p,
+            key.target,
+            choice.reference,
+        );
+        match outcome {
+            Some(outcome) => outcome.next,
+            None => standing,
+        }
+    }
 }
 
 // Makes the rows of all constraints, and notes whose entries they hold.
-fn make_rows(
-    circuit: &[u8],
-    table: &[u32],
-    ends: &mut [u32],
-    rows: &mut [u32],
-    owners: &mut [u16],
-    sizes: Sizes,
-)
-    requires { Blank circuit.now table.now sizes ends.old rows.old owners.old }
-    ensures { Made (circuit_of circuit.now) table.now sizes.m ends.new rows.new owners.new }
+fn make_rows(constraints: &Constraints, ends: &mut [u32], rows: &mut [Entry], links: &mut [Link])
+    requires { Blank (length constraints.now.file.bytes.now) constraints.now.file.sizes.m ends.old rows.old links.old }
+    ensures { Made (circuit_of constraints.now.file.bytes.now) constraints.now.offsets constraints.now.file.sizes.m ends.new rows.new links.new }
 {
-    let mut k: u32 = 0;
-    while k < sizes.m {
-        k = k + 1;
-        make_row(circuit, table, ends, rows, sizes, k);
-        let start = start_of(table, k) / 2;
-        let end = wide(ends[k as usize]) / 2;
-        own(owners, start, end, k as u16);
+    for passed in 0..constraints.file.sizes.m {
+        let k = passed + 1;
+        make_row(constraints, ends, rows, k);
+        let start = start_of(&constraints.offsets, k);
+        let end = ends[k as usize] as usize;
+        own(links, start, end, k as u16);
     }
 }
 
 // Makes the rows of all constraints and links their entries.
 pub(crate) fn make_table(
-    circuit: &[u8],
-    table: &[u32],
+    constraints: &Constraints,
     ends: &mut [u32],
-    rows: &mut [u32],
+    rows: &mut [Entry],
     lasts: &mut [u16],
-    befores: &mut [u16],
-    owners: &mut [u16],
-    sizes: Sizes,
+    links: &mut [Link],
 )
-    requires { Blank circuit.now table.now sizes ends.old rows.old owners.old × Unlinked sizes.n rows.old lasts.old befores.old }
-    ensures rows { AllRows (circuit_of circuit.now) table.now ends.new rows.new }
-    ensures links { Links (circuit_of circuit.now) table.now ends.new rows.new lasts.new
-        befores.new owners.new }
+    requires { Blank (length constraints.now.file.bytes.now) constraints.now.file.sizes.m ends.old rows.old links.old
+        × Unlinked constraints.now.file.sizes.n lasts.old }
+    ensures rows { AllRows (circuit_of constraints.now.file.bytes.now) constraints.now.offsets ends.new rows.new }
+    ensures links { Links (circuit_of constraints.now.file.bytes.now)
+        (places (length constraints.now.file.bytes.now) constraints.now.file.sizes.m) constraints.now.offsets ends.new rows.new
+        lasts.new links.new }
 {
-    make_rows(circuit, table, ends, rows, owners, sizes);
-    let end = circuit.len() / 6 + sizes.m as usize + 1;
-    link(rows, lasts, befores, end);
+    make_rows(constraints, ends, rows, links);
+    let file = constraints.file;
+    let end = file.bytes.len() / 6 + file.sizes.m as usize + 1;
+    link_entries(rows, lasts, links, end);
 }

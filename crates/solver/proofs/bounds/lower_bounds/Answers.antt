@@ -1,0 +1,53 @@
+use Rattle.std.proofs.Common.{arith, sym, refl, ◌≡◌}
+use Rattle.rules.specs.View.{view_of}
+use Rattle.solver.specs.Choice.{step_of}
+use Rattle.solver.proofs.InTable.{sized_in}
+use Rattle.solver.proofs.KeySearch.{no_keys}
+use Rattle.solver.proofs.BoundsTurn as laws
+use Rattle.solver.proofs.bounds.lower_bounds.Goals as goal
+
+pub loop-count-init : goal.loop-count-init
+loop-count-init c =
+    record {
+      sized = refl;
+      turning = laws.turning_start _ _ _ _ (no_keys _ _ 513 (λ s. omega (arith, c.requires s, (sized_in c.args.table.now).is_p)));
+    }
+
+pub least_key-requires : goal.least_key-requires
+unfolding view_of
+least_key-requires c =
+    let Z = sized_in c.args.table.now in
+    let inv = c.loop-count.invariant in
+    (inv.turning.keyed, omega (arith, inv.sized, Z.is_m, Z.formed.m_most))
+
+pub returns-in_default : goal.returns-in_default
+unfolding view_of
+returns-in_default c = laws.turning_none c.loop-count.invariant.turning (λ f. sym (c.in_default.ensures.chosen f _ refl))
+
+pub take-standing-requires : goal.take-standing-requires
+unfolding view_of
+take-standing-requires c =
+    let Z = sized_in c.args.table.now in
+    let inv = c.loop-count.invariant in (
+      laws.lowering_adds inv.turning (step_of c.in-Some.choice) (λ f. sym (c.in-Some.ensures.chosen f _ refl)),
+      omega (arith, Z.is_n, Z.formed.n_most),
+      omega (arith, c.least_key.auto.keys, inv.sized, Z.is_m, Z.formed.m_most),
+    )
+
+pub loop-count-preserved : goal.loop-count-preserved
+unfolding view_of
+loop-count-preserved c =
+    let Z = sized_in c.args.table.now in
+    let inv = c.loop-count.invariant in
+    let taken = c.take-standing.ensures in
+    record {
+      sized = omega (arith, taken.forgotten.sized, c.least_key.auto.keys, inv.sized);
+      turning =
+          laws.turning_next inv.turning (step_of c.in-Some.choice) (λ f. sym (c.in-Some.ensures.chosen f _ refl)) Z.formed taken.taken (omega (arith, Z.is_n))
+          c.in-Some.ensures.known taken.written taken.forgotten;
+    }
+
+pub returns : goal.returns
+returns c =
+    let all : c.loop-count.count ≡ c.args.table.now.constraints.now.file.sizes.n = omega arith in
+    rw all at (laws.turning_all c.loop-count.invariant.turning (omega (arith, (sized_in c.args.table.now).is_n)))
