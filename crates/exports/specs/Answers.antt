@@ -1,6 +1,6 @@
 -- What the exported calls return and write, in numbers (rules 6.1 and 6.4). Lent memory is written on a result that has something to hand over,
 -- else not at all.
-use Rattle.std.specs.Prelude.{ℕ, ◌+◌, ◌*◌, ◌%◌, List, [], ◌∷◌}
+use Rattle.std.specs.Prelude.{ℕ, ◌+◌, ◌*◌, ◌%◌, List, [], ◌∷◌, ◌++◌}
 use Rattle.std.proofs.Math.Option.{none, some}
 use Rattle.circuit.specs.Answer.{Answer, refused, given}
 use Rattle.circuit.specs.declared.reader.Sizes.{Sizes}
@@ -28,6 +28,10 @@ abbrev pub verdict_number : Verdict → ℕ
 verdict_number Fixed = 1
 verdict_number Open = 0
 
+-- how many signals are marked, the verdict, how many tags are shown, and the first that isn't
+abbrev pub judgement_numbers : Judgement → List ℕ
+judgement_numbers x = x.count ∷ verdict_number x.verdict ∷ x.shown.count ∷ x.shown.missed ∷ []
+
 -- reading a circuit: p, n, i, o and m
 abbrev pub read_returned : Answer Sizes → ℕ
 read_returned r = returned_by r (λ z. 0)
@@ -39,23 +43,19 @@ read_answer r before = left_by r (λ z. z.p ∷ z.n ∷ z.i ∷ z.o ∷ z.m ∷ 
 abbrev pub pair_returned : Answer ℕ → ℕ
 pair_returned r = returned_by r (λ q. q)
 
--- judging a derivation: how many signals are marked, the verdict, how many tags are shown, and the first that isn't
+-- judging a derivation: its judgement
 abbrev pub mark_returned : Answer Judgement → ℕ
 mark_returned r = returned_by r (λ x. 0)
 
 abbrev pub mark_answer : Answer Judgement → List ℕ → List ℕ
-mark_answer r before = left_by r (λ x. x.count ∷ verdict_number x.verdict ∷ x.shown.count ∷ x.shown.missed ∷ []) before
+mark_answer r before = left_by r judgement_numbers before
 
 -- solving a circuit: the same, and the bytes of the derivation
 abbrev pub solve_returned : Answer Solved → ℕ
 solve_returned r = returned_by r (λ x. 0)
 
 abbrev pub solve_answer : Answer Solved → List ℕ → List ℕ
-solve_answer r before =
-    left_by r
-    (λ x.
-    x.judgement.count ∷ verdict_number x.judgement.verdict ∷ x.judgement.shown.count ∷ x.judgement.shown.missed ∷ x.bytes ∷ [])
-    before
+solve_answer r before = left_by r (λ x. judgement_numbers x.judgement ++ (x.bytes ∷ [])) before
 
 -- renewing a derivation: its new length is returned, and there is no array
 abbrev pub renew_returned : Answer ℕ → ℕ

@@ -1,5 +1,6 @@
 // The seven public calls for callers in other languages, which exports_c hands to C. The returned value holds a refusal's number and place, or q, or a length,
 // or whether a run was written; lent memory is written only on a result that has something to hand over.
+// Stays: the parameters and numbers of the calls, 0 for none among them, are those of the C interface.
 
 #![tactic(auto)]
 
@@ -12,10 +13,11 @@ ghost use Rattle.renewal.specs.Call.{renewal_call, renewal_output};
 ghost use Rattle.runs.specs.Answer.{paper_of};
 ghost use Rattle.runs.specs.Call.{first_call, next_call, left_by};
 ghost use Rattle.solver.specs.Call.{solver_call, solver_output};
-ghost use Rattle.exports.specs.Answers.{read_returned, read_answer, pair_returned, verdict_number, mark_returned, mark_answer, solve_returned, solve_answer};
+ghost use Rattle.tags.specs.Answer.{shown_in};
+ghost use Rattle.exports.specs.Answers.{read_returned, read_answer, pair_returned, judgement_numbers, mark_returned, mark_answer, solve_returned, solve_answer};
 ghost use Rattle.exports.specs.Answers.{renew_returned, run_returned, returned as returned_value};
 
-use circuit::reader::{CircuitAnswer, check_circuit};
+use circuit::reader::{CircuitAnswer, Sizes, check_circuit};
 use derivation::answer::{DerivationAnswer, Verdict};
 use derivation::call::check_derivation;
 use pair::{PairAnswer, check_pair};
@@ -25,12 +27,16 @@ use runs::answer::RunAnswer;
 use runs::call::{first_run, next_run};
 use solver::answer::SolverAnswer;
 use solver::call::solve;
+use tags::shown::Shown;
+
+// What one of the returned value's halves holds.
+const HALF: u64 = 1 << 32;
 
 // The returned value: the number in the high half, in the low half the place, q, a length, or 1 for a run.
 fn returned(number: u32, low: usize) -> u64
     ensures { result ≡ returned_value number low }
 {
-    number as u64 * 4294967296 + low as u64 % 4294967296
+    u64::from(number) * HALF + low as u64 % HALF
 }
 
 // Reads a circuit. `answer`: p, n, i, o and m.
@@ -38,11 +44,16 @@ pub fn yolqushek_read(circuit: &[u8], answer: &mut [u64; 5]) -> u64
     ensures returned { result ≡ read_returned (circuit_call circuit.now) }
     ensures answered { answer.new ≡ read_answer (circuit_call circuit.now) answer.old }
 {
-    let result = check_circuit(circuit);
-    match result {
+    match check_circuit(circuit) {
         CircuitAnswer::Refused { number, place } => returned(number, place),
-        CircuitAnswer::Sizes { p, n, i, o, m } => {
-            *answer = [p as u64, n as u64, i as u64, o as u64, m as u64];
+        CircuitAnswer::Sizes(Sizes { p, n, i, o, m }) => {
+            *answer = [
+                u64::from(p),
+                u64::from(n),
+                u64::from(i),
+                u64::from(o),
+                u64::from(m),
+            ];
             returned(0, 0)
         }
     }
@@ -52,20 +63,23 @@ pub fn yolqushek_read(circuit: &[u8], answer: &mut [u64; 5]) -> u64
 pub fn yolqushek_pair(circuit: &[u8], sheet: &[u8], pair: &[u8]) -> u64
     ensures { result ≡ pair_returned (pair_call circuit.now sheet.now pair.now) }
 {
-    let result = check_pair(circuit, sheet, pair);
-    match result {
+    match check_pair(circuit, sheet, pair) {
         PairAnswer::Refused { number, place } => returned(number, place),
         PairAnswer::Accepted { q } => returned(0, q as usize),
     }
 }
 
-fn number_of(verdict: Verdict) -> u64
-    ensures { result ≡ verdict_number (verdict_in verdict) }
+// How many signals are marked, 1 for fixed and 0 for open, how many tags are shown, and the first that isn't, 0 where all are.
+fn judgement(count: u32, verdict: Verdict, shown: Shown) -> [u64; 4]
+    ensures { result ≡ judgement_numbers
+        (record { count = count; verdict = verdict_in verdict; shown = shown_in shown }) }
 {
-    match verdict {
-        Verdict::Fixed => 1,
-        Verdict::Open => 0,
-    }
+    [
+        u64::from(count),
+        u64::from(verdict == Verdict::Fixed),
+        u64::from(shown.count),
+        u64::from(shown.missed.unwrap_or(0)),
+    ]
 }
 
 // Judges a derivation with a sheet. `answer`: how many signals are marked, 1 for fixed and 0 for open, how many tags are shown, and the first that isn't.
@@ -84,20 +98,14 @@ pub fn yolqushek_mark(
     ensures written { marks.new
         ≡ derivation_marks circuit.now sheet.now derivation.now marks.old }
 {
-    let result = check_derivation(circuit, sheet, derivation, marks);
-    match result {
+    match check_derivation(circuit, sheet, derivation, marks) {
         DerivationAnswer::Refused { number, place } => returned(number, place),
         DerivationAnswer::Accepted {
             count,
             verdict,
             shown,
         } => {
-            *answer = [
-                count as u64,
-                number_of(verdict),
-                shown.count as u64,
-                shown.missed as u64,
-            ];
+            *answer = judgement(count, verdict, shown);
             returned(0, 0)
         }
     }
@@ -115,8 +123,7 @@ pub fn yolqushek_solve(
         ≡ solve_answer (solver_call circuit.now sheet.now (length output.old)) answer.old }
     ensures written { output.new ≡ solver_output circuit.now sheet.now output.old }
 {
-    let result = solve(circuit, sheet, output);
-    match result {
+    match solve(circuit, sheet, output) {
         SolverAnswer::Refused { number, place } => returned(number, place),
         SolverAnswer::Solved {
             count,
@@ -124,13 +131,8 @@ pub fn yolqushek_solve(
             shown,
             bytes,
         } => {
-            *answer = [
-                count as u64,
-                number_of(verdict),
-                shown.count as u64,
-                shown.missed as u64,
-                bytes as u64,
-            ];
+            let [count, verdict, shown, missed] = judgement(count, verdict, shown);
+            *answer = [count, verdict, shown, missed, bytes as u64];
             returned(0, 0)
         }
     }
@@ -143,18 +145,17 @@ pub fn yolqushek_renew(circuit: &[u8], sheet: &[u8], derivation: &[u8], output: 
     ensures written { output.new
         ≡ renewal_output circuit.now sheet.now derivation.now output.old }
 {
-    let result = renew(circuit, sheet, derivation, output);
-    match result {
+    match renew(circuit, sheet, derivation, output) {
         RenewalAnswer::Refused { number, place } => returned(number, place),
         RenewalAnswer::Renewed { bytes } => returned(0, bytes),
     }
 }
 
 // Both calls that list runs answer alike, whatever is left in the buffer.
-fn returned_run(res: RunAnswer) -> u64
-    ensures { (left : List ℕ) → result ≡ run_returned (paper_of res left) }
+fn returned_run(answer: RunAnswer) -> u64
+    ensures { (left : List ℕ) → result ≡ run_returned (paper_of answer left) }
 {
-    match res {
+    match answer {
         RunAnswer::Refused { number, place } => returned(number, place),
         RunAnswer::Written => returned(0, 1),
         RunAnswer::NoMore => returned(0, 0),
@@ -166,8 +167,7 @@ pub fn yolqushek_first_run(circuit: &[u8], answer: &mut [u32]) -> u64
     ensures returned { result ≡ run_returned (first_call circuit.now (length answer.old)) }
     ensures written { answer.new ≡ left_by (first_call circuit.now (length answer.old)) answer.old }
 {
-    let result = first_run(circuit, answer);
-    returned_run(result)
+    returned_run(first_run(circuit, answer))
 }
 
 // The same of the satisfying runs that the one in `given` comes before.
@@ -176,6 +176,5 @@ pub fn yolqushek_next_run(circuit: &[u8], given: &[u32], answer: &mut [u32]) -> 
     ensures written { answer.new
         ≡ left_by (next_call circuit.now given.now (length answer.old)) answer.old }
 {
-    let result = next_run(circuit, given, answer);
-    returned_run(result)
+    returned_run(next_run(circuit, given, answer))
 }

@@ -1,5 +1,6 @@
 // The calls of `exports` as C functions, whose header is bindings/yolqushek.h. A slice passes as a pointer and a length, a lent array as a pointer. Each call
 // does what its namesake in `exports` does, and promises the same.
+// Stays: the parameters, the numbers and the one-line bodies are what the C interface is.
 
 #![tactic(auto)]
 
