@@ -1,112 +1,162 @@
-// A record of the vectors' file: a call's kind, its arguments, and the answer that it must get, as places in the file.
+// A record of the vectors' file: a call's kind, its arguments, and the answer that it must get.
 
-ghost use Rattle.std.specs.Prelude.{◌+◌, ◌≤◌, length};
-
-use circuit::bytes::{byte_at, u32_at};
+use std::fmt;
+use std::fmt::{Display, Formatter};
 
 // In place of a length: the bytes are those of the record before.
 const SAME: u32 = 0xffff_ffff;
 
-// Bytes of the file.
-#[derive(Clone, Copy)]
-pub struct Part {
-    pub at: usize,
-    pub size: usize,
+// The file's mark and version, before the count of its records.
+const HEADER: usize = 5;
+
+// The kinds of calls, 1 to 5 in the file.
+#[derive(Clone, Copy, Debug, PartialEq, Eq, PartialOrd, Ord)]
+pub enum Kind {
+    Read,
+    Derivation,
+    Pair,
+    Solve,
+    Renew,
 }
 
-#[derive(Clone, Copy)]
-pub struct Record {
-    pub kind: u32,
-    pub circuit: Part,
-    pub sheet: Part,
-    pub hand_in: Part,
+impl Kind {
+    pub const ALL: [Kind; 5] = [
+        Kind::Read,
+        Kind::Derivation,
+        Kind::Pair,
+        Kind::Solve,
+        Kind::Renew,
+    ];
+}
+
+impl TryFrom<u8> for Kind {
+    type Error = Unreadable;
+
+    fn try_from(number: u8) -> Result<Kind, Unreadable> {
+        match number {
+            1 => Ok(Kind::Read),
+            2 => Ok(Kind::Derivation),
+            3 => Ok(Kind::Pair),
+            4 => Ok(Kind::Solve),
+            5 => Ok(Kind::Renew),
+            _ => Err(Unreadable::Kind),
+        }
+    }
+}
+
+impl Display for Kind {
+    fn fmt<W: fmt::Write>(&self, f: &mut Formatter<W>) -> fmt::Result {
+        f.write_str(match self {
+            Kind::Read => "read",
+            Kind::Derivation => "derivation",
+            Kind::Pair => "pair",
+            Kind::Solve => "solve",
+            Kind::Renew => "renew",
+        })
+    }
+}
+
+// Why there is no record: its kind is none, or the file ends within it.
+#[derive(Clone, Copy, Debug)]
+pub enum Unreadable {
+    Kind,
+    End,
+}
+
+#[derive(Clone, Copy, Debug)]
+pub struct Refusal {
+    pub number: u16,
+    pub place: u32,
+}
+
+// The length of the lent buffer, what the call must answer, and the bytes that it must write at the buffer's start.
+#[derive(Clone, Copy, Debug)]
+pub struct Record<'a> {
+    pub kind: Kind,
+    pub circuit: &'a [u8],
+    pub sheet: &'a [u8],
+    pub hand_in: &'a [u8],
     pub lent: usize,
-    pub answer_at: usize,
-    pub end: usize,
+    pub answer: Result<[u32; 5], Refusal>,
+    pub written: &'a [u8],
 }
 
-// What comes before the first record: the file's mark, version and count.
-pub(crate) fn header() -> Record {
-    let nothing = Part { at: 0, size: 0 };
-    Record {
-        kind: 0,
-        circuit: nothing,
-        sheet: nothing,
-        hand_in: nothing,
-        lent: 0,
-        answer_at: 0,
-        end: 9,
-    }
+// What is left of a file, how many records are to come, and the circuit and the hand-in of the one before.
+#[derive(Drop)]
+pub struct Records<'a> {
+    rest: &'a [u8],
+    left: u32,
+    circuit: &'a [u8],
+    hand_in: &'a [u8],
 }
 
-// The record at an offset. Its circuit and its hand-in may be those of the record before.
-pub(crate) fn read_record(file: &[u8], at: usize, last: Record) -> Record
-    requires { at ≤ length file.now }
-{
-    let kind = byte_at(file, at);
-    let stated = u32_at(file, at + 1);
-    let hand_in = last.hand_in;
-    if stated == SAME {
-        let circuit = last.circuit;
-        return after_circuit(file, kind, circuit, at + 5, hand_in);
+impl<'a> Records<'a> {
+    pub(crate) fn of(file: &'a [u8]) -> Records<'a> {
+        let mut records = Records {
+            rest: file,
+            left: 0,
+            circuit: &[],
+            hand_in: &[],
+        };
+        records.left = records.count().unwrap_or(0);
+        records
     }
-    let size = stated as usize;
-    let circuit = Part { at: at + 5, size };
-    after_circuit(file, kind, circuit, at + 5 + size, hand_in)
-}
 
-// The rest of a record whose sheet's length stands at an offset; `last` is the hand-in of the record before.
-fn after_circuit(file: &[u8], kind: u32, circuit: Part, at: usize, last: Part) -> Record
-    requires { at ≤ length file.now + 4294967300 }
-{
-    let sheet_size = u32_at(file, at) as usize;
-    let sheet = Part {
-        at: at + 4,
-        size: sheet_size,
-    };
-    let next = at + 4 + sheet_size;
-    let stated = u32_at(file, next);
-    if stated == SAME {
-        return after_hand_in(file, kind, circuit, sheet, last, next + 4);
+    // Reads the header.
+    fn count(&mut self) -> Option<u32> {
+        self.take(HEADER)?;
+        self.number()
     }
-    let size = stated as usize;
-    let hand_in = Part { at: next + 4, size };
-    after_hand_in(file, kind, circuit, sheet, hand_in, next + 4 + size)
-}
 
-// The rest of a record whose buffer's length stands at an offset.
-fn after_hand_in(
-    file: &[u8],
-    kind: u32,
-    circuit: Part,
-    sheet: Part,
-    hand_in: Part,
-    at: usize,
-) -> Record
-    requires { at ≤ length file.now + 12884901920 }
-{
-    let lent = u32_at(file, at) as usize;
-    let written = u32_at(file, at + 30) as usize;
-    Record {
-        kind,
-        circuit,
-        sheet,
-        hand_in,
-        lent,
-        answer_at: at + 4,
-        end: at + 34 + written,
+    // So many bytes, if the file has them.
+    fn take(&mut self, length: usize) -> Option<&'a [u8]> {
+        let (taken, rest) = self.rest.split_at_checked(length)?;
+        self.rest = rest;
+        Some(taken)
     }
-}
 
-// The bytes of a part, none where it isn't inside the file.
-pub(crate) fn bytes_of(file: &[u8], part: Part) -> &[u8] {
-    let at = part.at;
-    let size = part.size;
-    if file.len() < at {
-        return &file[..0];
+    fn byte(&mut self) -> Option<u8> {
+        let (byte, rest) = self.rest.split_first()?;
+        self.rest = rest;
+        Some(*byte)
     }
-    if file.len() - at < size {
-        return &file[..0];
+
+    fn short(&mut self) -> Option<u16> {
+        let bytes = self.take(2)?;
+        Some(u16::from_le_bytes(bytes.try_into().ok()?))
     }
-    &file[at..at + size]
+
+    fn number(&mut self) -> Option<u32> {
+        let bytes = self.take(4)?;
+        Some(u32::from_le_bytes(bytes.try_into().ok()?))
+    }
+
+    // Bytes after their length.
+    fn bytes(&mut self) -> Option<&'a [u8]> {
+        let length = self.number()?;
+        self.take(length as usize)
+    }
+
+    // The same, or those that the record before has there.
+    fn bytes_or(&mut self, last: &'a [u8]) -> Option<&'a [u8]> {
+        match self.number()? {
+            SAME => Some(last),
+            length => self.take(length as usize),
+        }
+    }
+
+    fn values(&mut self) -> Option<[u32; 5]> {
+        let p = self.number()?;
+        Some([
+            p,
+            self.number()?,
+            self.number()?,
+            self.number()?,
+            self.number()?,
+        ])
+    }
+
+    fn record(&mut self) -> Result<Record<'a>, Unreadable> {
+        todo
+    }
 }

@@ -1,241 +1,169 @@
-// The program's arguments: a command, then its operands. An option, `--NAME VALUE` anywhere after the command, has a field in `Request`, a name in `Awaited`
-// and a case in each of `option`, which knows its word, `taking`, which takes its value, and `is_taken`, which knows the commands that it goes with.
+// The program's arguments: a command, then its operands. An option, `--NAME VALUE`, stands anywhere after the command: it is a line of `OPTIONS`, and each
+// command that takes it asks for its value by that word.
 
-ghost use Rattle.io.specs.Counts.{IsPrefixLen};
-
+use crate::failure::Failure;
+use std::alloc::AllocError;
+use std::collections::BTreeMap;
 use std::env::{Env, FillError};
 
-// Room for a word that is an option.
+// The longest argument that Linux passes, so that every name is told whole.
+const ARGUMENT: usize = 131072;
+
+// The longest word that is an option. A longer one is told as a name when it is opened.
 const WORD: usize = 4096;
 
-// What is asked; `Wrong` where the arguments are no command with its operands.
-#[derive(Clone, Copy)]
+const TAGS: &str = "--tags";
+
+// The options, each followed by its value.
+const OPTIONS: [&str; 1] = [TAGS];
+
+// A file's name as it was given, which need not be UTF-8.
+pub type Name = Vec<u8>;
+
+// What is asked. `tags` names the sheet, where one is given.
+#[derive(Debug, Drop)]
 pub enum Command {
     Help,
-    Solve,
-    Mark,
-    Renew,
-    Runs,
-    Wrong,
+    SolveInput,
+    Solve {
+        circuit: Name,
+        output: Name,
+        tags: Option<Name>,
+    },
+    Mark {
+        circuit: Name,
+        hand_in: Name,
+        tags: Option<Name>,
+    },
+    Renew {
+        circuit: Name,
+        derivation: Name,
+        output: Name,
+        tags: Option<Name>,
+    },
+    Runs {
+        circuit: Name,
+    },
 }
 
-// What the next argument is: an operand, or the value of the option just named.
-#[derive(Clone, Copy)]
-pub enum Awaited {
-    Operand,
-    Tags,
+// What the program's arguments ask.
+pub(crate) fn asked(rt: HostRuntime) -> Result<Command, Failure<'static>> {
+    let mut words = arguments(rt)?.into_iter();
+    let Some(word) = words.next() else {
+        return Ok(Command::SolveInput);
+    };
+    let mut request = Request {
+        word,
+        operands: Vec::new(rt.alloc()),
+        options: BTreeMap::new(rt.alloc()),
+        awaited: None,
+    };
+    for word in words {
+        request.take(word)?;
+    }
+    request.checked().ok_or(Failure::Misuse)
 }
 
-// A command, which arguments are its operands, and how many there are. Then which argument is the value of each option, 0 where the option isn't given.
-#[derive(Clone, Copy)]
-pub struct Request {
-    pub command: Command,
-    pub awaited: Awaited,
-    pub operands: [usize; 4],
-    pub count: usize,
-    pub tags: usize,
+// The arguments after the program's own name.
+fn arguments(rt: HostRuntime) -> Result<Vec<Name>, AllocError> {
+    let mut all = Vec::new(rt.alloc());
+    let mut room = vec![in rt.alloc(); 0; ARGUMENT]?;
+    for k in 1..usize::MAX {
+        let Some(argument) = argument(rt, k, &mut room)? else {
+            break;
+        };
+        all.push(argument)?;
+    }
+    Ok(all)
 }
 
-// The command that a word names.
-fn command_of(word: &[u8]) -> Command {
-    if word == b"--help".as_slice() {
-        return Command::Help;
-    }
-    if word == b"solve".as_slice() {
-        return Command::Solve;
-    }
-    if word == b"mark".as_slice() {
-        return Command::Mark;
-    }
-    if word == b"renew".as_slice() {
-        return Command::Renew;
-    }
-    if word == b"runs".as_slice() {
-        return Command::Runs;
-    }
-    Command::Wrong
-}
-
-// How many operands a command takes.
-fn operands_of(command: Command) -> usize {
-    match command {
-        Command::Help => 0,
-        Command::Solve => 2,
-        Command::Mark => 2,
-        Command::Renew => 3,
-        Command::Runs => 1,
-        Command::Wrong => 0,
-    }
-}
-
-// Whether a command takes a sheet of tags.
-fn takes_tags(command: Command) -> bool {
-    match command {
-        Command::Help => false,
-        Command::Solve => true,
-        Command::Mark => true,
-        Command::Renew => true,
-        Command::Runs => false,
-        Command::Wrong => false,
+// Argument k, if there is one.
+fn argument(rt: HostRuntime, k: usize, room: &mut [u8]) -> Result<Option<Name>, AllocError> {
+    match rt.arg(k, room) {
+        Ok(length) => Ok(Some(room[..length].to_vec(rt.alloc())?)),
+        Err(FillError::TooLong) => Ok(Some(Vec::new(rt.alloc()))),
+        Err(FillError::NotPresent) => Ok(None),
     }
 }
 
 fn is_option(word: &[u8]) -> bool {
-    if word.len() < 2 {
-        return false;
-    }
-    if word[0] != b'-' {
-        return false;
-    }
-    word[1] == b'-'
+    word.len() <= WORD && word.starts_with(b"--")
+}
+
+// The command's word, its operands, the values of the options given, and the option whose value is awaited.
+#[derive(Drop)]
+struct Request {
+    word: Name,
+    operands: Vec<Name>,
+    options: BTreeMap<&'static str, Name>,
+    awaited: Option<&'static str>,
 }
 
 impl Request {
-    // The same with another command, and something else awaited.
-    fn turned(self, command: Command, awaited: Awaited) -> Request {
-        let operands = self.operands;
-        Request {
-            command,
-            awaited,
+    // One argument more. An option stands where no value of another should, and only once. What looks like one and isn't takes the command's place, as `--help`.
+    fn take(&mut self, word: Name) -> Result<(), Failure<'static>> {
+        let option = is_option(&word);
+        match self.awaited.take() {
+            Some(_) if option => return Err(Failure::Misuse),
+            Some(awaited) => {
+                self.options.insert(awaited, word)?;
+            }
+            None if !option => self.operands.push(word)?,
+            None => match OPTIONS
+                .iter()
+                .find(|name| name.as_bytes() == word.as_slice())
+            {
+                Some(name) if self.options.contains_key(name) => return Err(Failure::Misuse),
+                Some(name) => self.awaited = Some(*name),
+                None => self.word = word,
+            },
+        }
+        Ok(())
+    }
+
+    // The command, if it has as many operands as it takes, no option that it doesn't take, and no option without its value.
+    fn checked(self) -> Option<Command> {
+        let Request {
+            word,
             operands,
-            count: self.count,
-            tags: self.tags,
-        }
-    }
-
-    fn asking(self, command: Command) -> Request {
-        let awaited = self.awaited;
-        self.turned(command, awaited)
-    }
-
-    // With an option named, whose value is awaited now. It must not have one already: `given` is 0.
-    fn naming(self, awaited: Awaited, given: usize) -> Request {
-        if given != 0 {
-            return self.asking(Command::Wrong);
-        }
-        let command = self.command;
-        self.turned(command, awaited)
-    }
-
-    // Whether the value of an option is still to come.
-    fn is_open(self) -> bool {
-        let awaited = self.awaited;
-        match awaited {
-            Awaited::Operand => false,
-            _ => true,
-        }
-    }
-
-    // With an option more. It must not stand where the value of another should.
-    fn option(self, word: &[u8]) -> Request {
-        if self.is_open() {
-            return self.asking(Command::Wrong);
-        }
-        if word == b"--help".as_slice() {
-            return self.asking(Command::Help);
-        }
-        if word == b"--tags".as_slice() {
-            return self.naming(Awaited::Tags, self.tags);
-        }
-        self.asking(Command::Wrong)
-    }
-
-    fn operand(self, k: usize) -> Request {
-        let count = self.count;
-        if count >= 4 {
-            return self.asking(Command::Wrong);
-        }
-        let mut next = self;
-        next.operands[count] = k;
-        next.count = count + 1;
-        next
-    }
-
-    // With argument k as what is awaited; an operand is awaited after it.
-    fn taking(self, k: usize) -> Request {
-        let awaited = self.awaited;
-        let command = self.command;
-        let mut next = self.turned(command, Awaited::Operand);
-        match awaited {
-            Awaited::Operand => {
-                return next.operand(k);
+            mut options,
+            awaited,
+        } = self;
+        let tags = options.remove(&TAGS);
+        let command = match word.as_slice() {
+            b"solve" => {
+                let [circuit, output] = <[Name; 2]>::try_from(operands).ok()?;
+                Command::Solve {
+                    circuit,
+                    output,
+                    tags,
+                }
             }
-            Awaited::Tags => {
-                next.tags = k;
+            b"mark" => {
+                let [circuit, hand_in] = <[Name; 2]>::try_from(operands).ok()?;
+                Command::Mark {
+                    circuit,
+                    hand_in,
+                    tags,
+                }
             }
-        }
-        next
+            b"renew" => {
+                let [circuit, derivation, output] = <[Name; 3]>::try_from(operands).ok()?;
+                Command::Renew {
+                    circuit,
+                    derivation,
+                    output,
+                    tags,
+                }
+            }
+            b"runs" if tags.is_none() => {
+                let [circuit] = <[Name; 1]>::try_from(operands).ok()?;
+                Command::Runs { circuit }
+            }
+            b"--help" if tags.is_none() && operands.is_empty() => Command::Help,
+            _ => return None,
+        };
+        let is_whole = awaited.is_none() && options.is_empty();
+        is_whole.then_some(command)
     }
-
-    // With one argument more. A word that doesn't fit the buffer is no option, and told as a name when it is opened.
-    fn with(self, rt: HostRuntime, k: usize) -> Request {
-        let mut word = [0u8; WORD];
-        let n = argument(rt, k, &mut word);
-        if is_option(&word[..n]) {
-            return self.option(&word[..n]);
-        }
-        self.taking(k)
-    }
-
-    // Whether the command takes the options that are given.
-    fn is_taken(self) -> bool {
-        let command = self.command;
-        if self.tags == 0 {
-            return true;
-        }
-        takes_tags(command)
-    }
-
-    // The request, if the command has as many operands as it takes, no option that it doesn't take, and no option without its value.
-    fn checked(self) -> Request {
-        let command = self.command;
-        if self.count != operands_of(command) {
-            return self.asking(Command::Wrong);
-        }
-        if self.is_open() {
-            return self.asking(Command::Wrong);
-        }
-        if !self.is_taken() {
-            return self.asking(Command::Wrong);
-        }
-        self
-    }
-}
-
-// Whether there is an argument k.
-pub(crate) fn is_given(rt: HostRuntime, k: usize) -> bool {
-    match rt.arg(k, &mut []) {
-        Err(FillError::NotPresent) => false,
-        _ => true,
-    }
-}
-
-// Puts argument k at the start of a text and answers its length, 0 where it doesn't fit or isn't given.
-pub(crate) fn argument(rt: HostRuntime, k: usize, text: &mut [u8]) -> usize
-    ensures { IsPrefixLen result text.new }
-{
-    match rt.arg(k, text) {
-        Ok(n) => n,
-        Err(_) => 0,
-    }
-}
-
-// What the program's arguments ask.
-pub(crate) fn asked(rt: HostRuntime) -> Request {
-    let mut word = [0u8; WORD];
-    let n = argument(rt, 1, &mut word);
-    let mut request = Request {
-        command: command_of(&word[..n]),
-        awaited: Awaited::Operand,
-        operands: [0; 4],
-        count: 0,
-        tags: 0,
-    };
-    for k in 2..usize::MAX {
-        if !is_given(rt, k) {
-            break;
-        }
-        request = request.with(rt, k);
-    }
-    request.checked()
 }

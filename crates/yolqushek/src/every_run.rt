@@ -1,80 +1,51 @@
 // Every satisfying run of a circuit: the first-run call, then the next-run call to the end, a line for each run.
 
-ghost use Rattle.std.specs.Prelude.{◌≤◌};
-
-use crate::listing;
-use crate::text::{PAGE, Page, least};
+use crate::failure::Failure;
+use crate::listing::{Refused, Run};
+use crate::text::{Pages, print, told};
 use circuit::bytes::u16_at;
 use runs::answer::RunAnswer;
 use runs::call::{first_run, next_run};
+use std::io;
+use std::io::Write;
+use std::mem::swap;
 
 // Room for a run. A circuit with more signals has too many candidates, even over the prime 3.
 const VALUES: usize = 10;
 
 // A circuit whose runs are listed has no more candidates.
-const CANDIDATES: u64 = 65536;
+const CANDIDATES: u32 = 65536;
 
 // Prints every run and how many there are, or the refusal. The call is lent as many values as the circuit has signals; where that is more than there is room
 // for, it refuses before it looks at the length.
-pub(crate) fn print_runs(rt: HostRuntime, circuit: &[u8]) {
-    let n = least(u16_at(circuit, 9) as usize, VALUES);
-    let mut run = [0u32; VALUES];
-    let first = first_run(circuit, &mut run[..n]);
-    let RunAnswer::Refused { number, place } = first else {
-        let mut text = [0u8; PAGE];
-        run_lines(rt, &mut text, circuit, is_written(first), run, n).write(&mut text);
-        return;
-    };
-    listing::print_refusal(rt, number, place);
-}
-
-fn is_written(answer: RunAnswer) -> bool {
-    match answer {
-        RunAnswer::Written => true,
-        _ => false,
+pub(crate) fn print_runs(rt: HostRuntime, circuit: &[u8]) -> Result<(), Failure<'static>> {
+    let signals = u16_at(circuit, 9) as usize;
+    let mut run = vec![in rt.alloc(); 0; signals.min(VALUES)]?;
+    let first = first_run(circuit, &mut run);
+    match first {
+        RunAnswer::Refused { number, place } => print(rt, Refused { number, place }),
+        RunAnswer::Written | RunAnswer::NoMore => told(print_from(rt, circuit, first, run)),
     }
 }
 
-// The runs from the first on, which stands in n values of `run` if one was written, and their count.
-fn run_lines(
+// The runs from the first on, if one was written, and their count.
+fn print_from(
     rt: HostRuntime,
-    text: &mut [u8],
     circuit: &[u8],
-    found: bool,
-    run: [u32; VALUES],
-    n: usize,
-) -> Page
-    requires { n ≤ 10 }
-{
-    let mut page = Page::empty(rt);
-    let mut written = found;
-    let mut run = run;
-    let mut count: u64 = 0;
-    while count < CANDIDATES {
-        if !written {
-            break;
-        }
-        page = run_line(page, text, &run[..n]);
-        count += 1;
-        let given = run;
-        written = is_written(next_run(circuit, &given[..n], &mut run[..n]));
+    first: RunAnswer,
+    mut run: Vec<u32>,
+) -> io::Result<()> {
+    let mut pages = Pages::new(rt.alloc(), rt.stdout());
+    let mut next = run.clone()?;
+    let mut answer = first;
+    let mut count = 0;
+    for k in 0..CANDIDATES {
+        let RunAnswer::Written = answer else { break };
+        writeln!(pages, "{}", Run(&run))?;
+        answer = next_run(circuit, &run, &mut next);
+        swap(&mut run, &mut next);
+        count = k + 1;
     }
-    page.word(text, b"runs").number(text, count).line(text)
-}
-
-// The values of a run, a space between them.
-fn run_line(page: Page, text: &mut [u8], run: &[u32]) -> Page {
-    let mut page = page;
-    for s in 0..run.len() {
-        page = value(page, text, s, run[s] as u64);
-    }
-    page.line(text)
-}
-
-fn value(page: Page, text: &mut [u8], s: usize, x: u64) -> Page {
-    if s == 0 {
-        page.digits(text, x)
-    } else {
-        page.number(text, x)
-    }
+    writeln!(pages, "runs {count}")?;
+    pages.flush()
 }

@@ -1,175 +1,151 @@
 // What the program prints: each number is a library's answer, or read from the bytes of the derivation that a library wrote.
 
-ghost use Rattle.std.specs.Prelude.{◌<◌};
-
-use crate::text::{PAGE, Page};
 use circuit::bytes::{byte_at, u16_at};
 use circuit::reader::{CircuitAnswer, check_circuit};
 use derivation::answer::Verdict;
-use solver::answer::SolverAnswer;
+use std::fmt;
+use std::fmt::{Display, Formatter};
 use tags::shown::Shown;
 
-pub(crate) fn print_refusal(rt: HostRuntime, refusal: u32, place: usize) {
-    let mut text = [0u8; PAGE];
-    let page = Page::empty(rt)
-        .word(&mut text, b"refused")
-        .number(&mut text, refusal as u64)
-        .number(&mut text, place as u64);
-    page.line(&mut text).write(&mut text);
+// The bytes before the first step of a derivation, and those of a step.
+const HEADER: usize = 7;
+
+const STEP: usize = 7;
+
+// A refusal's number and place.
+#[derive(Clone, Copy)]
+pub struct Refused {
+    pub number: u32,
+    pub place: usize,
 }
 
-pub(crate) fn print_pair(rt: HostRuntime, q: u32) {
-    let mut text = [0u8; PAGE];
-    Page::empty(rt)
-        .word(&mut text, b"pair")
-        .number(&mut text, q as u64)
-        .line(&mut text)
-        .write(&mut text);
+impl Display for Refused {
+    fn fmt<W: fmt::Write>(&self, f: &mut Formatter<W>) -> fmt::Result {
+        writeln!(f, "refused {} {}", self.number, self.place)
+    }
 }
 
-// A derivation's verdict and count, the signals whose byte is 1, and what is shown where a sheet was given.
-pub(crate) fn print_judged(
-    rt: HostRuntime,
-    verdict: Verdict,
-    count: u32,
-    marks: &[u8],
-    shown: Shown,
-    tagged: bool,
-) {
-    let mut text = [0u8; PAGE];
-    let page = verdict_line(Page::empty(rt), &mut text, verdict, count);
-    let page = marks_line(page, &mut text, marks);
-    shown_line(page, &mut text, shown, tagged).write(&mut text);
+// A pair that is accepted: the signal whose values differ.
+#[derive(Clone, Copy)]
+pub struct Pair {
+    pub q: u32,
 }
 
-fn verdict_line(page: Page, text: &mut [u8], verdict: Verdict, count: u32) -> Page {
-    verdict_word(page, text, verdict)
-        .number(text, count as u64)
-        .line(text)
+impl Display for Pair {
+    fn fmt<W: fmt::Write>(&self, f: &mut Formatter<W>) -> fmt::Result {
+        writeln!(f, "pair {}", self.q)
+    }
 }
 
-fn verdict_word(page: Page, text: &mut [u8], verdict: Verdict) -> Page {
+// What a derivation comes to: its verdict, how many signals it marks, and what it shows of the sheet where one was given.
+#[derive(Clone, Copy)]
+pub struct Outcome {
+    pub verdict: Verdict,
+    pub count: u32,
+    pub shown: Option<Shown>,
+}
+
+impl Outcome {
+    // The verdict and the count.
+    fn verdict_line<W: fmt::Write>(&self, f: &mut Formatter<W>) -> fmt::Result {
+        writeln!(f, "{} {}", verdict_word(self.verdict), self.count)
+    }
+
+    // How many tags are shown and which is the first that isn't; nothing where no sheet was given.
+    fn shown_line<W: fmt::Write>(&self, f: &mut Formatter<W>) -> fmt::Result {
+        match self.shown {
+            Some(shown) => writeln!(f, "shown {} {}", shown.count, shown.missed),
+            None => Ok(()),
+        }
+    }
+}
+
+fn verdict_word(verdict: Verdict) -> &'static str {
     match verdict {
-        Verdict::Fixed => page.word(text, b"fixed"),
-        Verdict::Open => page.word(text, b"open"),
+        Verdict::Fixed => "fixed",
+        Verdict::Open => "open",
     }
 }
 
-fn marks_line(page: Page, text: &mut [u8], marks: &[u8]) -> Page {
-    let mut page = page.word(text, b"marks");
-    let mut s = 0;
-    while s < marks.len() {
-        page = mark_number(page, text, marks[s], s as u64 + 1);
-        s += 1;
-    }
-    page.line(text)
+// A derivation that is accepted: what it comes to, and the signals whose byte is 1.
+#[derive(Clone, Copy)]
+pub struct Judged<'a> {
+    pub outcome: Outcome,
+    pub marks: &'a [u8],
 }
 
-// How many tags are shown and which is the first that isn't; nothing where no sheet was given.
-fn shown_line(page: Page, text: &mut [u8], shown: Shown, tagged: bool) -> Page {
-    if !tagged {
-        return page;
-    }
-    page.word(text, b"shown")
-        .number(text, shown.count as u64)
-        .number(text, shown.missed as u64)
-        .line(text)
-}
-
-fn mark_number(page: Page, text: &mut [u8], mark: u8, signal: u64) -> Page {
-    if mark == 1 {
-        page.number(text, signal)
-    } else {
-        page
+impl Display for Judged<'_> {
+    fn fmt<W: fmt::Write>(&self, f: &mut Formatter<W>) -> fmt::Result {
+        self.outcome.verdict_line(f)?;
+        write!(f, "marks")?;
+        for (mark, signal) in self.marks.iter().zip(1u32..) {
+            if *mark == 1 {
+                write!(f, " {signal}")?;
+            }
+        }
+        writeln!(f)?;
+        self.outcome.shown_line(f)
     }
 }
 
-// The listing of what the solver wrote; nothing where it refused.
-pub(crate) fn print_solved(
-    rt: HostRuntime,
-    circuit: &[u8],
-    derivation: &[u8],
-    answer: SolverAnswer,
-    tagged: bool,
-) {
-    let SolverAnswer::Solved {
-        count,
-        verdict,
-        shown,
-        bytes: _,
-    } = answer
-    else {
-        return;
-    };
-    print_listing(rt, circuit, derivation, verdict, count, shown, tagged);
+// A circuit, a derivation for it and what this comes to. The circuit's numbers come first, then the steps.
+#[derive(Clone, Copy)]
+pub struct Listing<'a> {
+    pub circuit: &'a [u8],
+    pub derivation: &'a [u8],
+    pub outcome: Outcome,
 }
 
-// The circuit's numbers, the derivation's steps, verdict and count, and what is shown where a sheet was given.
-pub(crate) fn print_listing(
-    rt: HostRuntime,
-    circuit: &[u8],
-    derivation: &[u8],
-    verdict: Verdict,
-    count: u32,
-    shown: Shown,
-    tagged: bool,
-) {
-    let mut text = [0u8; PAGE];
-    let page = circuit_line(Page::empty(rt), &mut text, circuit);
-    let page = step_lines(page, &mut text, derivation);
-    let page = verdict_line(page, &mut text, verdict, count);
-    shown_line(page, &mut text, shown, tagged).write(&mut text);
-}
-
-fn circuit_line(page: Page, text: &mut [u8], circuit: &[u8]) -> Page {
-    let answer = check_circuit(circuit);
-    let CircuitAnswer::Sizes { p, n, i, o, m } = answer else {
-        return page;
-    };
-    page.word(text, b"circuit")
-        .numbers(text, p, n, i)
-        .number(text, o as u64)
-        .number(text, m as u64)
-        .line(text)
-}
-
-fn step_lines(page: Page, text: &mut [u8], derivation: &[u8]) -> Page {
-    let mut page = page;
-    let steps = u16_at(derivation, 5) as usize;
-    let mut k = 0;
-    while k < steps {
-        page = step_line(page, text, derivation, k);
-        k += 1;
+impl Display for Listing<'_> {
+    fn fmt<W: fmt::Write>(&self, f: &mut Formatter<W>) -> fmt::Result {
+        if let CircuitAnswer::Sizes { p, n, i, o, m } = check_circuit(self.circuit) {
+            writeln!(f, "circuit {p} {n} {i} {o} {m}")?;
+        }
+        let steps = self.derivation.get(HEADER..).unwrap_or(&[]);
+        for (step, k) in steps.chunks_exact(STEP).zip(1u32..) {
+            writeln!(f, "step {k} {}", Step(step))?;
+        }
+        self.outcome.verdict_line(f)?;
+        self.outcome.shown_line(f)
     }
-    page
 }
 
-// Step k, counted from 0, of a derivation's bytes.
-fn step_line(page: Page, text: &mut [u8], derivation: &[u8], k: usize) -> Page
-    requires { k < 65536 }
-{
-    let at = 7 + 7 * k;
-    let page = page.word(text, b"step").number(text, k as u64 + 1);
-    let page = kind_word(page, text, byte_at(derivation, at));
-    fields_line(page, text, derivation, at)
+// A step by its bytes: its kind, target, constraint and reference.
+#[derive(Clone, Copy)]
+struct Step<'a>(&'a [u8]);
+
+impl Display for Step<'_> {
+    fn fmt<W: fmt::Write>(&self, f: &mut Formatter<W>) -> fmt::Result {
+        let kind = kind_word(byte_at(self.0, 0));
+        let target = u16_at(self.0, 1);
+        let constraint = u16_at(self.0, 3);
+        let reference = u16_at(self.0, 5);
+        write!(f, "{kind} {target} {constraint} {reference}")
+    }
 }
 
-// The target, constraint and reference of the step at an offset.
-fn fields_line(page: Page, text: &mut [u8], derivation: &[u8], at: usize) -> Page
-    requires { at < 1000000 }
-{
-    let target = u16_at(derivation, at + 1);
-    let constraint = u16_at(derivation, at + 3);
-    let reference = u16_at(derivation, at + 5);
-    page.numbers(text, target, constraint, reference).line(text)
-}
-
-fn kind_word(page: Page, text: &mut [u8], kind: u32) -> Page {
+fn kind_word(kind: u32) -> &'static str {
     match kind {
-        1 => page.word(text, b" root"),
-        2 => page.word(text, b" sum"),
-        3 => page.word(text, b" zero"),
-        4 => page.word(text, b" product"),
-        _ => page.word(text, b" digits"),
+        1 => "root",
+        2 => "sum",
+        3 => "zero",
+        4 => "product",
+        _ => "digits",
+    }
+}
+
+// The values of a run, a space between them.
+#[derive(Clone, Copy)]
+pub struct Run<'a>(pub &'a [u32]);
+
+impl Display for Run<'_> {
+    fn fmt<W: fmt::Write>(&self, f: &mut Formatter<W>) -> fmt::Result {
+        for (s, value) in self.0.iter().enumerate() {
+            if s != 0 {
+                write!(f, " ")?;
+            }
+            write!(f, "{value}")?;
+        }
+        Ok(())
     }
 }

@@ -6,33 +6,23 @@
 mod arguments;
 mod commands;
 mod every_run;
+mod failure;
 mod files;
 mod listing;
 mod text;
 
-use arguments::Command;
-
 fn main(rt: HostRuntime) {
-    if !arguments::is_given(rt, 1) {
-        commands::solve_input(rt);
-        return;
-    }
-    let request = arguments::asked(rt);
-    let command = request.command;
-    match command {
-        Command::Help => {
-            text::print(rt, USAGE);
-        }
-        Command::Solve => commands::solve_file(rt, request),
-        Command::Mark => commands::take_hand_in(rt, request),
-        Command::Renew => commands::take_hand_in(rt, request),
-        Command::Runs => commands::list_runs(rt, request),
-        Command::Wrong => text::tell(rt, USAGE),
+    let command = match arguments::asked(rt) {
+        Ok(command) => command,
+        Err(failure) => return failure.tell(rt),
+    };
+    if let Err(failure) = commands::run(rt, &command) {
+        failure.tell(rt);
     }
 }
 
-const USAGE: &[u8] =
-    b"usage: yolqushek < CIRCUIT                      solve the circuit and list the derivation
+const USAGE: &str =
+    "usage: yolqushek < CIRCUIT                      solve the circuit and list the derivation
        yolqushek solve CIRCUIT OUT              the same, and write the derivation to OUT
        yolqushek mark CIRCUIT HANDIN            judge a derivation or a pair of runs
        yolqushek renew CIRCUIT DERIVATION OUT   write the derivation without its idle steps to OUT, and list it
