@@ -1,13 +1,15 @@
 // A record of the vectors' file: a call's kind, its arguments, and the answer that it must get.
 
+ghost use Rattle.std.specs.Iterator.{at_most};
+
 use std::fmt;
 use std::fmt::{Display, Formatter};
 
 // In place of a length: the bytes are those of the record before.
 const SAME: u32 = 0xffff_ffff;
 
-// The file's mark and version, before the count of its records.
-const HEADER: usize = 5;
+// The length of the file's mark and version, before the number of its records.
+const MARK: usize = 5;
 
 // The kinds of calls, 1 to 5 in the file.
 #[derive(Clone, Copy, Debug, PartialEq, Eq, PartialOrd, Ord)]
@@ -27,6 +29,15 @@ impl Kind {
         Kind::Solve,
         Kind::Renew,
     ];
+
+    // How many numbers a call hands over on a result. One that hands over none returns one.
+    pub(crate) fn handed_over(self) -> usize {
+        match self {
+            Kind::Derivation => 4,
+            Kind::Read | Kind::Solve => 5,
+            Kind::Pair | Kind::Renew => 0,
+        }
+    }
 }
 
 impl TryFrom<u8> for Kind {
@@ -63,10 +74,11 @@ pub enum Unreadable {
     End,
 }
 
+// What a call must answer: the values that it hands over, or a refusal's number and place.
 #[derive(Clone, Copy, Debug)]
-pub struct Refusal {
-    pub number: u16,
-    pub place: u32,
+pub enum Answer {
+    Values([u32; 5]),
+    Refused { number: u16, place: u32 },
 }
 
 // The length of the lent buffer, what the call must answer, and the bytes that it must write at the buffer's start.
@@ -77,86 +89,125 @@ pub struct Record<'a> {
     pub sheet: &'a [u8],
     pub hand_in: &'a [u8],
     pub lent: usize,
-    pub answer: Result<[u32; 5], Refusal>,
+    pub answer: Answer,
     pub written: &'a [u8],
 }
 
-// What is left of a file, how many records are to come, and the circuit and the hand-in of the one before.
+// What is left of a file, and the circuit and the hand-in of the record before.
 #[derive(Drop)]
-pub struct Records<'a> {
+struct Reader<'a> {
     rest: &'a [u8],
-    left: u32,
     circuit: &'a [u8],
     hand_in: &'a [u8],
 }
 
-impl<'a> Records<'a> {
-    pub(crate) fn of(file: &'a [u8]) -> Records<'a> {
-        let mut records = Records {
-            rest: file,
-            left: 0,
-            circuit: &[],
-            hand_in: &[],
-        };
-        records.left = records.count().unwrap_or(0);
-        records
-    }
-
-    // Reads the header.
-    fn count(&mut self) -> Option<u32> {
-        self.take(HEADER)?;
-        self.number()
-    }
-
+impl<'a> Reader<'a> {
     // So many bytes, if the file has them.
-    fn take(&mut self, length: usize) -> Option<&'a [u8]> {
-        let (taken, rest) = self.rest.split_at_checked(length)?;
+    fn take(&mut self, length: usize) -> Result<&'a [u8], Unreadable> {
+        let (taken, rest) = self.rest.split_at_checked(length).ok_or(Unreadable::End)?;
         self.rest = rest;
-        Some(taken)
+        Ok(taken)
     }
 
-    fn byte(&mut self) -> Option<u8> {
-        let (byte, rest) = self.rest.split_first()?;
-        self.rest = rest;
-        Some(*byte)
+    fn array<const N: usize>(&mut self) -> Result<[u8; N], Unreadable> {
+        self.take(N)?.try_into().map_err(|_| Unreadable::End)
     }
 
-    fn short(&mut self) -> Option<u16> {
-        let bytes = self.take(2)?;
-        Some(u16::from_le_bytes(bytes.try_into().ok()?))
-    }
-
-    fn number(&mut self) -> Option<u32> {
-        let bytes = self.take(4)?;
-        Some(u32::from_le_bytes(bytes.try_into().ok()?))
+    fn number(&mut self) -> Result<u32, Unreadable> {
+        Ok(u32::from_le_bytes(self.array()?))
     }
 
     // Bytes after their length.
-    fn bytes(&mut self) -> Option<&'a [u8]> {
+    fn bytes(&mut self) -> Result<&'a [u8], Unreadable> {
         let length = self.number()?;
         self.take(length as usize)
     }
 
     // The same, or those that the record before has there.
-    fn bytes_or(&mut self, last: &'a [u8]) -> Option<&'a [u8]> {
+    fn bytes_or(&mut self, last: &'a [u8]) -> Result<&'a [u8], Unreadable> {
         match self.number()? {
-            SAME => Some(last),
+            SAME => Ok(last),
             length => self.take(length as usize),
         }
     }
 
-    fn values(&mut self) -> Option<[u32; 5]> {
-        let p = self.number()?;
-        Some([
-            p,
-            self.number()?,
-            self.number()?,
-            self.number()?,
-            self.number()?,
-        ])
+    // The header, which ends in the number of records.
+    fn count(&mut self) -> Result<u32, Unreadable> {
+        self.take(MARK)?;
+        self.number()
     }
 
+    // A refusal's number and place, and five values; where the number is 0 they are the answer.
+    fn answer(&mut self) -> Result<Answer, Unreadable> {
+        let number = u16::from_le_bytes(self.array()?);
+        let place = self.number()?;
+        let mut values = [0; 5];
+        for value in &mut values {
+            *value = self.number()?;
+        }
+        if number == 0 {
+            Ok(Answer::Values(values))
+        } else {
+            Ok(Answer::Refused { number, place })
+        }
+    }
+
+    // The next record, read to its end before its kind is looked at.
     fn record(&mut self) -> Result<Record<'a>, Unreadable> {
-        todo
+        let [kind] = self.array::<1>()?;
+        self.circuit = self.bytes_or(self.circuit)?;
+        let sheet = self.bytes()?;
+        self.hand_in = self.bytes_or(self.hand_in)?;
+        let lent = self.number()? as usize;
+        let answer = self.answer()?;
+        let written = self.bytes()?;
+        Ok(Record {
+            kind: kind.try_into()?,
+            circuit: self.circuit,
+            sheet,
+            hand_in: self.hand_in,
+            lent,
+            answer,
+            written,
+        })
+    }
+}
+
+// The records of a file, of which so many are to come.
+#[derive(Drop)]
+pub struct Records<'a> {
+    reader: Reader<'a>,
+    left: u32,
+}
+
+impl<'a> Records<'a> {
+    // None where the file has no header.
+    pub(crate) fn of(file: &'a [u8]) -> Records<'a> {
+        let mut reader = Reader {
+            rest: file,
+            circuit: &[],
+            hand_in: &[],
+        };
+        let left = reader.count().unwrap_or(0);
+        Records { reader, left }
+    }
+}
+
+// Nothing more comes where the file ends.
+impl<'a> Iterator for Records<'a> {
+    type Item = Result<Record<'a>, Unreadable>;
+
+    ghost remaining = { λ s. at_most s.left };
+
+    fn next(&mut self) -> Option<Result<Record<'a>, Unreadable>> {
+        if self.left == 0 || self.reader.rest.is_empty() {
+            return None;
+        }
+        self.left -= 1;
+        let record = self.reader.record();
+        if let Err(Unreadable::End) = record {
+            self.left = 0;
+        }
+        Some(record)
     }
 }

@@ -1,88 +1,69 @@
 // How many calls of each kind agree with the vectors.
 
-use crate::call::agrees;
-use crate::record::{header, read_record};
-use circuit::bytes::u32_at;
+use crate::record::{Kind, Records};
+use std::alloc::{AllocError, Global};
+use std::collections::BTreeMap;
+use std::fmt;
+use std::fmt::{Display, Formatter};
 
-// Counts by kind, 1 to 5, and the number of the first record that doesn't agree, 0 where all do.
-#[derive(Clone, Copy)]
-pub struct Tally {
-    pub calls: [u32; 6],
-    pub agreeing: [u32; 6],
-    pub first: u32,
+// Room for what any call writes.
+const BUFFER: usize = 32768;
+
+// How many calls there are of a kind, and how many of them agree.
+#[derive(Clone, Copy, Debug, Default)]
+pub struct Count {
+    calls: u32,
+    agreeing: u32,
 }
 
-fn more(x: u32) -> u32 {
-    if x < 1_000_000 { x + 1 } else { x }
+// The counts by kind, and the number of the first record that doesn't agree.
+#[derive(Debug, Drop)]
+pub struct Tally {
+    counts: BTreeMap<Kind, Count>,
+    differing: Option<u32>,
 }
 
 impl Tally {
-    // With one call more; a kind that there isn't counts as one that differs.
-    fn with(self, kind: u32, agrees: bool, number: u32) -> Tally {
-        if 5 < kind {
-            return self.differing(number);
+    // Makes the call of each record. One that can't be read differs.
+    pub(crate) fn of(alloc: Global, file: &[u8]) -> Result<Tally, AllocError> {
+        let mut buffer = vec![in alloc; 0; BUFFER]?;
+        let mut tally = Tally {
+            counts: BTreeMap::new(alloc),
+            differing: None,
+        };
+        for (record, number) in Records::of(file).zip(1u32..) {
+            let agrees = match record {
+                Ok(record) => {
+                    let agrees = record.agrees(&mut buffer);
+                    tally.add(record.kind, agrees)?;
+                    agrees
+                }
+                Err(_) => false,
+            };
+            if !agrees {
+                tally.differing = tally.differing.or(Some(number));
+            }
         }
-        let k = kind as usize;
-        let mut next = self;
-        next.calls[k] = more(next.calls[k]);
-        if !agrees {
-            return next.differing(number);
-        }
-        next.agreeing[k] = more(next.agreeing[k]);
-        next
+        Ok(tally)
     }
 
-    fn differing(mut self, number: u32) -> Tally {
-        if self.first == 0 {
-            self.first = number;
-        }
-        self
+    fn add(&mut self, kind: Kind, agrees: bool) -> Result<(), AllocError> {
+        let count = self.counts.entry(kind)?.or_insert(Count::default());
+        count.calls = count.calls.saturating_add(1);
+        count.agreeing = count.agreeing.saturating_add(u32::from(agrees));
+        Ok(())
     }
 }
 
-// Makes the call of each record.
-pub(crate) fn run(file: &[u8]) -> Tally {
-    let count = u32_at(file, 5);
-    let mut tally = Tally {
-        calls: [0; 6],
-        agreeing: [0; 6],
-        first: 0,
-    };
-    let mut last = header();
-    let mut k: u32 = 0;
-    while k < count {
-        let at = last.end;
-        if file.len() <= at {
-            break;
+impl Display for Tally {
+    fn fmt<W: fmt::Write>(&self, f: &mut Formatter<W>) -> fmt::Result {
+        for kind in Kind::ALL {
+            let Count { calls, agreeing } = self.counts.get(&kind).copied().unwrap_or_default();
+            writeln!(f, "{kind}: {agreeing} of {calls} agree")?;
         }
-        let record = read_record(file, at, last);
-        last = record;
-        let kind = record.kind;
-        k += 1;
-        tally = tally.with(kind, agrees(file, record), k);
+        match self.differing {
+            None => writeln!(f, "all agree"),
+            Some(number) => writeln!(f, "the first that differs: record {number}"),
+        }
     }
-    tally
-}
-
-// The counts of one kind. A failed write is passed over.
-fn line(rt: HostRuntime, name: &str, agreeing: u32, calls: u32) {
-    let _ = println!(rt; "{name}: {agreeing} of {calls} agree");
-}
-
-// The file's name, then the counts.
-pub(crate) fn print(rt: HostRuntime, path: &str, tally: Tally) {
-    let _ = println!(rt; "{path}");
-    let calls = tally.calls;
-    let agreeing = tally.agreeing;
-    line(rt, "read", agreeing[1], calls[1]);
-    line(rt, "derivation", agreeing[2], calls[2]);
-    line(rt, "pair", agreeing[3], calls[3]);
-    line(rt, "solve", agreeing[4], calls[4]);
-    line(rt, "renew", agreeing[5], calls[5]);
-    let first = tally.first;
-    let _ = if first == 0 {
-        println!(rt; "all agree")
-    } else {
-        println!(rt; "the first that differs: record {first}")
-    };
 }

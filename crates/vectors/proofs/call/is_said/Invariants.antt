@@ -1,9 +1,0 @@
--- `vectors::call::is_said`: five places.
-use Rattle.std.proofs.Common.{◌-◌, ◌≤◌}
-use Rattle.vectors.proofs.call.is_said.Given as goal
-
-abbrev pub invariant-loop-j : goal.invariant-loop-j
-invariant-loop-j l = l.j ≤ 5
-
-abbrev pub decreases-loop-j : goal.decreases-loop-j
-decreases-loop-j l = 5 - l.j

@@ -1,6 +1,0 @@
--- `vectors::read_full`: what is done stays within the buffer.
-use Rattle.std.proofs.Common.{◌≤◌, length}
-use Rattle.vectors.proofs.read_full.Given as goal
-
-abbrev pub invariant-loop : goal.invariant-loop
-invariant-loop g l = l.done ≤ length l.buffer
