@@ -1,6 +1,6 @@
 // One call of a record, and whether its answer and its buffer are what the record says.
 
-use crate::record::{Answer, Kind, Record};
+use crate::record::{Kind, Record, Refusal};
 use std::array;
 
 // What buffers and lent numbers are filled with before a call.
@@ -57,11 +57,11 @@ impl Record<'_> {
     // What the call must return and hand over: a refusal's number and place, and nothing; or the values. Of a pair and a renewal the only one is returned.
     fn told(&self) -> Told {
         match self.answer {
-            Answer::Refused { number, place } => Told {
-                returned: (u64::from(number) << 32) + u64::from(place),
+            Err(Refusal { number, place }) => Told {
+                returned: u64::from(number) << 32 | u64::from(place),
                 numbers: [UNTOUCHED; 5],
             },
-            Answer::Values(values) => {
+            Ok(values) => {
                 let count = self.kind.handed_over();
                 let number = |j: usize| if j < count {
                     u64::from(values[j])

@@ -68,28 +68,28 @@ impl Display for Kind {
 }
 
 // Why there is no record: its kind is none, or the file ends within it.
-#[derive(Clone, Copy, Debug)]
+#[derive(Clone, Copy, Debug, PartialEq, Eq)]
 pub enum Unreadable {
     Kind,
     End,
 }
 
-// What a call must answer: the values that it hands over, or a refusal's number and place.
-#[derive(Clone, Copy, Debug)]
-pub enum Answer {
-    Values([u32; 5]),
-    Refused { number: u16, place: u32 },
+#[derive(Clone, Copy, Debug, PartialEq, Eq)]
+pub struct Refusal {
+    pub number: u16,
+    pub place: u32,
 }
 
-// The length of the lent buffer, what the call must answer, and the bytes that it must write at the buffer's start.
-#[derive(Clone, Copy, Debug)]
+// `lent` is the length of the lent buffer, `answer` the values that the call must hand over, or its refusal, and `written` what it must write at the buffer's
+// start.
+#[derive(Clone, Copy, Debug, PartialEq, Eq)]
 pub struct Record<'a> {
     pub kind: Kind,
     pub circuit: &'a [u8],
     pub sheet: &'a [u8],
     pub hand_in: &'a [u8],
     pub lent: usize,
-    pub answer: Answer,
+    pub answer: Result<[u32; 5], Refusal>,
     pub written: &'a [u8],
 }
 
@@ -138,7 +138,7 @@ impl<'a> Reader<'a> {
     }
 
     // A refusal's number and place, and five values; where the number is 0 they are the answer.
-    fn answer(&mut self) -> Result<Answer, Unreadable> {
+    fn answer(&mut self) -> Result<Result<[u32; 5], Refusal>, Unreadable> {
         let number = u16::from_le_bytes(self.array()?);
         let place = self.number()?;
         let mut values = [0; 5];
@@ -146,9 +146,9 @@ impl<'a> Reader<'a> {
             *value = self.number()?;
         }
         if number == 0 {
-            Ok(Answer::Values(values))
+            Ok(Ok(values))
         } else {
-            Ok(Answer::Refused { number, place })
+            Ok(Err(Refusal { number, place }))
         }
     }
 

@@ -10,7 +10,7 @@ use std::fmt::{Display, Formatter};
 const BUFFER: usize = 32768;
 
 // How many calls there are of a kind, and how many of them agree.
-#[derive(Clone, Copy, Debug, Default)]
+#[derive(Clone, Copy, Debug, Default, PartialEq, Eq)]
 pub struct Count {
     calls: u32,
     agreeing: u32,

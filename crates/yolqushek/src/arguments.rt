@@ -100,7 +100,8 @@ struct Request {
 }
 
 impl Request {
-    // One argument more. An option stands where no value of another should, and only once. What looks like one and isn't takes the command's place, as `--help`.
+    // One argument more. An option stands once, and not where the value of another should. What looks like one and isn't takes the command's place: so does
+    // `--help`.
     fn take(&mut self, word: Name) -> Result<(), Failure<'static>> {
         let option = is_option(&word);
         match self.awaited.take() {

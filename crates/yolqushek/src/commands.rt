@@ -1,6 +1,6 @@
 // The program's commands: each reads its operands and what its options name, calls the libraries and prints the answer.
 
-use crate::arguments::{Command, Name};
+use crate::arguments::Command;
 use crate::failure::Failure;
 use crate::listing::{Judged, Listing, Outcome, Pair, Refused};
 use crate::text::print;
@@ -40,18 +40,18 @@ pub(crate) fn run(rt: HostRuntime, command: &Command) -> Result<(), Failure<'_>>
             circuit,
             output,
             tags,
-        } => solve(rt, circuit, output, tags),
+        } => solve(rt, circuit, output, tags.as_deref()),
         Command::Mark {
             circuit,
             hand_in,
             tags,
-        } => mark(rt, circuit, hand_in, tags),
+        } => mark(rt, circuit, hand_in, tags.as_deref()),
         Command::Renew {
             circuit,
             derivation,
             output,
             tags,
-        } => renew(rt, circuit, derivation, output, tags),
+        } => renew(rt, circuit, derivation, output, tags.as_deref()),
         Command::Runs { circuit } => list_runs(rt, circuit),
     }
 }
@@ -69,6 +69,7 @@ fn solve_input(rt: HostRuntime) -> Result<(), Failure<'static>> {
     };
     let mut derivation = vec![in rt.alloc(); 0; SOLVED]?;
     let answer = solver::call::solve(&given.circuit, given.sheet(), &mut derivation);
+    // Stays: the paper's form, let .. else takes the answer apart (docs/DECISIONS.md, "Forms").
     let SolverAnswer::Refused { number, place } = answer else {
         return given.take_answer(rt, answer, derivation, None);
     };
@@ -78,9 +79,9 @@ fn solve_input(rt: HostRuntime) -> Result<(), Failure<'static>> {
 // solve CIRCUIT OUT: the same for a file, and the derivation into another, which is not touched where the circuit or the sheet is refused.
 fn solve<'a>(
     rt: HostRuntime,
-    circuit: &'a Name,
-    output: &'a Name,
-    tags: &'a Option<Name>,
+    circuit: &'a [u8],
+    output: &'a [u8],
+    tags: Option<&'a [u8]>,
 ) -> Result<(), Failure<'a>> {
     let given = Given::read(rt, circuit, tags, Some(output))?;
     let mut derivation = vec![in rt.alloc(); 0; SOLVED]?;
@@ -91,9 +92,9 @@ fn solve<'a>(
 // mark CIRCUIT HANDIN
 fn mark<'a>(
     rt: HostRuntime,
-    circuit: &'a Name,
-    hand_in: &'a Name,
-    tags: &'a Option<Name>,
+    circuit: &'a [u8],
+    hand_in: &'a [u8],
+    tags: Option<&'a [u8]>,
 ) -> Result<(), Failure<'a>> {
     let given = Given::read(rt, circuit, tags, None)?;
     let hand_in = files::read(rt, hand_in, None, HAND_IN)?;
@@ -103,10 +104,10 @@ fn mark<'a>(
 // renew CIRCUIT DERIVATION OUT: OUT is not touched where anything is refused.
 fn renew<'a>(
     rt: HostRuntime,
-    circuit: &'a Name,
-    derivation: &'a Name,
-    output: &'a Name,
-    tags: &'a Option<Name>,
+    circuit: &'a [u8],
+    derivation: &'a [u8],
+    output: &'a [u8],
+    tags: Option<&'a [u8]>,
 ) -> Result<(), Failure<'a>> {
     let given = Given::read(rt, circuit, tags, Some(output))?;
     let derivation = files::read(rt, derivation, Some(output), HAND_IN)?;
@@ -114,7 +115,7 @@ fn renew<'a>(
 }
 
 // runs CIRCUIT: every satisfying run of a circuit.
-fn list_runs(rt: HostRuntime, circuit: &Name) -> Result<(), Failure<'_>> {
+fn list_runs(rt: HostRuntime, circuit: &[u8]) -> Result<(), Failure<'_>> {
     let circuit = files::read(rt, circuit, None, CIRCUIT)?;
     every_run::print_runs(rt, &circuit)
 }
@@ -130,9 +131,9 @@ impl Given {
     // The files by their names, in this order. Neither may be the output.
     fn read<'a>(
         rt: HostRuntime,
-        circuit: &'a Name,
-        tags: &'a Option<Name>,
-        output: Option<&'a Name>,
+        circuit: &'a [u8],
+        tags: Option<&'a [u8]>,
+        output: Option<&'a [u8]>,
     ) -> Result<Given, Failure<'a>> {
         let circuit = files::read(rt, circuit, output, CIRCUIT)?;
         let sheet = match tags {
@@ -155,7 +156,7 @@ impl Given {
         rt: HostRuntime,
         answer: SolverAnswer,
         mut derivation: Vec<u8>,
-        output: Option<&'a Name>,
+        output: Option<&'a [u8]>,
     ) -> Result<(), Failure<'a>> {
         match answer {
             SolverAnswer::Refused { number, place } => print(rt, Refused { number, place }),
@@ -189,23 +190,28 @@ impl Given {
     }
 
     fn judge_derivation(&self, rt: HostRuntime, derivation: &[u8]) -> Result<(), Failure<'static>> {
-        let mut marks = [0u8; 256];
-        match check_derivation(&self.circuit, self.sheet(), derivation, &mut marks) {
-            DerivationAnswer::Refused { number, place } => print(rt, Refused { number, place }),
+        let mut marks = [0; 256];
+        match self.judged(derivation, &mut marks) {
+            Err(refused) => print(rt, refused),
+            Ok(outcome) => print(
+                rt,
+                Judged {
+                    outcome,
+                    marks: &marks,
+                },
+            ),
+        }
+    }
+
+    // What a derivation comes to, and its marks.
+    fn judged(&self, derivation: &[u8], marks: &mut [u8]) -> Result<Outcome, Refused> {
+        match check_derivation(&self.circuit, self.sheet(), derivation, marks) {
+            DerivationAnswer::Refused { number, place } => Err(Refused { number, place }),
             DerivationAnswer::Accepted {
                 count,
                 verdict,
                 shown,
-            } => {
-                let outcome = self.outcome(verdict, count, shown);
-                print(
-                    rt,
-                    Judged {
-                        outcome,
-                        marks: &marks,
-                    },
-                )
-            }
+            } => Ok(self.outcome(verdict, count, shown)),
         }
     }
 
@@ -214,7 +220,7 @@ impl Given {
         &self,
         rt: HostRuntime,
         derivation: &[u8],
-        output: &'a Name,
+        output: &'a [u8],
     ) -> Result<(), Failure<'a>> {
         let mut renewed = vec![in rt.alloc(); 0; RENEWED]?;
         match renewal::call::renew(&self.circuit, self.sheet(), derivation, &mut renewed) {
@@ -231,19 +237,11 @@ impl Given {
         &self,
         rt: HostRuntime,
         renewed: &[u8],
-        output: &'a Name,
+        output: &'a [u8],
     ) -> Result<(), Failure<'a>> {
-        let mut marks = [0u8; 256];
-        match check_derivation(&self.circuit, self.sheet(), renewed, &mut marks) {
-            DerivationAnswer::Refused { number, place } => print(rt, Refused { number, place }),
-            DerivationAnswer::Accepted {
-                count,
-                verdict,
-                shown,
-            } => {
-                let outcome = self.outcome(verdict, count, shown);
-                self.hand_over(rt, renewed, outcome, Some(output))
-            }
+        match self.judged(renewed, &mut [0; 256]) {
+            Err(refused) => print(rt, refused),
+            Ok(outcome) => self.hand_over(rt, renewed, outcome, Some(output)),
         }
     }
 
@@ -253,7 +251,7 @@ impl Given {
         rt: HostRuntime,
         derivation: &[u8],
         outcome: Outcome,
-        output: Option<&'a Name>,
+        output: Option<&'a [u8]>,
     ) -> Result<(), Failure<'a>> {
         if let Some(output) = output {
             files::write(rt, output, derivation)?;

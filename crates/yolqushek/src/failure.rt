@@ -1,4 +1,4 @@
-// What stops the program before it has printed an answer, and how it is told on standard error.
+// What stops the program, and how it is told on standard error.
 
 use crate::USAGE;
 use std::alloc::{AllocError, AllocFailed};

@@ -1,6 +1,5 @@
 // Files by name: the bytes of one, and bytes into another, which is written whole or not at all.
 
-use crate::arguments::Name;
 use crate::failure::{Failure, Fault};
 use std::fs::{File, OpenFile, OpenOptions};
 use std::io::{ErrorKind, Read, Seek, SeekFrom, Write};
@@ -17,8 +16,8 @@ pub(crate) fn read_input(rt: HostRuntime, most: u64) -> Result<Vec<u8>, Failure<
 // The file with a name until it ends, or so many bytes of it. It must not be the one that is to be written.
 pub(crate) fn read<'a>(
     rt: HostRuntime,
-    name: &'a Name,
-    output: Option<&'a Name>,
+    name: &'a [u8],
+    output: Option<&'a [u8]>,
     most: u64,
 ) -> Result<Vec<u8>, Failure<'a>> {
     let file = open(rt, name, OpenOptions::new().read(true)).map_err(|fault| fault.of(name))?;
@@ -83,7 +82,7 @@ fn name_of(rt: HostRuntime, file: &File) -> io::Result<String> {
 }
 
 // Writes the file with a name whole or not at all, where it is missing or a regular file: into a new file beside it, which then takes its name.
-pub(crate) fn write<'a>(rt: HostRuntime, name: &'a Name, bytes: &[u8]) -> Result<(), Failure<'a>> {
+pub(crate) fn write<'a>(rt: HostRuntime, name: &'a [u8], bytes: &[u8]) -> Result<(), Failure<'a>> {
     replace(rt, name, bytes).map_err(|fault| fault.of(name))
 }
 

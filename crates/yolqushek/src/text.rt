@@ -4,7 +4,8 @@
 use crate::failure::{Failure, Fault};
 use std::alloc::Global;
 use std::fmt::Display;
-use std::io::{Result, Stdout, Write};
+use std::io;
+use std::io::Write;
 
 // The length of a page.
 const PAGE: usize = 4096;
@@ -29,7 +30,7 @@ impl<W: Write> Pages<W> {
 }
 
 impl<W: Write> Write for Pages<W> {
-    fn write(&mut self, bytes: &[u8]) -> Result<usize> {
+    fn write(&mut self, bytes: &[u8]) -> io::Result<usize> {
         self.page.extend_from_slice(bytes)?;
         if bytes.ends_with(b"\n") && PAGE - LINE < self.page.len() {
             self.flush()?;
@@ -37,7 +38,7 @@ impl<W: Write> Write for Pages<W> {
         Ok(bytes.len())
     }
 
-    fn flush(&mut self) -> Result<()> {
+    fn flush(&mut self) -> io::Result<()> {
         self.to.write_all(&self.page)?;
         self.page.clear();
         self.to.flush()
@@ -45,15 +46,12 @@ impl<W: Write> Write for Pages<W> {
 }
 
 // Prints to standard output.
-pub(crate) fn print<T: Display + Drop>(
-    rt: HostRuntime,
-    text: T,
-) -> std::result::Result<(), Failure<'static>> {
+pub(crate) fn print<T: Display + Drop>(rt: HostRuntime, text: T) -> Result<(), Failure<'static>> {
     let mut pages = Pages::new(rt.alloc(), rt.stdout());
     told(write!(pages, "{text}").and_then(|()| pages.flush()))
 }
 
 // What came of writing to standard output.
-pub(crate) fn told<T>(written: Result<T>) -> std::result::Result<T, Failure<'static>> {
+pub(crate) fn told<T>(written: io::Result<T>) -> Result<T, Failure<'static>> {
     written.map_err(|error| Fault::System(error).of(b"standard output"))
 }
