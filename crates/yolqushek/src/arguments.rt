@@ -21,7 +21,7 @@ const OPTIONS: [&str; 1] = [TAGS];
 pub type Name = Vec<u8>;
 
 // What is asked. `tags` names the sheet, where one is given.
-#[derive(Debug, Drop)]
+#[derive(Debug, Drop, PartialEq, Eq)]
 pub enum Command {
     Help,
     SolveInput,

@@ -5,7 +5,6 @@ use crate::failure::Failure;
 use crate::listing::{Judged, Listing, Outcome, Pair, Refused};
 use crate::text::print;
 use crate::{USAGE, every_run, files};
-use circuit::reader::has_mark;
 use derivation::answer::{DerivationAnswer, Verdict};
 use derivation::call::check_derivation;
 use pair::PairAnswer;
@@ -26,12 +25,13 @@ const SOLVED: usize = 3591;
 
 const RENEWED: usize = 28680;
 
-// The first byte of a pair file.
-const PAIR_MARK: u32 = 80;
+// What a pair file begins with.
+const PAIR: &[u8] = b"PQT";
 
 // A sheet that says nothing: its mark, the version 1 and the count 0.
 const NO_TAGS: &[u8] = b"TQT\x01\0\0\0";
 
+// Does what is asked.
 pub(crate) fn run(rt: HostRuntime, command: &Command) -> Result<(), Failure<'_>> {
     match command {
         Command::Help => print(rt, USAGE),
@@ -173,9 +173,9 @@ impl Given {
         }
     }
 
-    // Judges a hand-in; one that begins with `PQT` is a pair, any other a derivation.
+    // Judges a hand-in, a pair or a derivation.
     fn judge(&self, rt: HostRuntime, hand_in: &[u8]) -> Result<(), Failure<'static>> {
-        if has_mark(hand_in, PAIR_MARK) {
+        if hand_in.starts_with(PAIR) {
             self.judge_pair(rt, hand_in)
         } else {
             self.judge_derivation(rt, hand_in)

@@ -13,7 +13,7 @@ const HEADER: usize = 7;
 const STEP: usize = 7;
 
 // A refusal's number and place.
-#[derive(Clone, Copy)]
+#[derive(Clone, Copy, Debug, PartialEq, Eq)]
 pub struct Refused {
     pub number: u32,
     pub place: usize,
@@ -26,7 +26,7 @@ impl Display for Refused {
 }
 
 // A pair that is accepted: the signal whose values differ.
-#[derive(Clone, Copy)]
+#[derive(Clone, Copy, Debug, PartialEq, Eq)]
 pub struct Pair {
     pub q: u32,
 }
@@ -135,7 +135,7 @@ fn kind_word(kind: u32) -> &'static str {
 }
 
 // The values of a run, a space between them.
-#[derive(Clone, Copy)]
+#[derive(Clone, Copy, Debug, PartialEq, Eq)]
 pub struct Run<'a>(pub &'a [u32]);
 
 impl Display for Run<'_> {
