@@ -31,11 +31,17 @@ impl<W: Write> Pages<W> {
 
 impl<W: Write> Write for Pages<W> {
     fn write(&mut self, bytes: &[u8]) -> io::Result<usize> {
+        self.write_all(bytes)?;
+        Ok(bytes.len())
+    }
+
+    // The whole of it goes to the page at once.
+    fn write_all(&mut self, bytes: &[u8]) -> io::Result<()> {
         self.page.extend_from_slice(bytes)?;
         if bytes.ends_with(b"\n") && PAGE - LINE < self.page.len() {
             self.flush()?;
         }
-        Ok(bytes.len())
+        Ok(())
     }
 
     fn flush(&mut self) -> io::Result<()> {
