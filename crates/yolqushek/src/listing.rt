@@ -1,7 +1,7 @@
 // What the program prints: each number is a library's answer, or read from the bytes of the derivation that a library wrote.
 
 use circuit::bytes::{byte_at, u16_at};
-use circuit::reader::{CircuitAnswer, check_circuit};
+use circuit::reader::{CircuitAnswer, Sizes, check_circuit};
 use derivation::answer::Verdict;
 use std::fmt;
 use std::fmt::{Display, Formatter};
@@ -38,7 +38,7 @@ impl Display for Pair {
 }
 
 // What a derivation comes to: its verdict, how many signals it marks, and what it shows of the sheet where one was given.
-#[derive(Clone, Copy)]
+#[derive(Clone, Copy, Debug, PartialEq, Eq)]
 pub struct Outcome {
     pub verdict: Verdict,
     pub count: u32,
@@ -48,27 +48,20 @@ pub struct Outcome {
 impl Outcome {
     // The verdict and the count.
     fn verdict_line<W: fmt::Write>(&self, f: &mut Formatter<W>) -> fmt::Result {
-        writeln!(f, "{} {}", verdict_word(self.verdict), self.count)
+        writeln!(f, "{} {}", self.verdict, self.count)
     }
 
-    // How many tags are shown and which is the first that isn't; nothing where no sheet was given.
+    // How many tags are shown and which is the first that isn't, 0 where all are; nothing where no sheet was given.
     fn shown_line<W: fmt::Write>(&self, f: &mut Formatter<W>) -> fmt::Result {
         match self.shown {
-            Some(shown) => writeln!(f, "shown {} {}", shown.count, shown.missed),
+            Some(Shown { count, missed }) => writeln!(f, "shown {count} {}", missed.unwrap_or(0)),
             None => Ok(()),
         }
     }
 }
 
-fn verdict_word(verdict: Verdict) -> &'static str {
-    match verdict {
-        Verdict::Fixed => "fixed",
-        Verdict::Open => "open",
-    }
-}
-
 // A derivation that is accepted: what it comes to, and the signals whose byte is 1.
-#[derive(Clone, Copy)]
+#[derive(Clone, Copy, Debug, PartialEq, Eq)]
 pub struct Judged<'a> {
     pub outcome: Outcome,
     pub marks: &'a [u8],
@@ -89,7 +82,7 @@ impl Display for Judged<'_> {
 }
 
 // A circuit, a derivation for it and what this comes to. The circuit's numbers come first, then the steps.
-#[derive(Clone, Copy)]
+#[derive(Clone, Copy, Debug, PartialEq, Eq)]
 pub struct Listing<'a> {
     pub circuit: &'a [u8],
     pub derivation: &'a [u8],
@@ -98,7 +91,7 @@ pub struct Listing<'a> {
 
 impl Display for Listing<'_> {
     fn fmt<W: fmt::Write>(&self, f: &mut Formatter<W>) -> fmt::Result {
-        if let CircuitAnswer::Sizes { p, n, i, o, m } = check_circuit(self.circuit) {
+        if let CircuitAnswer::Sizes(Sizes { p, n, i, o, m }) = check_circuit(self.circuit) {
             writeln!(f, "circuit {p} {n} {i} {o} {m}")?;
         }
         let steps = self.derivation.get(HEADER..).unwrap_or(&[]);
@@ -140,11 +133,12 @@ pub struct Run<'a>(pub &'a [u32]);
 
 impl Display for Run<'_> {
     fn fmt<W: fmt::Write>(&self, f: &mut Formatter<W>) -> fmt::Result {
-        for (s, value) in self.0.iter().enumerate() {
-            if s != 0 {
-                write!(f, " ")?;
-            }
-            write!(f, "{value}")?;
+        let Some((first, others)) = self.0.split_first() else {
+            return Ok(());
+        };
+        write!(f, "{first}")?;
+        for value in others {
+            write!(f, " {value}")?;
         }
         Ok(())
     }
