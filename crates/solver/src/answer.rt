@@ -13,6 +13,7 @@ pub(crate) struct Solved {
 }
 
 // A refusal's number and place, or what was solved.
+// Stays: the form of a call's answer, one enum whose cases carry number and place or the result.
 #[derive(Clone, Copy, Debug, PartialEq, Eq)]
 pub enum SolverAnswer {
     Refused {

@@ -6,7 +6,7 @@ ghost use Rattle.solver.specs.Links.{Linkable, Linked, SameOwners, Owned};
 use rules::rows::Entry;
 
 // Of an entry: one more than the place of the last entry before it with the same signal, 0 where there is none; and whose row it is in.
-// Stays: a list linked by places in one array, since the libraries have no heap.
+// Stays: a list linked by places in one array, for want of a heap.
 #[derive(Clone, Copy, Debug, PartialEq, Eq)]
 pub(crate) struct Link {
     pub before: u16,
@@ -32,6 +32,7 @@ pub(crate) fn own(links: &mut [Link], start: usize, end: usize, k: u16)
 }
 
 // Links each of the first `end` entries to the last one before it with the same signal.
+// Stays: a test of the index, since of a slice after `get_mut` nothing is known.
 pub(crate) fn link_entries(rows: &[Entry], lasts: &mut [u16], links: &mut [Link], end: usize)
     requires { Linkable end rows.now lasts.old links.old }
     ensures linked { Linked rows.now end lasts.new links.new }

@@ -52,6 +52,7 @@ impl<'a> Table<'a> {
     }
 
     // Forgets what is kept of the constraints that name the signal.
+    // Stays: `while`, since a walk along links has no range; and a test of the index, since of a slice after `get_mut` nothing is known.
     pub fn forget<T: Copy>(&self, kept: &mut [Option<T>], signal: u32)
         requires { (1 ≤ signal) × (signal ≤ (circuit_in self.now).n) × ((circuit_in self.now).m < length kept.old) }
         ensures { Forgotten (circuit_in self.now) signal kept.old kept.new }
