@@ -117,6 +117,7 @@ impl Display for Step<'_> {
     }
 }
 
+// Stays: the number is all that the byte says; reading it as a kind is derivation's own (pub(crate)).
 fn kind_word(kind: u32) -> &'static str {
     match kind {
         1 => "root",
