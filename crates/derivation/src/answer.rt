@@ -20,15 +20,16 @@ impl fmt::Display for Verdict {
 }
 
 // How many signals are marked, the verdict, and what is shown of the sheet.
-#[derive(Clone, Copy)]
+#[derive(Clone, Copy, Debug, PartialEq, Eq)]
 pub(crate) struct Judgement {
     pub count: u32,
     pub verdict: Verdict,
     pub shown: Shown,
 }
 
+// Stays: an enum for the call, whose cases carry number and place or the result, is a form of docs/DECISIONS.md.
 // A refusal's number and place, or how many signals are marked, the verdict, and what is shown of the sheet.
-#[derive(Clone, Copy)]
+#[derive(Clone, Copy, Debug, PartialEq, Eq)]
 pub enum DerivationAnswer {
     Refused {
         number: u32,

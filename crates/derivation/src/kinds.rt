@@ -17,6 +17,7 @@ const KINDS: [Kind; 5] = [
 ];
 
 // What the table says of a kind: its number, and whether the constraint field names a constraint and the reference field a signal.
+// Stays: two flags, since both are handed to `field_within`, which asks of either field the same.
 #[derive(Clone, Copy, Debug, PartialEq, Eq)]
 pub(crate) struct Entry {
     pub number: u8,

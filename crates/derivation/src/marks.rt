@@ -34,6 +34,7 @@ pub(crate) fn write_marks(out: &mut [u8], marks: &[bool], n: u32) -> u32
 pub fn verdict_of(marks: &[bool], sizes: Sizes) -> Verdict
     ensures { verdict_in result ≡ verdict_by (all sizes.o (output_marked (mark_in marks.now) sizes.i)) }
 {
+    // Stays: a loop, since the check leaves open what `all` over a range says of each output.
     let inputs = sizes.i as usize;
     for j in 0..sizes.o as usize {
         if !mark_at(marks, inputs + j + 1) {

@@ -77,6 +77,7 @@ impl Step {
         target & constraint & reference
     }
 
+    // Stays: the table, the ends and the rows apart, since a struct that lends them would have to give back what is written through it; no plainer.
     // Takes the step on a standing: the next one, if the step meets its rule. A row that it looks at is made first.
     pub(crate) fn take(
         self,

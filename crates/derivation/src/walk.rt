@@ -62,6 +62,7 @@ pub fn check_frame(derivation: &[u8]) -> Result<(), Refusal>
     Ok(())
 }
 
+// Stays: a test and a store, since nothing is known of a slice after its `get_mut`.
 // Notes of a step whether it is idle, where there is room.
 fn note(notes: &mut [bool], k: usize, idle: bool)
     ensures { notes.new ≡ set notes.old k idle }
