@@ -10,7 +10,7 @@ use native.Mathlib.Omega.{arith}
 use borrow.Author.Tests.{not-true}
 use lib.ListN.{length, length-set, drop, take, get_or, set}
 use lib.Seq.{drop-length, get_or-set_same, get_or-set_other}
-use Rattle.std.specs.Prelude.{Option, Ok, Err}
+use Rattle.std.specs.Prelude.{Ok, Err}
 use Rattle.circuit.specs.Bytes.{byte_at, u16_at}
 use Rattle.circuit.specs.Circuit.{no_constraint, constraint_at}
 use Rattle.circuit.specs.Reader.{after_form, terms_in, form_in, constraint_in}
@@ -27,7 +27,7 @@ use Rattle.laws.specs.Step.{Kind, names_of, Step, within, inside, named, constra
 use Rattle.laws.specs.Step.{in_range, rule, rule_of, met, change, is_idle, after, unless, less_idle}
 use Rattle.laws.proofs.Sum.{and_left, and_right, true_or_false}
 use Rattle.laws.proofs.Sound.{within_least, within_most}
-use Rattle.rules.specs.Promise.{view, subject_in, reduces, Taken, Gives, Asked}
+use Rattle.rules.specs.Promise.{subject_in, reduces, Taken, Gives, Asked}
 use Rattle.rules.specs.Rows.{at, Row, row_of, RowMade}
 use Rattle.rules.specs.declared.rows.Entry.{Entry}
 use Rattle.rules.specs.declared.standing.Outcome.{Outcome}
@@ -131,7 +131,7 @@ pub step_taken : {c : List ℕ} {z : Sizes} {table ends ends' part : List ℕ} {
     → (Kept c z table ends rows → (names_of (step_in x).kind ≡ a_constraint → (1 ≤ x.constraint) × (x.constraint ≤ z.m))
     → Ready (step_in x).kind x.constraint c z table ends' rows')
     → part ≡ part_named (names_of (step_in x).kind) c table x.constraint → row ≡ row_of table ends' rows' x.constraint
-    → (S : Standing) (o : Option Outcome)
+    → (S : Standing) (o : Outcome)
     → ((n : ℕ) → Asked (step_in x).kind z.p n part row x.target x.reference
     → Gives z.p o S x.target (rule (step_in x).kind (subject_in z.p n part) S x.target x.reference))
     → Kept c z table ends' rows' × Gives z.p o S x.target (rule_of (problem_of c first) S (step_in x))
@@ -209,32 +209,32 @@ module _ {padded : Bool} {P : Problem} {d : List ℕ} {notes : List Bool} {k : �
       pub walk_unmet : (rule_of P S (step_in x)).met ≡ false → refused 17 (k + 1) ≡ walked padded P d
       walk_unmet e = sym (turn ∙ rw (tried_is, e, add-one k))
 
-      module _ {p : ℕ} {outcome : Outcome} (T : Taken p outcome S x.target (rule_of P S (step_in x))) where
-        next_is : view p outcome.next ≡ after P S (step_in x)
+      module _ {idle : Bool} {next : Standing} (T : Taken idle next S x.target (rule_of P S (step_in x))) where
+        next_is : next ≡ after P S (step_in x)
         unfolding after change
-        next_is = T.next
+        next_is = T.after
 
-        idle_is : outcome.idle ≡ is_idle P S (step_in x)
+        idle_is : idle ≡ is_idle P S (step_in x)
         unfolding change
         idle_is = T.idle
 
-        pub walk_idle : (outcome.idle && not padded) ≡ true → refused 29 (k + 1) ≡ walked padded P d
+        pub walk_idle : (idle && not padded) ≡ true → refused 29 (k + 1) ≡ walked padded P d
         walk_idle e =
-            let same : is_idle P S (step_in x) ≡ true = sym idle_is ∙ and_left outcome.idle (not padded) e in
-            sym (turn ∙ rw (tried_is, T.met, same, not-true padded (and_right outcome.idle (not padded) e), add-one k))
+            let same : is_idle P S (step_in x) ≡ true = sym idle_is ∙ and_left idle (not padded) e in
+            sym (turn ∙ rw (tried_is, T.met, same, not-true padded (and_right idle (not padded) e), add-one k))
 
-        pub walk_on : (outcome.idle && not padded) ≡ false → {later : List Bool} → later ≡ set notes k outcome.idle
-            → Walking padded P d later (k + 1) (view p outcome.next)
+        pub walk_on : (idle && not padded) ≡ false → {later : List Bool} → later ≡ set notes k idle
+            → Walking padded P d later (k + 1) next
         unfolding less_idle
         walk_on pass {later} is =
             record {
-              left = turn ∙ rw (tried_is, T.met, ← idle_is, let-pass outcome.idle padded pass, ← next_is);
+              left = turn ∙ rw (tried_is, T.met, ← idle_is, let-pass idle padded pass, ← next_is);
               noted = λ room.
                   let rest : u16_at d 5 - k ≡ suc (u16_at d 5 - (k + 1)) = omega arith in
-                  let here : k < length notes = omega (arith, length-set notes k outcome.idle, ap length is) in
-                  W.noted (omega (arith, length-set notes k outcome.idle, ap length is))
+                  let here : k < length notes = omega (arith, length-set notes k idle, ap length is) in
+                  W.noted (omega (arith, length-set notes k idle, ap length is))
                   ∙ rw (rest, steps_known d k (u16_at d 5 - (k + 1)) R.0, ← idle_is, ← next_is, ← add-one k)
-                  (ap (λ (l : List Step). unflagged notes d k ++ l) (unless_noted outcome.idle (step_in x) _)
-                  ∙ sym (append_assoc (unflagged notes d k) (unnoted outcome.idle (some (step_in x))) _)
-                  ∙ sym (rw (is, add-one k, unflagged_more notes d k outcome.idle here, R.0)));
+                  (ap (λ (l : List Step). unflagged notes d k ++ l) (unless_noted idle (step_in x) _)
+                  ∙ sym (append_assoc (unflagged notes d k) (unnoted idle (some (step_in x))) _)
+                  ∙ sym (rw (is, add-one k, unflagged_more notes d k idle here, R.0)));
             }

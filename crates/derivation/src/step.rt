@@ -78,14 +78,14 @@ impl Step {
     }
 
     // Stays: the table, the ends and the rows apart, since a struct that lends them would have to give back what is written through it; no plainer.
-    // Takes the step on a standing: the next one, if the step meets its rule. A row that it looks at is made first.
+    // Takes the step on a standing. A row that it looks at is made first.
     pub(crate) fn take(
         self,
         standing: Standing,
         constraints: &Constraints,
         ends: &mut [u32],
         rows: &mut [Entry],
-    ) -> Option<Outcome>
+    ) -> Outcome
         ensures { let c = constraints.now.file.bytes.now in let z = constraints.now.file.sizes in let table = constraints.now.offsets in
             (first : ℕ → ℕ) → laws.in_range (problem_of c first) (step_in self) ≡ true → Kept c z table ends.old rows.old
             → Kept c z table ends.new rows.new

@@ -15,7 +15,7 @@ use circuit::file::Constraints;
 use circuit::reader::has_mark;
 use circuit::refusal::{Reason, Refusal};
 use rules::rows::{Entry, MOST_ENTRIES};
-use rules::standing::Standing;
+use rules::standing::{Outcome, Standing};
 use tags::tagged::Tagged;
 
 // The letter D of a derivation's mark, its version, and the most steps that it may have.
@@ -89,25 +89,27 @@ fn walk(
     let sizes = tagged.file.sizes;
     let constraints = Constraints::new(tagged.file);
     let mut ends = [0u32; 513];
-    let mut standing = start_with(tagged.sheet, sizes.p, sizes.i);
+    let mut outcome = Outcome {
+        next: start_with(tagged.sheet, sizes.p, sizes.i),
+        idle: None,
+    };
     let count = u16_at(derivation, 5) as usize;
     for k in 0..count {
         let step = match Step::read(derivation, k, sizes) {
             Ok(step) => step,
             Err(reason) => return Err(reason.at(k + 1)),
         };
-        let taken = step.take(standing, &constraints, &mut ends, rows);
-        let Some(outcome) = taken else {
+        outcome = step.take(outcome.next, &constraints, &mut ends, rows);
+        let Some(idle) = outcome.idle else {
             return Err(Reason::RuleUnmet.at(k + 1));
         };
-        let refused = idle_steps.refuse(outcome.idle);
+        let refused = idle_steps.refuse(idle);
         if refused {
             return Err(Reason::IdleStep.at(k + 1));
         }
-        note(notes, k, outcome.idle);
-        standing = outcome.next;
+        note(notes, k, idle);
     }
-    Ok(standing)
+    Ok(outcome.next)
 }
 
 // The walk with rows of N entries.

@@ -13,31 +13,29 @@ use Rattle.laws.specs.Problem.{largest}
 use Rattle.laws.specs.Standing.{add, is_input}
 use Rattle.laws.specs.Standing as laws
 use Rattle.rules.specs.View.{bound_in, mark_in, view_of}
-use Rattle.rules.specs.Promise.{Taken, met_with}
+use Rattle.rules.specs.Promise.{Taken}
 use Rattle.rules.proofs.ViewLaws.{bound_within, bound_largest, mark_within, mark_none, mark_set, view_lower, view_mark}
 
 -- t's bound becomes at most `most`
 pub taken_lower : (p : ℕ) (bounds : List ℕ) (marks : List Bool) (t most v : ℕ) → t < length bounds → v ≡ min (get_or bounds t 0) most
-    → Taken p (record { next = record { bounds = set bounds t v; marks = marks }; idle = leb (get_or bounds t 0) most })
-    (view_of p bounds marks) t (met_with (laws.at_most most))
+    → Taken (leb (get_or bounds t 0) most) (view_of p (set bounds t v) marks) (view_of p bounds marks) t (record { met = true; change = laws.at_most most })
 unfolding view_of
 taken_lower p bounds marks t most v h e =
     let same = bound_within p bounds t h in
     record {
       met = refl;
       idle = ap (λ (b : ℕ). leb b most) same;
-      next =
+      after =
           ap (λ (x : ℕ). view_of p (set bounds t x) marks) (e ∙ ap (λ (b : ℕ). min b most) same) ∙ view_lower p bounds marks t most h;
     }
 
 -- t becomes marked
 pub taken_mark : (p : ℕ) (bounds : List ℕ) (marks : List Bool) (t : ℕ) → t < length marks
-    → Taken p (record { next = record { bounds = bounds; marks = set marks t true }; idle = get_or marks t false })
-    (view_of p bounds marks) t (met_with laws.fixed)
+    → Taken (get_or marks t false) (view_of p bounds (set marks t true)) (view_of p bounds marks) t (record { met = true; change = laws.fixed })
 unfolding view_of
-taken_mark p bounds marks t h = record { met = refl; idle = mark_within marks t; next = view_mark p bounds marks t h }
+taken_mark p bounds marks t h = record { met = refl; idle = mark_within marks t; after = view_mark p bounds marks t h }
 
--- The sum rule's bound
+-- A rule's bound
 
 pub none_given : {A : Type 0} (b : Bool) (x : A) → None ≡ cond b (Some x) None → b ≡ false
 none_given true x e = cc

@@ -21,20 +21,20 @@ view p st = view_of p st.bounds st.marks
 abbrev pub subject_in : ℕ → ℕ → List ℕ → Subject
 subject_in p n part = record { p = p; n = n; equation = constraint_in part }
 
--- a rule that is met, with this change
-abbrev pub met_with : laws.Change → step.Rule
-met_with change = record { met = true; change = change }
-
 -- Rules 3.3 and 3.4: the step meets the rule, target t has its change, and it is told whether the step is idle.
-pub record Taken (p : ℕ) (outcome : Outcome) (before : laws.Standing) (t : ℕ) (x : step.Rule) : Type 0 where
+pub record Taken (told : Bool) (next before : laws.Standing) (t : ℕ) (x : step.Rule) : Type 0 where
   pub met : x.met ≡ true
-  pub idle : outcome.idle ≡ laws.idle x.change before t
-  pub next : view p outcome.next ≡ laws.apply x.change before t
+  pub idle : told ≡ laws.idle x.change before t
+  pub after : next ≡ laws.apply x.change before t
 
--- what a step gives: nothing where the rule isn't met
-abbrev pub Gives : ℕ → Option Outcome → laws.Standing → ℕ → step.Rule → Type 0
-Gives p None before t x = x.met ≡ false
-Gives p (Some outcome) before t x = Taken p outcome before t x
+-- whether a step is idle, None where its rule isn't met, and the standing after it
+abbrev pub Told : Option Bool → laws.Standing → laws.Standing → ℕ → step.Rule → Type 0
+Told None next before t x = (x.met ≡ false) × (next ≡ before)
+Told (Some idle) next before t x = Taken idle next before t x
+
+-- what a step gives
+abbrev pub Gives : ℕ → Outcome → laws.Standing → ℕ → step.Rule → Type 0
+Gives p outcome before t x = Told outcome.idle (view p outcome.next) before t x
 
 -- the bound that a rule of bounds gives, None where it isn't met
 abbrev pub bound_given : step.Rule → Option ℕ

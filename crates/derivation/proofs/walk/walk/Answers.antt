@@ -11,7 +11,7 @@ pub loop-k-init : goal.loop-k-init
 loop-k-init c =
     let Z = call_sized c.args.tagged.now.file.read in
     let long = length-replicate {A = ℕ} 513 0 in
-    (laws.none_made Z long (λ k h. get_or-replicate {A = ℕ} 513 k 0 0 h) c.requires, laws.walk_starts (start_is _ _ Z _ c.start_with-standing.ensures))
+    (laws.none_made Z long (λ k h. get_or-replicate {A = ℕ} 513 k 0 0 h) c.requires, laws.walk_starts (start_is _ _ Z _ c.start_with.ensures))
 
 pub returns-in-Err-clause-way : goal.returns-in-Err-clause-way
 returns-in-Err-clause-way c =
@@ -24,9 +24,9 @@ returns-in_default-clause-way c =
     let Z = call_sized t.file.read in
     let P = tagged_in t.file.bytes.now t.sheet.now in
     let R = c.in-Ok.ensures P (sym Z.is_n) (sym Z.is_m) in
-    let G = rw c.new-constraints.ensures at c.in_default.ensures in
+    let G = rw (c.new-constraints.ensures, c.in_default.is) at c.take-outcome.ensures in
     rw c.at-in_default.ensures
-    (laws.walk_unmet c.loop-k.invariant.1 (omega (arith, c.u16_at-count.ensures.0)) _ R (G P.first R.1 c.loop-k.invariant.0).1)
+    (laws.walk_unmet c.loop-k.invariant.1 (omega (arith, c.u16_at-count.ensures.0)) _ R (G P.first R.1 c.loop-k.invariant.0).1.0)
 
 pub returns-then-refused-clause-way : goal.returns-then-refused-clause-way
 returns-then-refused-clause-way c =
@@ -34,7 +34,7 @@ returns-then-refused-clause-way c =
     let Z = call_sized t.file.read in
     let P = tagged_in t.file.bytes.now t.sheet.now in
     let R = c.in-Ok.ensures P (sym Z.is_n) (sym Z.is_m) in
-    let G = rw c.new-constraints.ensures at c.in-Some.ensures in
+    let G = rw (c.new-constraints.ensures, c.in-Some.is) at c.take-outcome.ensures in
     rw c.at-then-refused.ensures
     (laws.walk_idle c.loop-k.invariant.1 (omega (arith, c.u16_at-count.ensures.0)) _ R (G P.first R.1 c.loop-k.invariant.0).1
     (sym c.refuse-refused.ensures ∙ c.if-refused.true))
@@ -45,7 +45,7 @@ loop-k-preserved c =
     let Z = call_sized t.file.read in
     let P = tagged_in t.file.bytes.now t.sheet.now in
     let R = c.in-Ok.ensures P (sym Z.is_n) (sym Z.is_m) in
-    let G = (rw c.new-constraints.ensures at c.in-Some.ensures) P.first R.1 c.loop-k.invariant.0 in
+    let G = (rw (c.new-constraints.ensures, c.in-Some.is) at c.take-outcome.ensures) P.first R.1 c.loop-k.invariant.0 in
     (G.0, laws.walk_on c.loop-k.invariant.1 (omega (arith, c.u16_at-count.ensures.0)) _ R G.1 (sym c.refuse-refused.ensures ∙ c.if-refused.false) c.note.ensures)
 
 pub returns-clause-way : goal.returns-clause-way
