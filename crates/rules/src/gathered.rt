@@ -47,16 +47,25 @@ pub(crate) struct Weighed<'a> {
 
 impl<'a> Weighed<'a> {
     ghost use Rattle.std.specs.List.{list_all};
-    ghost use Rattle.rules.specs.Weights.{smaller_at, exceeds};
+    ghost use Rattle.rules.specs.Weights.{smaller, smaller_at, exceeds};
+
+    // The product if its weight is below w, else 0. Chosen in a function of its own, so that the loop below takes several at once.
+    #[tactic(auto, using(crate::proofs::DigitsLaws::smaller_yes, crate::proofs::DigitsLaws::smaller_no))]
+    fn smaller(weight: u32, product: u32, w: u32) -> u32
+        ensures { result ≡ smaller weight product w }
+    {
+        if weight < w { product } else { 0 }
+    }
 
     // The sum of the products of weights below w. No early end, as above.
     fn smaller_sum(&self, w: u32) -> u32
         ensures { result ≡ sum (length self.entry.now.weights.now) (smaller_at (coef_in self.entry.now.weights.now) (coef_in self.entry.now.products.now) w) }
     {
+        let weights = self.weights;
+        let products = self.products;
         let mut below: u32 = 0;
-        for j in 0..self.weights.len() {
-            let (weight, product) = (self.weights[j], self.products[j]);
-            below += if weight < w { product } else { 0 };
+        for j in 0..weights.len() {
+            below += Weighed::smaller(weights[j], products[j], w);
         }
         below
     }
