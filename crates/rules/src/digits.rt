@@ -32,6 +32,7 @@ pub(crate) fn is_live(entry: &Entry, marks: &[bool]) -> bool
 }
 
 // The bound of an entry if it is one, else 0.
+// Stays, as below: bounds, marks and p as parameters, since a struct of them would be made and taken apart for one call.
 #[tactic(auto, unfolding(crate::specs::Live::live_bound))]
 fn live_bound(entry: &Entry, bounds: &[u32], marks: &[bool], p: u32) -> u32
     ensures { result ≡ live_bound p bounds.now marks.now entry.now }
@@ -208,7 +209,7 @@ pub fn separates_at(row: &[Entry], marks: &[bool], few: &Few, p: u32, i: usize) 
     separates(row, marks, few, p, coef)
 }
 
-// The coefficient of signal s, 0 where it has none.
+// The coefficient of signal s in the reduced form: 0 where it drops out.
 fn coef_of(row: &[Entry], s: u32) -> u32
     ensures { (p n : ℕ) (K : Constraint) → 0 < p → Row p n K row.now → 1 ≤ s → s ≤ n → result ≡ reduced p K s }
 {

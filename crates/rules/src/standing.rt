@@ -15,6 +15,7 @@ use crate::sums::sum_step;
 use crate::view::bound_at;
 
 // Rule 3.1. Signal 0 is the constant one; bounds and marks of signals above 256 are those of the start.
+// Stays: two arrays by value, a form of docs/DECISIONS.md.
 #[derive(Clone, Copy, Debug, PartialEq, Eq)]
 pub struct Standing {
     pub bounds: [u32; 257],
@@ -97,6 +98,7 @@ impl Standing {
     }
 
     // Rules 4.3 to 4.7: a method for each kind, by its row in the table of rules. No target in range is above 256.
+    // Stays: parameters, since each method takes just what its rule looks at, and a struct of all would be made for one call.
 
     pub fn root(mut self, part: &[u8], p: u32, t: u32) -> Outcome
         ensures { (n r : ℕ) (row : List Entry) → Asked laws.Root p n part.now row t r
