@@ -1,9 +1,11 @@
 -- A phase of the solver under way: the steps so far, what is still to come, and where a step that is taken leads.
 use Prim.Native.Nat.{ℕ, zero, suc, ◌+◌, ◌*◌, ◌-◌, ◌≤◌, ◌<◌}
 use mathlib.Core.Path.{◌≡◌, refl, sym, ap, ◌∙◌}
-use mathlib.Core.Bool.{true, false}
+use mathlib.Core.Bool.{Bool, true}
 use mathlib.Core.List.{List, [], ◌∷◌, ◌++◌, append_assoc, append-nil}
-use mathlib.Core.Option.{Option, none, some}
+use mathlib.Core.Option as math
+use mathlib.Core.Option.{none, some}
+use Rattle.std.specs.Prelude.{Option, None, Some}
 use native.Mathlib.Omega.{arith}
 use lib.ListN.{length, length-append}
 use Rattle.circuit.specs.Call.{circuit_of}
@@ -16,9 +18,8 @@ use Rattle.laws.proofs.Order.{replay_append}
 use Rattle.laws.proofs.Sum.{true_or_false}
 use Rattle.laws.proofs.Turns.{adds_says}
 use Rattle.laws.proofs.Optimum.{fits_says}
-use Rattle.rules.specs.Promise.{subject_in, view, Taken, Asked}
+use Rattle.rules.specs.Promise.{subject_in, Told, Asked}
 use Rattle.rules.specs.declared.rows.Entry.{Entry}
-use Rattle.rules.specs.declared.standing.Outcome.{Outcome}
 use Rattle.rules.specs.Rows.{row_of}
 use Rattle.derivation.specs.Steps.{head_size, step_size}
 use Rattle.derivation.specs.Encoded.{step_bytes, steps_bytes, stored}
@@ -29,12 +30,12 @@ use Rattle.solver.specs.Links.{Prepared}
 
 -- Turns
 
-turns_none : (choose : Standing → Option Step) (P : Problem) (fuel : ℕ) (S : Standing) → choose S ≡ none → turns choose P fuel S ≡ []
+turns_none : (choose : Standing → math.Option Step) (P : Problem) (fuel : ℕ) (S : Standing) → choose S ≡ none → turns choose P fuel S ≡ []
 unfolding turns
 turns_none choose P zero S e = refl
 turns_none choose P (suc fuel) S e = rw e
 
-turns_some : (choose : Standing → Option Step) (P : Problem) (fuel : ℕ) (S : Standing) (x : Step) → choose S ≡ some x
+turns_some : (choose : Standing → math.Option Step) (P : Problem) (fuel : ℕ) (S : Standing) (x : Step) → choose S ≡ some x
     → turns choose P (suc fuel) S ≡ x ∷ turns choose P fuel (after P S x)
 unfolding turns
 turns_some choose P fuel S x e = rw e
@@ -42,7 +43,7 @@ turns_some choose P fuel S x e = rw e
 -- Turns that are written
 
 -- the steps so far, where they led, what is still to come, and the bytes written, after those of the `base` steps before
-pub record Turning (choose : Standing → Option Step) (P : Problem) (S₀ : Standing) (output₀ output : List ℕ) (base count : ℕ) (S : Standing) : Type 0 where
+pub record Turning (choose : Standing → math.Option Step) (P : Problem) (S₀ : Standing) (output₀ output : List ℕ) (base count : ℕ) (S : Standing) : Type 0 where
   pub steps : List Step
   pub led : S ≡ replay P S₀ steps
   pub rest : turns choose P P.n S₀ ≡ steps ++ turns choose P (P.n - length steps) S
@@ -50,12 +51,12 @@ pub record Turning (choose : Standing → Option Step) (P : Problem) (S₀ : Sta
   pub written : output ≡ stored output₀ (head_size + step_size * base) (steps_bytes steps)
 
 -- a phase that is over
-pub record Ended (choose : Standing → Option Step) (P : Problem) (S₀ : Standing) (output₀ output : List ℕ) (base count : ℕ) (S : Standing) : Type 0 where
+pub record Ended (choose : Standing → math.Option Step) (P : Problem) (S₀ : Standing) (output₀ output : List ℕ) (base count : ℕ) (S : Standing) : Type 0 where
   pub reached : S ≡ replay P S₀ (turns choose P P.n S₀)
   pub counted : count ≡ length (turns choose P P.n S₀)
   pub written : output ≡ stored output₀ (head_size + step_size * base) (steps_bytes (turns choose P P.n S₀))
 
-pub turning_start : (choose : Standing → Option Step) (P : Problem) (S : Standing) (output : List ℕ) (base : ℕ) → Turning choose P S output output base 0 S
+pub turning_start : (choose : Standing → math.Option Step) (P : Problem) (S : Standing) (output : List ℕ) (base : ℕ) → Turning choose P S output output base 0 S
 unfolding steps_bytes replay
 turning_start choose P S output base =
     let all : P.n ≡ P.n - 0 = omega arith in
@@ -67,7 +68,7 @@ turning_start choose P S output base =
       written = nothing_stored output (head_size + step_size * base);
     }
 
-module _ {choose : Standing → Option Step} {P : Problem} {S₀ : Standing} {output₀ output : List ℕ} {base count : ℕ} {S : Standing}
+module _ {choose : Standing → math.Option Step} {P : Problem} {S₀ : Standing} {output₀ output : List ℕ} {base count : ℕ} {S : Standing}
     (T : Turning choose P S₀ output₀ output base count S) where
   ended : turns choose P P.n S₀ ≡ T.steps → Ended choose P S₀ output₀ output base count S
   ended e = record { reached = rw e T.led; counted = rw e T.counted; written = rw e T.written }
@@ -133,12 +134,12 @@ module _ {c table ends : List ℕ} {rows : List Entry} {z : Sizes} (D : Prepared
   same_rule =
       ap (λ (p : List ℕ). rule x.kind (subject_in z.p z.n p) S x.target x.reference) is-part ∙ rule_is D.sized D.offsets first x says.0 S
 
-  pub step_taken : {y : Outcome}
-      → (Asked x.kind z.p z.n part row x.target x.reference → Taken z.p y S x.target (rule x.kind (subject_in z.p z.n part) S x.target x.reference))
-      → view z.p y.next ≡ after P S x
-  unfolding after change
-  step_taken gives = (gives asked).next ∙ ap (λ (R : Rule). apply R.change S x.target) same_rule
-
-  pub step_unmet : (Asked x.kind z.p z.n part row x.target x.reference → (rule x.kind (subject_in z.p z.n part) S x.target x.reference).met ≡ false) → ⊥
-  unfolding met
-  step_unmet gives = true_or_false _ says.1 (ap (λ (R : Rule). R.met) (sym same_rule) ∙ gives asked)
+  pub step_taken : (told : Option Bool) {next : Standing}
+      → (Asked x.kind z.p z.n part row x.target x.reference → Told told next S x.target (rule x.kind (subject_in z.p z.n part) S x.target x.reference))
+      → next ≡ after P S x
+  unfolding after change met
+  step_taken told {next} gives = go told (gives asked)
+    where
+      go : (o : Option Bool) → Told o next S x.target (rule x.kind (subject_in z.p z.n part) S x.target x.reference) → next ≡ after P S x
+      go None T = true_or_false _ says.1 (ap (λ (R : Rule). R.met) (sym same_rule) ∙ T.0)
+      go (Some idle) T = T.after ∙ ap (λ (R : Rule). apply R.change S x.target) same_rule

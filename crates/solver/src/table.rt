@@ -112,10 +112,7 @@ impl<'a> Table<'a> {
             key.target,
             choice.reference,
         );
-        match outcome {
-            Some(outcome) => outcome.next,
-            None => standing,
-        }
+        outcome.next
     }
 }
 

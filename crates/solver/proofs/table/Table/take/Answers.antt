@@ -2,7 +2,7 @@ use Rattle.std.proofs.Common.{arith}
 use Rattle.rules.specs.View.{view_of}
 use Rattle.solver.proofs.InTable.{sized_in, prepared_in}
 use Rattle.solver.proofs.Adding.{fields}
-use Rattle.solver.proofs.Progress.{step_taken, step_unmet}
+use Rattle.solver.proofs.Progress.{step_taken}
 use Rattle.solver.proofs.table.Table.take.Goals as goal
 
 pub overflow_cast-target : goal.overflow_cast-target
@@ -19,12 +19,7 @@ forget-requires g c =
     let x = fields (sized_in c.args.self.now).formed _ _ c.requires.0 in
     (x.least, x.most, c.requires.2)
 
-pub returns-in-Some-clause-taken : goal.returns-in-Some-clause-taken
+pub returns-clause-taken : goal.returns-clause-taken
 unfolding view_of
-returns-in-Some-clause-taken g c f =
-    step_taken (prepared_in c.args.self.now) _ c.part_named-part.ensures c.row-row.ensures _ f (c.requires.0 f) (c.in-Some.ensures _)
-
-pub returns-in-None-clause-taken : goal.returns-in-None-clause-taken
-unfolding view_of
-returns-in-None-clause-taken g c f =
-    absurd (step_unmet (prepared_in c.args.self.now) _ c.part_named-part.ensures c.row-row.ensures _ f (c.requires.0 f) (c.in-None.ensures _))
+returns-clause-taken g c f =
+    step_taken (prepared_in c.args.self.now) _ c.part_named-part.ensures c.row-row.ensures _ f (c.requires.0 f) _ (c.step-outcome.ensures _)
