@@ -97,34 +97,74 @@ impl Standing {
         Some(idle)
     }
 
-    // Rules 4.3 to 4.7: a method for each kind, by its row in the table of rules. No target in range is above 256.
+    // Rules 4.3 to 4.7, in place, by the constraint at the start of the part and its row, at which only some rules look. No target in range is above 256.
+    fn change(
+        &mut self,
+        kind: Kind,
+        part: &[u8],
+        row: &[Entry],
+        p: u32,
+        t: u32,
+        r: u32,
+    ) -> Option<bool>
+        ensures { (n : ℕ) → Asked (kind_of kind) p n part.now row.now t r
+            → Told result (view p self.new) (view p self.old) t (rule (kind_of kind) (subject_in p n part.now) (view p self.old) t r) }
+    {
+        match kind {
+            Kind::Root => {
+                let bound = root_step(part, p, t);
+                self.lower(t, bound)
+            }
+            Kind::Sum => {
+                let total = sum_step(part, row, &self.bounds, p, t);
+                self.lower(t, total)
+            }
+            Kind::Zero => {
+                let met = bound_at(&self.bounds, t as usize, p) == 0;
+                self.mark(t, met)
+            }
+            Kind::Product => {
+                let met = product_met(part, &self.marks, t);
+                self.mark(t, met)
+            }
+            Kind::Digits => {
+                let met = digits_met(part, row, &self.bounds, &self.marks, p, t, r);
+                self.mark(t, met)
+            }
+        }
+    }
+
+    // A step of any kind.
+    pub fn step(mut self, kind: Kind, part: &[u8], row: &[Entry], p: u32, t: u32, r: u32) -> Outcome
+        ensures { (n : ℕ) → Asked (kind_of kind) p n part.now row.now t r
+            → Gives p result (view p self) t (rule (kind_of kind) (subject_in p n part.now) (view p self) t r) }
+    {
+        let idle = self.change(kind, part, row, p, t, r);
+        Outcome { next: self, idle }
+    }
+
+    // A method for each kind, by its row in the table of rules.
     // Stays: parameters, since each method takes just what its rule looks at, and a struct of all would be made for one call.
 
-    pub fn root(mut self, part: &[u8], p: u32, t: u32) -> Outcome
+    pub fn root(self, part: &[u8], p: u32, t: u32) -> Outcome
         ensures { (n r : ℕ) (row : List Entry) → Asked laws.Root p n part.now row t r
             → Gives p result (view p self) t (rule laws.Root (subject_in p n part.now) (view p self) t r) }
     {
-        let bound = root_step(part, p, t);
-        let idle = self.lower(t, bound);
-        Outcome { next: self, idle }
+        self.step(Kind::Root, part, &[], p, t, 0)
     }
 
-    pub fn sum(mut self, part: &[u8], row: &[Entry], p: u32, t: u32) -> Outcome
+    pub fn sum(self, part: &[u8], row: &[Entry], p: u32, t: u32) -> Outcome
         ensures { (n r : ℕ) → Asked laws.Sum p n part.now row.now t r
             → Gives p result (view p self) t (rule laws.Sum (subject_in p n part.now) (view p self) t r) }
     {
-        let total = sum_step(part, row, &self.bounds, p, t);
-        let idle = self.lower(t, total);
-        Outcome { next: self, idle }
+        self.step(Kind::Sum, part, row, p, t, 0)
     }
 
-    pub fn zero(mut self, p: u32, t: u32) -> Outcome
+    pub fn zero(self, p: u32, t: u32) -> Outcome
         ensures { (n r : ℕ) (part : List ℕ) (row : List Entry) → Asked laws.Zero p n part row t r
             → Gives p result (view p self) t (rule laws.Zero (subject_in p n part) (view p self) t r) }
     {
-        let met = bound_at(&self.bounds, t as usize, p) == 0;
-        let idle = self.mark(t, met);
-        Outcome { next: self, idle }
+        self.step(Kind::Zero, &[], &[], p, t, 0)
     }
 
     pub fn product(mut self, part: &[u8], t: u32) -> Outcome
@@ -136,27 +176,11 @@ impl Standing {
         Outcome { next: self, idle }
     }
 
-    pub fn digits(mut self, part: &[u8], row: &[Entry], p: u32, t: u32, r: u32) -> Outcome
+    pub fn digits(self, part: &[u8], row: &[Entry], p: u32, t: u32, r: u32) -> Outcome
         ensures { (n : ℕ) → Asked laws.Digits p n part.now row.now t r
             → Gives p result (view p self) t (rule laws.Digits (subject_in p n part.now) (view p self) t r) }
     {
-        let met = digits_met(part, row, &self.bounds, &self.marks, p, t, r);
-        let idle = self.mark(t, met);
-        Outcome { next: self, idle }
-    }
-
-    // A step of any kind, by the constraint at the start of the part and its row, at which only some rules look.
-    pub fn step(self, kind: Kind, part: &[u8], row: &[Entry], p: u32, t: u32, r: u32) -> Outcome
-        ensures { (n : ℕ) → Asked (kind_of kind) p n part.now row.now t r
-            → Gives p result (view p self) t (rule (kind_of kind) (subject_in p n part.now) (view p self) t r) }
-    {
-        match kind {
-            Kind::Root => self.root(part, p, t),
-            Kind::Sum => self.sum(part, row, p, t),
-            Kind::Zero => self.zero(p, t),
-            Kind::Product => self.product(part, t),
-            Kind::Digits => self.digits(part, row, p, t, r),
-        }
+        self.step(Kind::Digits, part, row, p, t, r)
     }
 }
 
