@@ -11,6 +11,7 @@ use crate::marking::lowest_key;
 use crate::table::Table;
 
 // Marks signals until no step marks any, writes the steps after those of the phase before, and counts all.
+#[inline(never)]
 pub(crate) fn add_marks(table: &Table, before: Phase, output: &mut [u8]) -> Phase
     requires { before.count ≤ (sizes_in table.now).n }
     ensures { (f : ℕ → ℕ) → Marked (given (circuit_in table.now) f) (view (sizes_in table.now).p before.standing)
