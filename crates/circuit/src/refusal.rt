@@ -58,7 +58,8 @@ impl Reason {
     }
 }
 
-// A reason and a place: an offset, a step's number, .. (0 where the reason names none).
+// A reason and a place: an offset, a step's number, ..
+// Stays: place 0 where the reason names none, as the refusals of the calls are (docs/RULES.md, 6.2).
 #[derive(Clone, Copy, Debug, PartialEq, Eq)]
 pub struct Refusal {
     pub reason: Reason,

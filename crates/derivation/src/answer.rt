@@ -1,7 +1,7 @@
 // What the derivation call answers.
 
 use std::fmt;
-use tags::shown::Shown;
+use tags::answer::Shown;
 
 // "fixed" if every output is marked, else "open"
 #[derive(Clone, Copy, Debug, PartialEq, Eq)]

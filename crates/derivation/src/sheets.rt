@@ -10,7 +10,8 @@ ghost use Rattle.derivation.specs.Inner.{first_view};
 
 use rules::standing::Standing;
 use tags::first::lower_inputs;
-use tags::shown::{Shown, show};
+use tags::answer::Shown;
+use tags::shown::show;
 use tags::tagged::Tagged;
 
 // Rule 3.2: the start, the bounds of inputs lowered to the limits of the tags on them.

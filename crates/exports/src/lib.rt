@@ -27,7 +27,7 @@ use runs::answer::RunAnswer;
 use runs::call::{first_run, next_run};
 use solver::answer::SolverAnswer;
 use solver::call::solve;
-use tags::shown::Shown;
+use tags::answer::Shown;
 
 // What one of the returned value's halves holds.
 const HALF: u64 = 1 << 32;

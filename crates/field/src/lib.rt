@@ -26,7 +26,8 @@ fn at_most(p: u32, v: u32, q: u32) -> bool
 }
 
 // The first place from start to end whose entry times p is at most q modulo 4,294,967,296; end where there is none, from which the walk goes on.
-// Stays: two places a turn; by a `for` over each place the test of the largest prime took 7.5 µs for 4.4.
+// Stays: two places a turn; by a `for` over each place the test of the largest prime took 7.5 µs for 4.4. The end is no number for none, the walk goes on
+// from it.
 fn next_candidate(inverses: &[u32], p: u32, q: u32, start: usize, end: usize) -> usize
     requires { (start ≤ end) × (end ≤ length inverses.now) }
     ensures { Next inverses.now p q start end result }

@@ -32,7 +32,6 @@ pub(crate) fn is_live(entry: &Entry, marks: &[bool]) -> bool
 }
 
 // The bound of an entry if it is one, else 0.
-// Stays, as below: bounds, marks and p as parameters, since a struct of them would be made and taken apart for one call.
 #[tactic(auto, unfolding(crate::specs::Live::live_bound))]
 fn live_bound(entry: &Entry, bounds: &[u32], marks: &[bool], p: u32) -> u32
     ensures { result ≡ live_bound p bounds.now marks.now entry.now }

@@ -33,7 +33,7 @@ pub(crate) fn weight_of(coef: u32, scale: u32, p: u32) -> u32
 }
 
 // The weights of the digits by the scale of a reference, and weight times bound.
-// Stays: two slices, since the loop over both takes several at once; one at a time, a digits step takes 1.5 times as long.
+// Stays: weights and products apart, so that the loop over both takes several at once; one at a time, renewals on 30 digits took 1.9 times as long.
 #[derive(Clone, Copy)]
 pub(crate) struct Weighed<'a> {
     pub(crate) weights: &'a [u32],

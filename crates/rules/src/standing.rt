@@ -90,6 +90,7 @@ impl Standing {
         }
         let at = t as usize;
         let mut idle = true;
+        // Stays: as in `lower`.
         if at < 257 {
             idle = self.marks[at];
             self.marks[at] = true;

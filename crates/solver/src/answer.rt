@@ -1,7 +1,7 @@
 // What the solver call answers.
 
 use derivation::answer::Verdict;
-use tags::shown::Shown;
+use tags::answer::Shown;
 
 // How many signals are marked, the verdict, what is shown of the sheet and the bytes of the derivation written.
 #[derive(Clone, Copy, Debug, PartialEq, Eq)]

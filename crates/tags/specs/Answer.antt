@@ -8,7 +8,7 @@ use Rattle.tags.specs.Tag.{Sheet, limit}
 use Rattle.tags.specs.declared.tag.TagKind.{TagKind}
 use Rattle.tags.specs.declared.tag.TagKind.TheVariants.{Binary, Maxbit, Maxvalue}
 use Rattle.tags.specs.declared.tag.Tag.{Tag}
-use Rattle.tags.specs.declared.shown.Shown.{Shown}
+use Rattle.tags.specs.declared.answer.Shown.{Shown}
 
 abbrev pub kind_in : TagKind → tag.Kind
 kind_in Binary = tag.Binary

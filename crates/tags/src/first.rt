@@ -25,7 +25,7 @@ fn lower_by(sheet: &[u8], bounds: &mut [u32], i: u32, k: u32)
 }
 
 // Rule 3.2: lowers the bound of each input, 1 to i, to the limits of all tags on it.
-// Stays: it serves any bytes and any i, which a struct of a circuit and its sheet would not.
+// Stays: a public function that asks nothing of the bytes; a struct of a circuit and its sheet would ask more of its callers.
 pub fn lower_inputs(sheet: &[u8], bounds: &mut [u32], i: u32)
     ensures { Lowered i (sheet_of sheet.now) bounds.old bounds.new }
 {

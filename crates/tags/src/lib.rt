@@ -2,6 +2,7 @@
 
 #![tactic(auto)]
 
+pub mod answer;
 pub mod first;
 pub mod sheet;
 pub mod shown;

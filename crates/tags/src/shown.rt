@@ -7,16 +7,10 @@ ghost use Rattle.tags.specs.Tag.{on_other, is_shown, shown_of, not_missed, shown
 ghost use Rattle.tags.specs.Sheet.{sheet_of};
 ghost use Rattle.tags.specs.Answer.{tag_of, shown_in};
 
+use crate::answer::Shown;
 use crate::sheet::count_of;
 use crate::tag::Tag;
 use circuit::run::value_of;
-
-// How many tags on signals other than inputs are shown, and the number of the first that isn't.
-#[derive(Clone, Copy, Debug, PartialEq, Eq)]
-pub struct Shown {
-    pub count: u32,
-    pub missed: Option<u32>,
-}
 
 impl Tag {
     // Whether bounds show the tag.
@@ -70,7 +64,7 @@ impl<'a> Showing<'a> {
 }
 
 // Rule 6.10, for i inputs.
-// Stays: it serves any bytes and any i, which a struct of a circuit and its sheet would not.
+// Stays: a public function that asks nothing of the bytes; a struct of a circuit and its sheet would ask more of its callers.
 #[tactic(auto, using(crate::proofs::ShownLaws::found_number), unfolding(crate::specs::Tag::shown_by))]
 pub fn show(sheet: &[u8], bounds: &[u32], i: u32) -> Shown
     ensures { shown_in result ≡ shown_by i (sheet_of sheet.now) (values_in bounds.now) }

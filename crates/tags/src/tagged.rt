@@ -9,13 +9,14 @@ ghost use Rattle.tags.specs.Sheet.{sheet_of, sheet_on};
 ghost use Rattle.tags.specs.Tagged.{tagged_call};
 ghost use Rattle.tags.specs.Answer.{Lowered, shown_in};
 
+use crate::answer::Shown;
 use crate::first::{first_broken, lower_inputs};
 use crate::sheet::check_sheet;
-use crate::shown::{Shown, show};
+use crate::shown::show;
 use circuit::file::CircuitFile;
 use circuit::refusal::Refusal;
 
-#[derive(Clone, Copy)]
+#[derive(Clone, Copy, Debug, PartialEq, Eq)]
 pub struct Tagged<'a> {
     pub file: CircuitFile<'a>,
     pub sheet: &'a [u8],

@@ -11,7 +11,7 @@ use pair::PairAnswer;
 use renewal::answer::RenewalAnswer;
 use solver::answer::SolverAnswer;
 use std::io::{IsTerminal, Write};
-use tags::shown::Shown;
+use tags::answer::Shown;
 
 // One byte more than the longest circuit, the longest derivation and the longest sheet: no more is read of a file, and one that has so many is refused.
 const CIRCUIT: u64 = 60001;

@@ -5,7 +5,7 @@ use circuit::reader::{CircuitAnswer, Sizes, check_circuit};
 use derivation::answer::Verdict;
 use std::fmt;
 use std::fmt::{Display, Formatter};
-use tags::shown::Shown;
+use tags::answer::Shown;
 
 // The bytes before the first step of a derivation, and those of a step.
 const HEADER: usize = 7;
