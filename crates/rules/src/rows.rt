@@ -98,7 +98,8 @@ pub fn start_of(table: &[u32], k: u32) -> usize
     coef_at(table, k as usize) as usize / 6 + k as usize
 }
 
-// Makes the row of constraint k, unless it has been made.
+// Makes the row of constraint k, unless it has been made; the end of a row that hasn't is 0, and no row's end is, since the constant has an entry.
+// Stays: constraints, ends and rows apart, since the kit proves no ghost field beside a lent slice that is written.
 pub fn make_row(constraints: &Constraints, ends: &mut [u32], rows: &mut [Entry], k: u32)
     ensures { Roomy (length constraints.now.file.bytes.now) constraints.now.file.sizes.m ends.old rows.old → 1 ≤ k → k ≤ constraints.now.file.sizes.m
         → Rows (circuit_of constraints.now.file.bytes.now) constraints.now.offsets ends.old rows.old
