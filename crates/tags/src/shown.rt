@@ -57,7 +57,8 @@ impl<'a> Showing<'a> {
 
     // The first of them that isn't shown.
     fn first_missed(&self) -> Option<u32>
-        ensures { let T = sheet_of self.now.sheet.now in result ≡ found (first_from (not_missed self.now.inputs (values_in self.now.bounds.now) T.tag) 1 T.count) }
+        ensures { let T = sheet_of self.now.sheet.now in
+            result ≡ found (first_from (not_missed self.now.inputs (values_in self.now.bounds.now) T.tag) 1 T.count) }
     {
         (1..=count_of(self.sheet)).find(|k| self.shown_at(*k) == Some(false))
     }
