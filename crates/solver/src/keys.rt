@@ -29,6 +29,7 @@ pub(crate) struct Key {
 pub(crate) type Known<T> = Option<Option<T>>;
 
 // A step that a phase takes: its key, its constraint, 0 for a zero step, and its reference, 0 where its kind has none.
+// Stays: 0 where there is none, as the step's bytes have it (rule 2.2); an Option would be opened to 0 by its one reader.
 #[derive(Clone, Copy, Debug, PartialEq, Eq)]
 pub(crate) struct Choice {
     pub key: Key,

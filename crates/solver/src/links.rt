@@ -6,7 +6,7 @@ ghost use Rattle.solver.specs.Links.{Linkable, Linked, SameOwners, Owned};
 use rules::rows::Entry;
 
 // Of an entry: one more than the place of the last entry before it with the same signal, 0 where there is none; and whose row it is in.
-// Stays: a list linked by places in one array, for want of a heap.
+// Stays: a list linked by places in one array, for want of a heap; 0 for none, since an Option would take 6 bytes for 4, 10,513 times.
 #[derive(Clone, Copy, Debug, PartialEq, Eq)]
 pub(crate) struct Link {
     pub before: u16,

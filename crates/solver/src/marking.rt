@@ -133,6 +133,7 @@ fn look_at(
 
 // The step of the first place with the lowest key: that of a constraint, or the zero step. Where a key is loose and below those before, its references
 // are searched, up to the first whose step meets its rule.
+// Stays: nested loops over constraints and references, left by a label, and so over 40 lines, are a form of docs/DECISIONS.md.
 pub(crate) fn lowest_key(
     table: &Table,
     bounds: &[u32],

@@ -53,7 +53,7 @@ impl<'a> Table<'a> {
 
     // Forgets what is kept of the constraints that name the signal.
     // Stays: `while`, since a walk along links has no range; and a test of the index, since of a slice after `get_mut` nothing is known.
-    pub fn forget<T: Copy>(&self, kept: &mut [Option<T>], signal: u32)
+    pub(crate) fn forget<T: Copy>(&self, kept: &mut [Option<T>], signal: u32)
         requires { (1 ≤ signal) × (signal ≤ (circuit_in self.now).n) × ((circuit_in self.now).m < length kept.old) }
         ensures { Forgotten (circuit_in self.now) signal kept.old kept.new }
     {
@@ -69,7 +69,7 @@ impl<'a> Table<'a> {
     }
 
     // Writes a step that adds as number `index`, counted from 0, takes it, and forgets what is kept of the constraints that name its target.
-    pub fn take<T: Copy>(
+    pub(crate) fn take<T: Copy>(
         &self,
         standing: Standing,
         choice: Choice,
@@ -117,6 +117,7 @@ impl<'a> Table<'a> {
 }
 
 // Makes the rows of all constraints, and notes whose entries they hold.
+// Stays: constraints, ends and rows apart, since the kit proves no ghost field beside a lent slice that is written.
 fn make_rows(constraints: &Constraints, ends: &mut [u32], rows: &mut [Entry], links: &mut [Link])
     requires { Blank (length constraints.now.file.bytes.now) constraints.now.file.sizes.m ends.old rows.old links.old }
     ensures { Made (circuit_of constraints.now.file.bytes.now) constraints.now.offsets constraints.now.file.sizes.m ends.new rows.new links.new }
