@@ -27,7 +27,13 @@ fn judged(
     if marks.len() < tagged.file.sizes.n as usize {
         return Err(Reason::MarksRoom.at(0));
     }
-    let last = walk_all(&tagged, derivation, &mut [], IdleSteps::Refused)?;
+    let last = walk_all(
+        &tagged.file,
+        tagged.sheet,
+        derivation,
+        &mut [],
+        IdleSteps::Refused,
+    )?;
     Ok(hand_over(&tagged, &last, marks))
 }
 

@@ -56,6 +56,6 @@ pub(crate) fn hand_over(tagged: &Tagged, last: &Standing, marks: &mut [u8]) -> J
     Judgement {
         count: write_marks(marks, &last.marks, sizes.n),
         verdict: verdict_of(&last.marks, sizes),
-        shown: shown_of(tagged, &last.bounds),
+        shown: shown_of(tagged.sheet, &last.bounds, sizes),
     }
 }

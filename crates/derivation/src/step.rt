@@ -77,7 +77,7 @@ impl Step {
         target & constraint & reference
     }
 
-    // Stays: the table, the ends and the rows apart, since a struct that lends them would have to give back what is written through it; no plainer.
+    // Stays: constraints, ends and rows apart, since the kit proves no ghost field beside a lent slice that is written.
     // Takes the step on a standing. A row that it looks at is made first.
     pub(crate) fn take(
         self,
@@ -113,6 +113,7 @@ pub fn part_named<'a>(kind: Kind, circuit: &'a [u8], table: &[u32], k: u32) -> &
     }
 }
 
+// Stays: constraints, ends and rows apart, as in `take`.
 // Makes the row of constraint k, unless it is there, if a step of this kind names a constraint and looks at its row.
 pub(crate) fn keep_row(
     kind: Kind,

@@ -11,12 +11,11 @@ ghost use Rattle.derivation.specs.Inner.{padded_by, tagged_in, Noted};
 use crate::sheets::start_with;
 use crate::step::Step;
 use circuit::bytes::u16_at;
-use circuit::file::Constraints;
+use circuit::file::{CircuitFile, Constraints};
 use circuit::reader::has_mark;
 use circuit::refusal::{Reason, Refusal};
 use rules::rows::{Entry, MOST_ENTRIES};
 use rules::standing::{Outcome, Standing};
-use tags::tagged::Tagged;
 
 // The letter D of a derivation's mark, its version, and the most steps that it may have.
 const DERIVATION_LETTER: u32 = 68;
@@ -74,23 +73,24 @@ fn note(notes: &mut [bool], k: usize, idle: bool)
 
 // All steps from the start; which of them are idle is noted. Rows are made when a step looks at them.
 fn walk(
-    tagged: &Tagged,
+    file: &CircuitFile,
+    sheet: &[u8],
     derivation: &[u8],
     rows: &mut [Entry],
     notes: &mut [bool],
     idle_steps: IdleSteps,
 ) -> Result<Standing, Refusal>
-    requires { length tagged.now.file.bytes.now / 6 + tagged.now.file.sizes.m + 1 ≤ length rows.old }
-    ensures way { let P = tagged_in tagged.now.file.bytes.now tagged.now.sheet.now in
-        answer_by (view tagged.now.file.sizes.p) result ≡ walked (padded_by idle_steps) P derivation.now }
-    ensures noted { let P = tagged_in tagged.now.file.bytes.now tagged.now.sheet.now in
+    requires { length file.now.bytes.now / 6 + file.now.sizes.m + 1 ≤ length rows.old }
+    ensures way { let P = tagged_in file.now.bytes.now sheet.now in
+        answer_by (view file.now.sizes.p) result ≡ walked (padded_by idle_steps) P derivation.now }
+    ensures noted { let P = tagged_in file.now.bytes.now sheet.now in
         OnOk result (Noted P (laws.start P) derivation.now (length notes.old) notes.new) }
 {
-    let sizes = tagged.file.sizes;
-    let constraints = Constraints::new(tagged.file);
+    let sizes = file.sizes;
+    let constraints = Constraints::new(*file);
     let mut ends = [0u32; 513];
     let mut outcome = Outcome {
-        next: start_with(tagged.sheet, sizes.p, sizes.i),
+        next: start_with(sheet, sizes.p, sizes.i),
         idle: None,
     };
     let count = u16_at(derivation, 5) as usize;
@@ -114,37 +114,40 @@ fn walk(
 
 // The walk with rows of N entries.
 fn walk_sized<const N: usize>(
-    tagged: &Tagged,
+    file: &CircuitFile,
+    sheet: &[u8],
     derivation: &[u8],
     notes: &mut [bool],
     idle_steps: IdleSteps,
 ) -> Result<Standing, Refusal>
-    requires { (length tagged.now.file.bytes.now / 6 + tagged.now.file.sizes.m + 1 ≤ N) × (N ≤ MOST_ENTRIES) }
-    ensures way { let P = tagged_in tagged.now.file.bytes.now tagged.now.sheet.now in
-        answer_by (view tagged.now.file.sizes.p) result ≡ walked (padded_by idle_steps) P derivation.now }
-    ensures noted { let P = tagged_in tagged.now.file.bytes.now tagged.now.sheet.now in
+    requires { (length file.now.bytes.now / 6 + file.now.sizes.m + 1 ≤ N) × (N ≤ MOST_ENTRIES) }
+    ensures way { let P = tagged_in file.now.bytes.now sheet.now in
+        answer_by (view file.now.sizes.p) result ≡ walked (padded_by idle_steps) P derivation.now }
+    ensures noted { let P = tagged_in file.now.bytes.now sheet.now in
         OnOk result (Noted P (laws.start P) derivation.now (length notes.old) notes.new) }
 {
     let mut rows = [Entry::NONE; N];
-    walk(tagged, derivation, &mut rows, notes, idle_steps)
+    walk(file, sheet, derivation, &mut rows, notes, idle_steps)
 }
 
+// Stays: one walk for marker and renewal, with notes that may be none (docs/DECISIONS.md, 22).
 // All steps from the start. A small file gets a small array for its rows, since clearing a large one takes longer than a few steps.
 pub fn walk_all(
-    tagged: &Tagged,
+    file: &CircuitFile,
+    sheet: &[u8],
     derivation: &[u8],
     notes: &mut [bool],
     idle_steps: IdleSteps,
 ) -> Result<Standing, Refusal>
-    ensures way { let P = tagged_in tagged.now.file.bytes.now tagged.now.sheet.now in
-        answer_by (view tagged.now.file.sizes.p) result ≡ walked (padded_by idle_steps) P derivation.now }
-    ensures noted { let P = tagged_in tagged.now.file.bytes.now tagged.now.sheet.now in
+    ensures way { let P = tagged_in file.now.bytes.now sheet.now in
+        answer_by (view file.now.sizes.p) result ≡ walked (padded_by idle_steps) P derivation.now }
+    ensures noted { let P = tagged_in file.now.bytes.now sheet.now in
         OnOk result (Noted P (laws.start P) derivation.now (length notes.old) notes.new) }
 {
-    let sizes = tagged.file.sizes;
-    if tagged.file.bytes.len() / 6 + sizes.m as usize + 1 <= FEW_ENTRIES {
-        walk_sized::<FEW_ENTRIES>(tagged, derivation, notes, idle_steps)
+    let sizes = file.sizes;
+    if file.bytes.len() / 6 + sizes.m as usize + 1 <= FEW_ENTRIES {
+        walk_sized::<FEW_ENTRIES>(file, sheet, derivation, notes, idle_steps)
     } else {
-        walk_sized::<MOST_ENTRIES>(tagged, derivation, notes, idle_steps)
+        walk_sized::<MOST_ENTRIES>(file, sheet, derivation, notes, idle_steps)
     }
 }

@@ -28,7 +28,13 @@ fn renewed(
     let tagged = Tagged::read(circuit, sheet)?;
     check_frame(derivation)?;
     let mut idle = [false; STEPS];
-    walk_all(&tagged, derivation, &mut idle, IdleSteps::LetPass)?;
+    walk_all(
+        &tagged.file,
+        tagged.sheet,
+        derivation,
+        &mut idle,
+        IdleSteps::LetPass,
+    )?;
     let needed = derivation.len();
     if output.len() < needed {
         return Err(Reason::OutputRoom.at(0));

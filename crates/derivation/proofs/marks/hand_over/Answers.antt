@@ -1,6 +1,7 @@
 -- `derivation::marks::hand_over`: the marks, then the verdict.
 use Rattle.std.proofs.Common.{rules, arith, ◌≡◌, length}
 use Rattle.circuit.proofs.Sized.{call_sized}
+use Rattle.tags.proofs.SheetLaws.{sheet_fitting}
 use Rattle.rules.specs.View.{view_of}
 use Rattle.derivation.proofs.CallLaws.{few_signals}
 use Rattle.derivation.proofs.marks.hand_over.Goals as goal
@@ -13,5 +14,6 @@ write_marks-requires c =
 pub returns-clause-answer : goal.returns-clause-answer
 unfolding view_of
 returns-clause-answer c =
+    let t = c.args.tagged.now in
     let long : length c.args.last.now.bounds ≡ 257 = search rules in
-    rw (c.write_marks.ensures.count, c.verdict_of.ensures, c.shown_of.ensures (omega (arith, few_signals _ _ (call_sized c.args.tagged.now.file.read))))
+    rw (c.write_marks.ensures.count, c.verdict_of.ensures, c.shown_of.ensures (sheet_fitting t.file.sizes t.sheet.now _ t.fits) (omega (arith, few_signals _ _ (call_sized c.args.tagged.now.file.read))))

@@ -9,20 +9,20 @@ use Rattle.derivation.proofs.walk.walk.Goals as goal
 
 pub loop-k-init : goal.loop-k-init
 loop-k-init c =
-    let Z = call_sized c.args.tagged.now.file.read in
+    let Z = call_sized c.args.file.now.read in
     let long = length-replicate {A = ℕ} 513 0 in
     (laws.none_made Z long (λ k h. get_or-replicate {A = ℕ} 513 k 0 0 h) c.requires, laws.walk_starts (start_is _ _ Z _ c.start_with.ensures))
 
 pub returns-in-Err-clause-way : goal.returns-in-Err-clause-way
 returns-in-Err-clause-way c =
-    let Z = call_sized c.args.tagged.now.file.read in
+    let Z = call_sized c.args.file.now.read in
     rw c.at.ensures (laws.walk_refused c.loop-k.invariant.1 (omega (arith, c.u16_at-count.ensures.0)) _ (c.in-Err.ensures _ (sym Z.is_n) (sym Z.is_m)))
 
 pub returns-in_default-clause-way : goal.returns-in_default-clause-way
 returns-in_default-clause-way c =
-    let t = c.args.tagged.now in
-    let Z = call_sized t.file.read in
-    let P = tagged_in t.file.bytes.now t.sheet.now in
+    let t = c.args.file.now in
+    let Z = call_sized t.read in
+    let P = tagged_in t.bytes.now c.args.sheet.now in
     let R = c.in-Ok.ensures P (sym Z.is_n) (sym Z.is_m) in
     let G = rw (c.new-constraints.ensures, c.in_default.is) at c.take-outcome.ensures in
     rw c.at-in_default.ensures
@@ -30,9 +30,9 @@ returns-in_default-clause-way c =
 
 pub returns-then-refused-clause-way : goal.returns-then-refused-clause-way
 returns-then-refused-clause-way c =
-    let t = c.args.tagged.now in
-    let Z = call_sized t.file.read in
-    let P = tagged_in t.file.bytes.now t.sheet.now in
+    let t = c.args.file.now in
+    let Z = call_sized t.read in
+    let P = tagged_in t.bytes.now c.args.sheet.now in
     let R = c.in-Ok.ensures P (sym Z.is_n) (sym Z.is_m) in
     let G = rw (c.new-constraints.ensures, c.in-Some.is) at c.take-outcome.ensures in
     rw c.at-then-refused.ensures
@@ -41,9 +41,9 @@ returns-then-refused-clause-way c =
 
 pub loop-k-preserved : goal.loop-k-preserved
 loop-k-preserved c =
-    let t = c.args.tagged.now in
-    let Z = call_sized t.file.read in
-    let P = tagged_in t.file.bytes.now t.sheet.now in
+    let t = c.args.file.now in
+    let Z = call_sized t.read in
+    let P = tagged_in t.bytes.now c.args.sheet.now in
     let R = c.in-Ok.ensures P (sym Z.is_n) (sym Z.is_m) in
     let G = (rw (c.new-constraints.ensures, c.in-Some.is) at c.take-outcome.ensures) P.first R.1 c.loop-k.invariant.0 in
     (G.0, laws.walk_on c.loop-k.invariant.1 (omega (arith, c.u16_at-count.ensures.0)) _ R G.1 (sym c.refuse-refused.ensures ∙ c.if-refused.false) c.note.ensures)

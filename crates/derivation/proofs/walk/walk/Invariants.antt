@@ -6,6 +6,6 @@ use Rattle.derivation.proofs.walk.walk.Given as goal
 
 abbrev pub invariant-loop-k : goal.invariant-loop-k
 invariant-loop-k l =
-    let file = l.tagged.file in
+    let file = l.file in
     Kept file.bytes.now file.sizes l.constraints.offsets l.ends l.rows
-    × Walking (padded_by l.idle_steps) (tagged_in file.bytes.now l.tagged.sheet.now) l.derivation l.notes l.k (view file.sizes.p l.outcome.next)
+    × Walking (padded_by l.idle_steps) (tagged_in file.bytes.now l.sheet) l.derivation l.notes l.k (view file.sizes.p l.outcome.next)

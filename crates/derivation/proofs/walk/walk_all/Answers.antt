@@ -4,5 +4,5 @@ use Rattle.circuit.proofs.Sized.{call_sized}
 use Rattle.derivation.proofs.CallLaws.{most_room}
 use Rattle.derivation.proofs.walk.walk_all.Goals as goal
 
-pub walk_sized-requires-else-tagged-sizes-le-FEW_ENTRIES : goal.walk_sized-requires-else-tagged-sizes-le-FEW_ENTRIES
-walk_sized-requires-else-tagged-sizes-le-FEW_ENTRIES c = (most_room _ _ (call_sized c.args.tagged.now.file.read), search rules)
+pub walk_sized-requires-else-file-sizes-le-FEW_ENTRIES : goal.walk_sized-requires-else-file-sizes-le-FEW_ENTRIES
+walk_sized-requires-else-file-sizes-le-FEW_ENTRIES c = (most_room _ _ (call_sized c.args.file.now.read), search rules)
