@@ -53,7 +53,7 @@ fn told(tagged: &Tagged, last: Standing, steps: u32) -> Solved
     Solved {
         count: count_marks(&last.marks, sizes.n),
         verdict: verdict_of(&last.marks, sizes),
-        shown: shown_of(tagged, &last.bounds),
+        shown: shown_of(tagged.sheet, &last.bounds, sizes),
         bytes: 7 + 7 * (steps as usize),
     }
 }
