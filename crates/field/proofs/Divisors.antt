@@ -2,16 +2,15 @@
 -- Assumes nothing.
 use mathlib.Core.Path.{◌≡◌, refl, sym, ap, ◌∙◌}
 use mathlib.Core.Logic.{◌⊎◌, inl, inr, ⊎_elim}
-use mathlib.Core.Bool.{true, false, not, true≢false}
+use mathlib.Core.Bool.{Bool, true, false, not, true≢false}
 use mathlib.Core.List.{List, [], ◌∷◌}
-use Prim.Native.Nat.{ℕ, zero, suc, ◌+◌, ◌*◌, ◌/◌, ◌%◌, ◌≤◌, ◌<◌}
+use Prim.Native.Nat.{ℕ, zero, suc, ◌+◌, ◌-◌, ◌*◌, ◌/◌, ◌%◌, ◌≤◌, ◌<◌}
 use native.Mathlib.Nat.{
   div-le_self,
   div-mul_cancel,
   div-mul-le_self,
   dvd_of_mod-eq-zero,
   dvd_trans,
-  eq-or-lt_of_le,
   le-div_iff_mul-le,
   mod-eq_of_lt,
   mod-eq-zero_of_dvd,
@@ -21,7 +20,13 @@ use native.Mathlib.Decide.{dec_le, ℕ_discrete}
 use native.Mathlib.Omega.{arith}
 use borrow.Author.Tests.{eq-eqb, ne_eqb, eqb-true, not-true, leb-true, leb-false}
 use lib.Dec.{eqb, leb}
-use lib.ListN.{length, get_or}
+use lib.ListN.{length, get_or, take, drop, length-take, length-drop}
+use Rattle.std.specs.Prelude.{None, Some}
+use Rattle.std.specs.List.{position, position_or_len}
+use Rattle.std.proofs.lemmas.Grind.{common_steps}
+use Rattle.std.proofs.lemmas.List.{get_or-take, get_or-drop}
+use Rattle.std.proofs.lemmas.List.Sums.{fails_before_first}
+use Rattle.std.proofs.lemmas.List.Quantifiers.{position-Some}
 use Rattle.field.specs.Prime.{no_divisor, odd_prime}
 use Rattle.field.specs.Divisors.{Enough, Next, Passed, complete, paired}
 use Rattle.field.proofs.Residue.{mul_mod_mod}
@@ -146,29 +151,57 @@ div_antitone p d e z h = (le-div_iff_mul-le z).1 (omega (arith, mul-le-mul_left 
 
 -- ---- the places that are passed
 
-pub passed_start : (vs : List ℕ) (p q start end : ℕ) → start ≤ end → Passed vs p q start end start
-passed_start vs p q start end h = record { from = omega arith; to = h; above = λ j g l. absurd (omega arith) }
+-- the entries of vs from start to end, and the test of one
+abbrev run : List ℕ → ℕ → ℕ → List ℕ
+run vs start end = take (end - start) (drop start vs)
 
-module _ {vs : List ℕ} {p q start end i : ℕ} (P : Passed vs p q start end i) where
-  pub passed_next : i < end → leb (p * get_or vs i 0 % 4294967296) q ≡ false → Passed vs p q start end (i + 1)
-  passed_next l e = record { from = omega (arith, P.from); to = omega arith; above = above }
-    where
-      above : (j : ℕ) → start ≤ j → j < i + 1 → q < p * get_or vs j 0 % 4294967296
-      above j h m =
-          ⊎_elim (λ (z : j ≡ i). rw z (leb-false (p * get_or vs i 0 % 4294967296) q e)) (λ (k : j < i). P.above j h k)
-          (eq-or-lt_of_le {n = j} {m = i} (omega arith))
+abbrev candidate : ℕ → ℕ → ℕ → Bool
+candidate p q v = leb (p * v % 4294967296) q
 
-  pub next_found : leb (p * get_or vs i 0 % 4294967296) q ≡ true → Next vs p q start end i
-  next_found e = record { passed = P; found = λ l. leb-true (p * get_or vs i 0 % 4294967296) q e }
+module _ (vs : List ℕ) (start end : ℕ) (h : start ≤ end) (l : end ≤ length vs) where
+  run_length : length (run vs start end) ≡ end - start
+  run_length = omega (arith, length-take (end - start) (drop start vs), length-drop start vs)
 
-  pub next_end : i ≡ end → Next vs p q start end end
-  next_end e = record { passed = rw e at P; found = λ l. absurd (omega arith) }
+  run_at : (j : ℕ) → start ≤ j → j < end → get_or vs j 0 ≡ get_or (run vs start end) (j - start) 0
+  run_at j from to =
+      let on : j ≡ start + (j - start) = omega arith in
+      ap (λ (k : ℕ). get_or vs k 0) on ∙ sym (get_or-take (end - start) (drop start vs) (j - start) 0 (omega arith) ∙ get_or-drop start vs (j - start) 0)
 
--- the second of two places
-module _ {vs : List ℕ} {p q start end i : ℕ} (P : Passed vs p q start end i) (l : i + 1 < end)
-    (e : leb (p * get_or vs i 0 % 4294967296) q ≡ false) where
-  pub passed_second : leb (p * get_or vs (i + 1) 0 % 4294967296) q ≡ false → Passed vs p q start end (i + 2)
-  passed_second t = let z : i + 1 + 1 ≡ i + 2 = omega arith in rw z at (passed_next (passed_next P (omega arith) e) l t)
+module _ {vs : List ℕ} {p q start end : ℕ} (h : start ≤ end) (l : end ≤ length vs) where
+  -- the entries before place k of the run are passed
+  passed_run : (k : ℕ) → start + k ≤ end
+      → ((j : ℕ) → j < k → q < p * get_or (run vs start end) j 0 % 4294967296)
+      → Passed vs p q start end (start + k)
+  passed_run k inside each =
+      record { from = omega arith; to = inside; above = λ j from to. rw (run_at vs start end h l j from (omega arith)) (each (j - start) (omega arith)) }
+
+  -- all of them
+  next_all : ((j : ℕ) → j < length (run vs start end) → q < p * get_or (run vs start end) j 0 % 4294967296) → Next vs p q start end end
+  next_all each =
+      let size = run_length vs start end h l in
+      let whole : start + (end - start) ≡ end = omega arith in
+      record { passed = rw whole at (passed_run (end - start) (omega arith) (λ j m. each j (omega arith))); found = λ z. absurd (omega arith) }
+
+  -- the least product is above q
+  pub next_above : (least : ℕ) → ((j : ℕ) → j < length (run vs start end) → least ≤ p * get_or (run vs start end) j 0 % 4294967296)
+      → q < least → Next vs p q start end end
+  next_above least each m = next_all (λ j z. omega (arith, each j z))
+
+  -- what is searched for and found, or not
+  pub next_found : (k : ℕ) → Some k ≡ position (candidate p q) (run vs start end) → Next vs p q start end (start + k)
+  next_found k e =
+      let F = position-Some (candidate p q) (run vs start end) k 0 (sym e) in
+      let inside : start + k < end = omega (arith, F.0, run_length vs start end h l) in
+      let here : start + k - start ≡ k = omega arith in
+      record {
+        passed = passed_run k (omega arith) (λ j m. leb-false _ q (F.2 j m));
+        found = λ z. rw (run_at vs start end h l (start + k) (omega arith) inside, here) (leb-true _ q F.1);
+      }
+
+  pub next_none : None ≡ position (candidate p q) (run vs start end) → Next vs p q start end end
+  next_none e =
+      let all : length (run vs start end) ≤ position_or_len (candidate p q) (run vs start end) = grind (arith, common_steps) in
+      next_all (λ j m. leb-false _ q (fails_before_first (candidate p q) (run vs start end) j 0 (omega arith)))
 
 -- ---- the walk over the table
 

@@ -6,7 +6,7 @@ use mathlib.Core.Bool.{Bool, true, false, not, cond}
 use Prim.Native.Nat.{ℕ, zero, suc, ◌+◌, ◌-◌, ◌*◌, ◌/◌, ◌%◌, ◌≤◌, ◌<◌}
 use native.Mathlib.Nat.{div-add-mod', mod-lt, mul-pos, mul-le-mul_left, mul-le-mul_right, le-div_iff_mul-le}
 use native.Mathlib.Omega.{arith}
-use borrow.Author.Tests.{le-ltb, lt-ltb}
+use borrow.Author.Tests.{lt-ltb}
 use Rattle.field.specs.Residue.{Congruent}
 use Rattle.field.specs.Inverse.{IsInverse, inverse, inverse_from}
 use Rattle.field.proofs.Residue.{
@@ -177,10 +177,6 @@ pub record Running (p c a b s t : ℕ) (even : Bool) : Type 0 where
   pub same : inverse_from (suc fuel) p a b s t even ≡ inverse p c
   pub sizes : Sizes p a b s t
 
-pub inverse_small : (p c : ℕ) → p < 2 → 0 ≡ inverse p c
-unfolding inverse
-inverse_small p c h = rw (le-ltb 1 p (omega arith))
-
 pub running_start : (p c : ℕ) → 1 < p → Running p c p (c % p) 0 1 true
 unfolding inverse
 running_start zero c h = absurd (omega arith)
@@ -204,10 +200,6 @@ running_again {p} {c} {a} {b} {s} {t} {even} h R = go R.fuel R.enough R.same
           same = sym (inverse_step (suc f) p a b s t even h) ∙ e;
           sizes = sizes_next p a b s t h R.sizes;
         }
-
-pub running_none : {p c a b s t : ℕ} {even : Bool} → b ≡ 0 → Running p c a b s t even → 0 ≡ inverse p c
-unfolding inverse_from
-running_none e R = rw e at R.same
 
 pub running_found : {p c a b s t : ℕ} {even : Bool} → b ≤ 1 → (b ≡ 0 → ⊥) → Running p c a b s t even → cond even t (p - t) ≡ inverse p c
 unfolding inverse_from

@@ -20,7 +20,7 @@ use Rattle.field.proofs.Residue.{
   zero_congruent,
   congruent_zero,
 }
-use Rattle.field.proofs.Euclid.{Shared, inverse_cases, inverse_zero}
+use Rattle.field.proofs.Euclid.{Shared, inverse_cases, inverse_zero, running_start, running_again, sizes_fit_lem}
 
 -- a factor of 1 is not 0
 factor_nonzero : {p : ℕ} (a b : ℕ) → 1 < p → Congruent p (a * b) 1 → a % p ≡ 0 → ⊥
@@ -94,15 +94,16 @@ inverse_absent (suc (suc p)) c n =
     (λ (g : 0 < c % suc (suc p)). ⊎_elim (λ j. absurd (n _ j)) (λ w. w.0) (inverse_cases (suc (suc p)) c (omega arith) g))
     (eq-zero-or-pos (c % suc (suc p)))
 
-pub the_inverse : {p c d : ℕ} → d ≡ inverse p c → (d ≡ inverse p c) × TheInverse p c d
-the_inverse {p} {c} {d} h = (
-  h,
-  record {
-    prime = λ P n. rw h (inverse_is c P n);
-    only = λ e i. h ∙ inverse_found p c e i;
-    absent = λ n. h ∙ inverse_absent p c n;
-  },
-)
+pub the_inverse : {p c d : ℕ} → d ≡ inverse p c → TheInverse p c d
+the_inverse {p} {c} h =
+    record {
+      prime = λ P n. rw h (inverse_is c P n);
+      only = λ e i. h ∙ inverse_found p c e i;
+      absent = λ n. h ∙ inverse_absent p c n;
+    }
+
+-- what the code's loop rests on, and what it ends with
+pub ruleset inverse_laws = (the_inverse, running_start, running_again, sizes_fit_lem)
 
 -- ---- modulo a prime
 

@@ -183,8 +183,8 @@ prime_odd p P l h =
     ∙ clear_no_divisor p 3 p (omega arith) refl (record { none = λ d m o q e. prime_undivided p d P m q e })
 
 -- the test holds exactly of the odd primes in range
-pub odd_prime_told : {p : ℕ} {b : Bool} → b ≡ odd_prime p → (b ≡ odd_prime p) × TellsOddPrime p b
-odd_prime_told {p} {b} e = (e, record { yes = yes; no = λ P. e ∙ prime_odd p P.prime P.least P.most })
+pub odd_prime_told : {p : ℕ} {b : Bool} → b ≡ odd_prime p → TellsOddPrime p b
+odd_prime_told {p} {b} e = record { yes = yes; no = λ P. e ∙ prime_odd p P.prime P.least P.most }
   where
     yes : b ≡ true → OddPrime p
     yes t =

@@ -1,7 +1,7 @@
 // The prime field of a circuit: the test for an odd prime, and the inverse modulo it.
 #![tactic(auto)]
 
-ghost use Rattle.std.specs.Prelude.{◌≡◌, true, ◌*◌, ◌%◌, ◌≤◌, ◌<◌, leb, length};
+ghost use Rattle.std.specs.Prelude.{◌≡◌, ℕ, true, ◌*◌, ◌%◌, ◌≤◌, ◌<◌, leb, length, get_or, position};
 ghost use Rattle.field.specs.Divisors.{Enough, Next, paired};
 ghost use Rattle.field.specs.Prime.{odd_prime, TellsOddPrime};
 
@@ -15,49 +15,53 @@ const PRIME_MOST: u32 = 2147483647;
 
 const SMALL_END: u32 = 1062961;
 
-// How many divisors are passed over before p is compared with a square again.
-const RUN: usize = 128;
-
-// Whether v times p is at most q modulo 4,294,967,296.
-fn at_most(p: u32, v: u32, q: u32) -> bool
-    ensures { result ≡ leb (p * v % 4294967296) q }
+// The least product of p and an entry, each modulo 4,294,967,296.
+fn least_product(run: &[u32], p: u32) -> u32
+    ensures { (j : ℕ) → j < length run.now → result ≤ p * get_or run.now j 0 % 4294967296 }
 {
-    p.wrapping_mul(v) <= q
+    let mut least = u32::MAX;
+    for v in run {
+        least = least.min(p.wrapping_mul(*v));
+    }
+    least
+}
+
+// The first place in a run whose entry times p is at most q modulo 4,294,967,296.
+fn candidate_in(run: &[u32], p: u32, q: u32) -> Option<usize>
+    ensures { result ≡ position (λ v. leb (p * v % 4294967296) q) run.now }
+{
+    run.iter().position(|v| p.wrapping_mul(*v) <= q)
 }
 
 // The first place from start to end whose entry times p is at most q modulo 4,294,967,296; end where there is none, from which the walk goes on.
-// Stays: two places a turn; by a `for` over each place the test of the largest prime took 7.5 µs for 4.4. The end is no number for none, the walk goes on
-// from it.
+// Most runs have no such place, as their least product shows, which is computed of several places at a time.
+// Stays: the end is no number for none, the walk goes on from it; an Option would be opened to it by its one caller.
 fn next_candidate(inverses: &[u32], p: u32, q: u32, start: usize, end: usize) -> usize
     requires { (start ≤ end) × (end ≤ length inverses.now) }
     ensures { Next inverses.now p q start end result }
 {
-    let mut i = start;
-    while i + 1 < end {
-        if at_most(p, inverses[i], q) {
-            return i;
-        }
-        if at_most(p, inverses[i + 1], q) {
-            return i + 1;
-        }
-        i += 2;
-    }
-    if i == end {
+    let run = &inverses[start..end];
+    if q < least_product(run, p) {
         return end;
     }
-    if at_most(p, inverses[i], q) { i } else { end }
+    match candidate_in(run, p, q) {
+        Some(k) => start + k,
+        None => end,
+    }
 }
 
-// The end of a run of places after i: any would do, and this soon compares p with a square again.
+// The end of a run of places after i: any would do. This one is about as long as what was passed before, and then p is compared with a square again.
 fn run_end(i: usize, end: usize) -> usize
     requires { i < end }
     ensures { (i < result) × (result ≤ end) }
 {
-    end.min((i + 1).saturating_add(RUN))
+    end.min(i.saturating_mul(2).saturating_add(3))
 }
 
 // Whether p is an odd prime, by trial division with a table that is enough for p. After d, which doesn't divide p, divisors are passed over
 // without a division: where e divides p, p times the inverse of e is the quotient modulo 4,294,967,296, and it's at most p / d for e above d.
+// Stays: two tables, since the search reads the inverses alone; of one table of pairs the test of the largest prime took 1.10 µs for 0.72.
+#[tactic(auto, using(crate::proofs::Prime::low_not, crate::proofs::Prime::even_not))]
 fn odd_prime_by(table: &[u16], inverses: &[u32], p: u32) -> bool
     requires { (p ≤ 2147483647) × Enough table.now p × (paired table.now inverses.now ≡ true) }
     ensures { result ≡ odd_prime p }
@@ -89,6 +93,7 @@ fn large_odd_prime(p: u32) -> bool
 }
 
 // Whether p is an odd prime, 3 to 2,147,483,647. The short tables serve below the square of 1,031.
+#[tactic(auto, using(crate::proofs::Prime::odd_prime_told, crate::proofs::Prime::high_not))]
 pub fn is_odd_prime(p: u32) -> bool
     ensures test { result ≡ odd_prime p }
     ensures prime { TellsOddPrime p result }

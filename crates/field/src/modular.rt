@@ -4,6 +4,7 @@ ghost use Rattle.field.specs.Inverse as specs;
 
 // The inverse of c modulo p, 0 where there is none.
 // Stays: every caller goes on with the number as a residue, 0 too, so an Option would only be taken off again.
+#[tactic(auto, using(crate::proofs::Inverse::inverse_laws), unfolding(crate::specs::Inverse::inverse, crate::specs::Inverse::inverse_from))]
 pub fn inverse(p: u32, c: u32) -> u32
     ensures algorithm { result ≡ specs.inverse p c }
     ensures meaning { specs.TheInverse p c result }

@@ -1,17 +1,9 @@
--- `field::odd_prime_by`: the ways out, and the walk's start and its next place.
+-- The walk's start, its ways out, and its next place.
 use mathlib.Core.Path.{sym}
 use native.Mathlib.Omega.{arith}
-use Rattle.field.proofs.Prime.{divided_not, even_not, low_not, odd_not_even}
+use Rattle.field.proofs.Prime.{divided_not, odd_not_even}
 use Rattle.field.proofs.Divisors.{walk_above, walk_ends, walk_next, walk_start}
 use Rattle.field.proofs.odd_prime_by.Goals as goal
-use Rattle.field.proofs.odd_prime_by.Goals.{then-p-lt3-via-then-p-lt3, then-p-lt3-via-else-p-lt3+then-p-eq0}
-
-pub returns-then-p-lt3 : goal.returns-then-p-lt3
-returns-then-p-lt3 c =
-    elim c.then-p-lt3.branch [
-      | then-p-lt3-via-then-p-lt3 w ↦ sym (low_not _ w.if-p-lt3.true)
-      | then-p-lt3-via-else-p-lt3+then-p-eq0 w ↦ sym (even_not _ w.if-p-lt3.false c.requires.0 w.if-p-eq0.true)
-    ]
 
 pub loop-i-init : goal.loop-i-init
 loop-i-init c =
