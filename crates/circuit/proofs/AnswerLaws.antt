@@ -2,9 +2,16 @@
 use Prim.Native.Nat.{ℕ, zero, suc, ◌+◌}
 use mathlib.Core.Path.{◌≡◌, refl, ap, ◌∙◌}
 use mathlib.Core.Bool.{Bool, true, false}
+use Rattle.std.specs.Prelude.{Result, Err}
+use Rattle.std.specs.Result.{IsErrAnd}
+use Rattle.std.proofs.lemmas.Result.{err_from_is_err_and}
 use native.Mathlib.Nat.{zero-add}
 use native.Mathlib.Omega.{arith}
 use Rattle.circuit.specs.Answer.{Answer, refused, given, ask, ask_none, and_then}
+
+-- what the exit of a `?` answers
+pub err_is : {A E : Type 0} {e : E} (r : Result A E) → IsErrAnd r (λ y. y ≡ e) → r ≡ Err e
+err_is r h = let p = err_from_is_err_and r h in p.1 ∙ ap Err p.2
 
 pub ask_given : {A : Type 0} (b : Bool) (number place : ℕ) (r : Answer A) {x : A} → ask b number place r ≡ given x → (b ≡ true) × (r ≡ given x)
 ask_given true number place r e = (refl, e)

@@ -7,10 +7,10 @@ use borrow.Author.Tests.{leb-true}
 use lib.Dec.{leb}
 use lib.ListN.{length}
 use Rattle.circuit.specs.Circuit.{Circuit, Constraint}
-use Rattle.circuit.specs.Reading.{Reading, whole, fault, require, mapped, Size, sized, faulty, size_of}
-use Rattle.circuit.specs.Reader.{header_size, read_body, read_circuit}
+use Rattle.circuit.specs.Reading.{Reading, whole, fault, require, mapped, size_of}
+use Rattle.circuit.specs.Reader.{header_size, read_circuit}
 use Rattle.circuit.specs.Answer.{Answer, refused, given, ask, and_then}
-use Rattle.circuit.specs.Call.{sizes_of, header_call, on_circuit, circuit_call}
+use Rattle.circuit.specs.Call.{sizes_of, header_call, body_answer, body_call, on_circuit, circuit_call}
 use Rattle.circuit.specs.declared.reader.Sizes.{Sizes}
 use Rattle.circuit.proofs.AnswerLaws.{ask_given}
 
@@ -20,10 +20,6 @@ header_answer r = on_circuit r (λ C. given (sizes_of C))
 header_require : (b : Bool) (number : ℕ) (r : Reading Circuit) → header_answer (require b number r) ≡ ask b number 0 (header_answer r)
 header_require true number r = refl
 header_require false number r = refl
-
-abbrev pub body_answer : Sizes → Size → Answer Sizes
-body_answer z (sized size) = given z
-body_answer z (faulty number offset) = refused number offset
 
 header_body : (p n i o m : ℕ) (r : Reading (List Constraint))
     → header_answer (mapped (λ Ks. record { p = p; n = n; i = i; o = o; m = m; constraints = Ks }) r)
@@ -41,9 +37,6 @@ then_ask : {A B : Type 0} (b : Bool) (number place : ℕ) (r : Answer A) (f : A 
 then_ask true number place r f = refl
 then_ask false number place r f = refl
 
-unfoldable pub body_call : List ℕ → Sizes → Answer Sizes
-body_call s z = body_answer z (size_of (read_body z.n z.p z.m s))
-
 pub call_header : (s : List ℕ) → circuit_call s ≡ and_then (header_call s) (body_call s)
 unfolding circuit_call read_circuit header_call body_call
 call_header s = simp (header_require, header_body, then_ask)
@@ -51,9 +44,8 @@ call_header s = simp (header_require, header_body, then_ask)
 pub header_out : (s : List ℕ) {number place : ℕ} → refused number place ≡ header_call s → refused number place ≡ circuit_call s
 header_out s e = sym (call_header s ∙ rw (sym e))
 
-pub header_on : (s : List ℕ) {z : Sizes} {x : Size} → given z ≡ header_call s → x ≡ size_of (read_body z.n z.p z.m s) → body_answer z x ≡ circuit_call s
-unfolding body_call
-header_on s {z} e f = rw f (sym (call_header s ∙ rw (sym e)))
+pub header_on : (s : List ℕ) {z : Sizes} {x : Answer Sizes} → given z ≡ header_call s → x ≡ body_call s z → x ≡ circuit_call s
+header_on s {z} e f = f ∙ sym (call_header s ∙ rw (sym e))
 
 pub header_long : (s : List ℕ) {z : Sizes} → given z ≡ header_call s → header_size ≤ length s
 unfolding header_call

@@ -6,6 +6,7 @@ pub mod HeaderLaws
 pub mod Stored
 pub mod RunLaws
 pub mod SearchLaws
+pub mod FindLaws
 pub mod CopyLaws
 pub mod Sized
 pub mod OffsetLaws

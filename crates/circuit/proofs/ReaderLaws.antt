@@ -1,7 +1,7 @@
 -- Laws of the readers, one for each way on or out of the code.
 use Prim.Native.Nat.{ℕ, zero, suc, ◌+◌, ◌-◌, ◌≤◌, ◌<◌}
 use mathlib.Core.Path.{◌≡◌, refl, sym, ap, ◌∙◌}
-use mathlib.Core.Bool.{Bool, true, false, ◌&&◌}
+use mathlib.Core.Bool.{Bool, true, false}
 use mathlib.Core.List.{List}
 use native.Mathlib.Nat.{add-zero, zero-add, add_assoc}
 use native.Mathlib.Numerals.{add-one}
@@ -13,7 +13,7 @@ use lib.Seq.{drop-drop, take_all}
 use Rattle.circuit.specs.Bytes.{byte_at, u16_at, u32_at}
 use Rattle.circuit.specs.Circuit.{Constraint}
 use Rattle.circuit.specs.Reading.{Reading, whole, fault, require, after, mapped, next, Size, sized, faulty, size_of, further, extent}
-use Rattle.circuit.specs.Reader.{read_terms, read_form, form_from, read_constraint, after_constraint}
+use Rattle.circuit.specs.Reader.{read_terms, form_size, read_form, form_from, read_constraint, after_constraint}
 use Rattle.circuit.proofs.ByteLaws.{u16_drop, u32_drop}
 use Rattle.circuit.proofs.WellFormed.{constraint_whole}
 
@@ -48,15 +48,6 @@ pub further_require : {A : Type 0} (at : ℕ) (b : Bool) (number : ℕ) (r : Rea
 further_require at true number r = refl
 further_require at false number r = ap (faulty number) (add-zero at)
 
--- a coefficient that is out of range
-out_by : (a b : Bool) (at : ℕ) (z : Size) → (a && b) ≡ false → ask_size a 9 at (ask_size b 9 at z) ≡ faulty 9 at
-out_by true true at z e = let z : ◌≡◌ {A = ℕ} 0 1 = cc in absurd (omega arith)
-out_by true false at z e = refl
-out_by false b at z e = refl
-
-pub coefficient_out : (x p at : ℕ) (z : Size) → (ltb 0 x && ltb x p) ≡ false → ask_size (ltb 0 x) 9 at (ask_size (ltb x p) 9 at z) ≡ faulty 9 at
-coefficient_out x p at z e = out_by (ltb 0 x) (ltb x p) at z e
-
 terms_done : (n p : ℕ) (s : List ℕ) (at least : ℕ) → terms_from n p s 0 at least ≡ sized at
 unfolding terms_from read_terms
 terms_done n p s at least = ap sized (add-zero at)
@@ -89,43 +80,42 @@ pub one_more : {k : ℕ} → 0 < k → k ≡ suc (k - 1)
 one_more {k} h = omega arith
 
 -- At turn i of the term reader, of count, the whole answer is what is still to be read.
-pub record Terms (n p : ℕ) (s : List ℕ) (count i at least : ℕ) : Type 0 where
-  pub near : at ≤ length s
+pub record Terms (n p : ℕ) (s : List ℕ) (count i least : ℕ) : Type 0 where
   pub few : count ≤ 32
-  pub answer : size_of (read_form n p s) ≡ terms_from n p s (count - i) at least
+  pub answer : size_of (read_form n p s) ≡ terms_from n p s (count - i) (form_size i) least
 
-pub terms_start : (n p : ℕ) (s : List ℕ) {count : ℕ} → count ≡ byte_at s 0 → 1 ≤ length s → count ≤ 32 → Terms n p s count 0 1 0
+pub terms_start : (n p : ℕ) (s : List ℕ) {count : ℕ} → count ≡ byte_at s 0 → 1 ≤ length s → count ≤ 32 → Terms n p s count 0 0
 terms_start n p s {count} known some h =
     let all : count - 0 ≡ count = omega arith in
-    record { near = some; few = h; answer = form_start n p s ∙ rw (all, le-leb _ _ some, ← known, le-leb _ _ h) }
+    record { few = h; answer = form_start n p s ∙ rw (all, le-leb _ _ some, ← known, le-leb _ _ h) }
 
-module _ {n p : ℕ} {s : List ℕ} {count i at least : ℕ} (T : Terms n p s count i at least) where
+module _ {n p : ℕ} {s : List ℕ} {count i least : ℕ} (T : Terms n p s count i least) where
+  abbrev place : ℕ
+  place = form_size i
+
   module _ (some : i < count) where
     -- the tests of the code in their order
-    pub term_turn : size_of (read_form n p s) ≡ term_tests n p s (count - (i + 1)) at least
+    pub term_turn : size_of (read_form n p s) ≡ term_tests n p s (count - (i + 1)) place least
     term_turn =
         let more : count - i ≡ suc (count - (i + 1)) = omega arith in
-        T.answer ∙ ap (λ (k : ℕ). terms_from n p s k at least) more ∙ terms_turn n p s (count - (i + 1)) at least
+        T.answer ∙ ap (λ (k : ℕ). terms_from n p s k place least) more ∙ terms_turn n p s (count - (i + 1)) place least
 
-    -- a signal that passes its tests leaves those of the coefficient
-    pub term_signal : {signal : ℕ} → 6 ≤ length s - at → signal ≡ u16_at s at → signal ≤ n → least ≤ signal → size_of (read_form n p s)
-        ≡ ask_size (ltb 0 (u32_at s (at + 2))) 9 at
-        (ask_size (ltb (u32_at s (at + 2)) p) 9 at (terms_from n p s (count - (i + 1)) (at + 6) (suc signal)))
-    term_signal fits known low rises = term_turn ∙ rw (le-leb _ _ fits, ← known, le-leb _ _ low, le-leb _ _ rises)
-
-    pub term_again : (signal coefficient : ℕ) → 6 ≤ length s - at → signal ≡ u16_at s at → signal ≤ n → least ≤ signal
-        → coefficient ≡ u32_at s (at + 2) → (coefficient ≡ 0 → ⊥) → coefficient < p → Terms n p s count (i + 1) (at + 6) (signal + 1)
+    pub term_again : (signal coefficient : ℕ) → 6 ≤ length s - place → signal ≡ u16_at s place → signal ≤ n → least ≤ signal
+        → coefficient ≡ u32_at s (place + 2) → (coefficient ≡ 0 → ⊥) → coefficient < p → Terms n p s count (i + 1) (signal + 1)
     term_again signal coefficient fits known low rises is positive below =
+        let next : form_size i + 6 ≡ form_size (i + 1) = omega arith in
         record {
-          near = omega arith;
           few = T.few;
           answer =
               term_turn
-              ∙ rw (le-leb _ _ fits, ← known, le-leb _ _ low, le-leb _ _ rises, add-one signal, ← is, lt-ltb 0 coefficient (omega arith), lt-ltb _ _ below);
+              ∙ rw (le-leb _ _ fits, ← known, le-leb _ _ low, le-leb _ _ rises, add-one signal, ← is, lt-ltb 0 coefficient (omega arith), lt-ltb _ _ below, next);
         }
 
-  pub terms_end : count ≤ i → size_of (read_form n p s) ≡ sized at
-  terms_end h = let none : count - i ≡ 0 = omega arith in T.answer ∙ rw none (terms_done n p s at least)
+  pub terms_end : count ≤ i → i ≤ count → size_of (read_form n p s) ≡ sized (form_size count)
+  terms_end h g =
+      let none : count - i ≡ 0 = omega arith in
+      let all : i ≡ count = omega arith in
+      T.answer ∙ rw (none, all) (terms_done n p s (form_size count) least)
 
 -- Nothing is read past the end.
 pub extent_further : (at : ℕ) (z : Size) → extent (further at z) ≡ at + extent z

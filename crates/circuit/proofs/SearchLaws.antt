@@ -7,7 +7,7 @@ use native.Mathlib.Omega.{arith}
 use native.Mathlib.Decide.{ℕ_discrete}
 use mathlib.Core.List.{List}
 use Rattle.std.specs.Prelude.{None, Some}
-use borrow.Author.Tests.{lt-ltb, le-ltb, ltb-true, eq-eqb, ne_eqb, eqb-true}
+use borrow.Author.Tests.{lt-ltb, ltb-true, eq-eqb, ne_eqb, eqb-true}
 use Rattle.circuit.specs.Circuit.{Circuit, constraint_at, value_of, IsRun, Satisfying}
 use Rattle.circuit.specs.Reader.{constraint_in, constraint_of, after_constraint, part_from}
 use Rattle.circuit.specs.Run.{holds}
@@ -76,6 +76,19 @@ module _ (test : ℕ → Bool) where
   pub none : (count : ℕ) → ((j : ℕ) → 1 ≤ j → j ≤ count → test j ≡ true) → first_from test 1 count ≡ 0
   none count h = none_from 1 count (λ j l m. h j l (omega arith))
 
+  -- a number that fails, with none before it
+  first_at_from : (k left j : ℕ) → k ≤ j → j < k + left → test j ≡ false → ((i : ℕ) → k ≤ i → i < j → test i ≡ true) → first_from test k left ≡ j
+  first_at_from k zero j l m e h = absurd (omega arith)
+  first_at_from k (suc left) j l m e h =
+      go (ℕ_discrete k j) (λ n. first_at_from (suc k) left j n (omega arith) e (λ i n o. h i (omega arith) o))
+    where
+      go : Dec (k ≡ j) → (suc k ≤ j → first_from test (suc k) left ≡ j) → first_from test k (suc left) ≡ j
+      go (yes q) later = first_fail k left (rw q e) ∙ q
+      go (no q) later = first_pass k left (h k (omega arith) (omega arith)) ∙ later (omega arith)
+
+  pub first_at : (count j : ℕ) → 1 ≤ j → j ≤ count → test j ≡ false → ((i : ℕ) → 1 ≤ i → i < j → test i ≡ true) → first_from test 1 count ≡ j
+  first_at count j l m e h = first_at_from 1 count j l (omega arith) e h
+
 -- tests that agree find the same
 first_same_from : (test other : ℕ → Bool) (k left : ℕ) → ((j : ℕ) → k ≤ j → j < k + left → test j ≡ other j)
     → first_from test k left ≡ first_from other k left
@@ -93,10 +106,6 @@ first_same test other count h = first_same_from test other 1 count (λ j l m. h 
 pub below_yes : (p : ℕ) (t : List ℕ) (j x : ℕ) → x ≡ value_at t j → x < p → below p t j ≡ true
 unfolding below
 below_yes p t j x e h = lt-ltb (value_at t j) p (omega arith)
-
-pub below_no : (p : ℕ) (t : List ℕ) (j x : ℕ) → x ≡ value_at t j → p ≤ x → below p t j ≡ false
-unfolding below
-below_no p t j x e h = le-ltb (value_at t j) p (omega arith)
 
 pub below_is : (p : ℕ) (t : List ℕ) (j : ℕ) → below p t j ≡ true → value_at t j < p
 unfolding below

@@ -3,8 +3,8 @@ use Rattle.std.specs.Prelude.{ℕ, ◌≤◌, ◌≡◌, List, [], length, leb, 
 use Rattle.field.specs.Prime.{odd_prime}
 use Rattle.circuit.specs.Bytes.{u16_at, u32_at}
 use Rattle.circuit.specs.Circuit.{Circuit, WellFormed}
-use Rattle.circuit.specs.Reading.{Reading, whole, fault}
-use Rattle.circuit.specs.Reader.{header_size, file_most, circuit_letter, has_mark, sizes_fit, read_circuit}
+use Rattle.circuit.specs.Reading.{Reading, whole, fault, Size, sized, faulty, size_of}
+use Rattle.circuit.specs.Reader.{header_size, file_most, circuit_letter, has_mark, sizes_fit, read_body, read_circuit}
 use Rattle.circuit.specs.Answer.{Answer, refused, given, ask}
 use Rattle.circuit.specs.declared.reader.Sizes.{Sizes}
 
@@ -26,6 +26,14 @@ header_call s =
     (ask (odd_prime (u32_at s 5)) 4 0
     (ask (sizes_fit (u16_at s 9) (u16_at s 11) (u16_at s 13) (u16_at s 15)) 5 0
     (given (header_of s)))))))
+
+-- the constraints alone, for a header with these numbers: refusals 6 to 10, or the numbers
+abbrev pub body_answer : Sizes → Size → Answer Sizes
+body_answer z (sized size) = given z
+body_answer z (faulty number offset) = refused number offset
+
+unfoldable pub body_call : List ℕ → Sizes → Answer Sizes
+body_call s z = body_answer z (size_of (read_body z.n z.p z.m s))
 
 -- every call on a circuit: refusals 1 to 10, or what is answered for the circuit that was read
 abbrev pub on_circuit : {A : Type 0} → Reading Circuit → (Circuit → Answer A) → Answer A

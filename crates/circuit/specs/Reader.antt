@@ -57,7 +57,7 @@ read_constraint n p s =
     (λ a s₁. next s₁ (read_form n p s₁)
     (λ b s₂. mapped (λ c. record { a = a; b = b; c = c }) (read_form n p s₂)))
 
--- how many bytes a form has, by its count of terms
+-- how many bytes a form has, by its count of terms; term i, counted from 0, starts where a form of i terms would end
 abbrev pub form_size : ℕ → ℕ
 form_size count = 1 + term_size * count
 
@@ -97,6 +97,10 @@ letter_t = 84
 -- a file starts with its mark (its magic number): a letter, then Q and T
 unfoldable pub has_mark : ℕ → List ℕ → Bool
 has_mark letter s = eqb (byte_at s 0) letter && eqb (byte_at s 1) letter_q && eqb (byte_at s 2) letter_t
+
+-- Rules 1.1, 2.1, 2.4, 2.5: its version, after the mark, is 1
+abbrev pub has_version : List ℕ → Bool
+has_version s = eqb (u16_at s 3) 1
 
 -- Rule 1.7: n, i, o and m keep their sizes
 unfoldable pub sizes_fit : ℕ → ℕ → ℕ → ℕ → Bool

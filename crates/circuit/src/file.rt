@@ -37,6 +37,7 @@ impl<'a> CircuitFile<'a> {
 }
 
 // A circuit with the table of offsets that its constraints are found by.
+// Stays: an array of which entries 1 to m count, since there is no heap; m stands in the file's sizes.
 #[derive(Clone, Copy, Debug, PartialEq, Eq)]
 pub struct Constraints<'a> {
     pub file: CircuitFile<'a>,

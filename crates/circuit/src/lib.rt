@@ -5,6 +5,7 @@
 
 pub mod bytes;
 pub mod file;
+pub mod form;
 pub mod offsets;
 pub mod reader;
 pub mod refusal;

@@ -5,7 +5,8 @@ ghost use Rattle.circuit.specs.Reader.{constraints_most, form_most, offset_after
 ghost use Rattle.circuit.specs.Offsets.{Offsets, part_of};
 
 use crate::bytes::byte_at;
-use crate::reader::{CONSTRAINTS_MOST, HEADER_SIZE, TERM_SIZE};
+use crate::form::form_size;
+use crate::reader::{CONSTRAINTS_MOST, HEADER_SIZE};
 
 // The offset after the form at an offset.
 #[tactic(auto, unfolding(crate::specs::Reader::offset_after))]
@@ -13,7 +14,7 @@ fn after_form_at(circuit: &[u8], at: usize) -> usize
     requires { at < 4294967296 }
     ensures { (result ≡ offset_after circuit.now at) × (result ≤ at + form_most) }
 {
-    at + (1 + TERM_SIZE * (byte_at(circuit, at) as usize))
+    at + form_size(byte_at(circuit, at))
 }
 
 // Three count bytes lead from one constraint to the next; at most 512 of them are in the table, and its other entries are 0.

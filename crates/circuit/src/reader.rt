@@ -2,27 +2,31 @@
 
 ghost use Rattle.std.specs.Prelude.{◌≡◌, ◌+◌, ◌^◌, ◌≤◌, ◌<◌, length};
 ghost use Rattle.circuit.specs.Reading.{size_of, further, extent};
-ghost use Rattle.circuit.specs.Reader.{header_size, read_form, form_from, read_constraint, read_body, after_form, after_constraint, has_mark, sizes_fit};
-ghost use Rattle.circuit.specs.Answer.{answer_of, found_of, paper_of};
-ghost use Rattle.circuit.specs.Call.{header_of, header_call, circuit_call, SizedAnswer};
+ghost use Rattle.circuit.specs.Reader.{header_size, read_form, form_from, read_constraint, after_form, after_constraint, has_mark, has_version, sizes_fit};
+ghost use Rattle.circuit.specs.Answer.{answer_of, answer_by, found_of, paper_of};
+ghost use Rattle.circuit.specs.Call.{header_of, header_call, body_call, circuit_call, SizedAnswer};
 
 use crate::bytes::{byte_at, u16_at, u32_at};
 use crate::file::CircuitFile;
+use crate::form::{Forms, form_size, term_at, term_count};
 use crate::refusal::{Reason, Refusal};
 use field::is_odd_prime;
 
-// The sizes of rule 1.7, and those of the header and of a term.
+// The sizes of rule 1.7, those of the header and of a term, and the version of every file.
+// Stays: arrays over all signals or constraints, with 0, have 257 and 513 places, numbers in their types as the paper writes them.
 pub const HEADER_SIZE: usize = 17;
 
-const FILE_MOST: usize = 60000;
+pub const FILE_MOST: usize = 60000;
 
-pub(crate) const SIGNALS_MOST: u32 = 256;
+pub const SIGNALS_MOST: u32 = 256;
 
-pub(crate) const CONSTRAINTS_MOST: u32 = 512;
+pub const CONSTRAINTS_MOST: u32 = 512;
 
 const TERMS_MOST: u32 = 32;
 
-pub(crate) const TERM_SIZE: usize = 6;
+pub const TERM_SIZE: usize = 6;
+
+pub const VERSION: u32 = 1;
 
 // A file's mark: its letter, C for a circuit, then Q and T.
 const CIRCUIT_LETTER: u32 = b'C' as u32;
@@ -49,36 +53,49 @@ pub enum CircuitAnswer {
     Sizes(Sizes),
 }
 
+impl<'a> From<Result<CircuitFile<'a>, Refusal>> for CircuitAnswer {
+    ghost from_gives = { λ found answer. paper_of answer ≡ answer_by (λ f. f.sizes) found };
+
+    fn from(found: Result<CircuitFile<'a>, Refusal>) -> CircuitAnswer {
+        match found {
+            Ok(file) => CircuitAnswer::Sizes(file.sizes),
+            Err(refusal) => CircuitAnswer::Refused {
+                number: refusal.number(),
+                place: refusal.place,
+            },
+        }
+    }
+}
+
 // The term reader: a form from its own part of the circuit bytes, the count byte and then that many terms. What reading a part finds is its size in
 // bytes, or a refusal whose place is an offset in the part.
+// Stays: n and p, here and in the next two, since a form is tested by these of the header's five numbers alone.
 fn check_form(part: &[u8], n: u32, p: u32) -> Result<usize, Refusal>
     ensures { found_of result ≡ size_of (read_form n p part.now) }
 {
     if part.is_empty() {
         return Err(Reason::EndsEarly.at(0));
     }
-    let count = byte_at(part, 0);
+    let count = term_count(part);
     if TERMS_MOST < count {
         return Err(Reason::TermCount.at(0));
     }
-    let mut at: usize = 1;
     let mut least: u32 = 0;
-    for _ in 0..count {
-        let Some(term) = part.get(at..at + TERM_SIZE) else {
+    for i in 0..count {
+        let at = form_size(i);
+        if part.len() < at + TERM_SIZE {
             return Err(Reason::EndsEarly.at(at));
-        };
-        let signal = u16_at(term, 0);
-        if !(least..=n).contains(&signal) {
+        }
+        let term = term_at(part, i);
+        if !(least..=n).contains(&term.signal) {
             return Err(Reason::SignalNumber.at(at));
         }
-        let coefficient = u32_at(term, 2);
-        if !(1..p).contains(&coefficient) {
+        if !(1..p).contains(&term.coefficient) {
             return Err(Reason::Coefficient.at(at));
         }
-        least = signal + 1;
-        at += TERM_SIZE;
+        least = term.signal + 1;
     }
-    Ok(at)
+    Ok(form_size(count))
 }
 
 // The same with offsets that count from `at` bytes earlier.
@@ -115,8 +132,7 @@ fn check_constraint(s: &[u8], n: u32, p: u32) -> Result<usize, Refusal>
 pub fn after_form(s: &[u8]) -> &[u8]
     ensures { result.now ≡ after_form s.now }
 {
-    let size = 1 + TERM_SIZE * (byte_at(s, 0) as usize);
-    s.get(size..).unwrap_or(&[])
+    s.get(form_size(term_count(s))..).unwrap_or(&[])
 }
 
 // The constraint reader: hands back the part of the caller's bytes after one constraint.
@@ -124,13 +140,13 @@ pub fn after_form(s: &[u8]) -> &[u8]
 pub(crate) fn after_constraint(s: &[u8]) -> &[u8]
     ensures { result.now ≡ after_constraint s.now }
 {
-    after_form(after_form(after_form(s)))
+    after_form(Forms::of(s).c)
 }
 
 // The constraints after the header, each read from the part after the one before it, and nothing after them.
-pub(crate) fn check_body(s: &[u8], sizes: Sizes) -> Result<usize, Refusal>
+pub(crate) fn check_body(s: &[u8], sizes: Sizes) -> Result<(), Refusal>
     requires { header_size ≤ length s.now }
-    ensures { found_of result ≡ size_of (read_body sizes.n sizes.p sizes.m s.now) }
+    ensures { answer_by (λ done. sizes) result ≡ body_call s.now sizes }
 {
     let mut rest = &s[HEADER_SIZE..];
     let mut at: usize = HEADER_SIZE;
@@ -141,7 +157,7 @@ pub(crate) fn check_body(s: &[u8], sizes: Sizes) -> Result<usize, Refusal>
     if at < s.len() {
         return Err(Reason::BytesLeft.at(at));
     }
-    Ok(at)
+    Ok(())
 }
 
 // Whether a file starts with its mark.
@@ -150,6 +166,13 @@ pub fn has_mark(s: &[u8], letter: u32) -> bool
     ensures { result ≡ has_mark letter s.now }
 {
     byte_at(s, 0) == letter && byte_at(s, 1) == LETTER_Q && byte_at(s, 2) == LETTER_T
+}
+
+// Whether a file has the version that is read.
+pub fn has_version(s: &[u8]) -> bool
+    ensures { result ≡ has_version s.now }
+{
+    u16_at(s, 3) == VERSION
 }
 
 impl Sizes {
@@ -189,7 +212,7 @@ pub(crate) fn read_header(s: &[u8]) -> Result<Sizes, Refusal>
     if !has_mark(s, CIRCUIT_LETTER) {
         return Err(Reason::CircuitMark.at(0));
     }
-    if u16_at(s, 3) != 1 {
+    if !has_version(s) {
         return Err(Reason::CircuitVersion.at(0));
     }
     let sizes = Sizes::of(s);
@@ -207,11 +230,5 @@ pub fn check_circuit(s: &[u8]) -> CircuitAnswer
     ensures answer { paper_of result ≡ circuit_call s.now }
     ensures sized { SizedAnswer s.now (paper_of result) }
 {
-    match CircuitFile::read(s) {
-        Ok(file) => CircuitAnswer::Sizes(file.sizes),
-        Err(refusal) => CircuitAnswer::Refused {
-            number: refusal.number(),
-            place: refusal.place,
-        },
-    }
+    CircuitAnswer::from(CircuitFile::read(s))
 }

@@ -41,6 +41,7 @@ pub enum Reason {
 }
 
 impl Reason {
+    // Stays: the cast of the discriminant is the conversion; a From would say it again.
     pub fn number(self) -> u32
         ensures { result ≡ number_of self }
     {

@@ -1,13 +1,14 @@
 // Forms and constraints evaluated modulo p on a run that is lent as a slice: the constant one, then the values of the signals from 1 on.
 
 ghost use Rattle.std.specs.Prelude.{◌≡◌, ◌≤◌, ◌<◌};
-ghost use Rattle.circuit.specs.Reader.{form_most, form_in, constraint_in};
+ghost use Rattle.circuit.specs.Reader.{form_size, form_in, constraint_in};
 ghost use Rattle.circuit.specs.Run.{values_in, term_mod, eval_mod, holds};
 
-use crate::bytes::{byte_at, u16_at, u32_at};
-use crate::reader::{SIGNALS_MOST, TERM_SIZE, after_form};
+use crate::form::{Forms, term_at, term_count};
+use crate::reader::SIGNALS_MOST;
 
 // The value of a signal, 0 past the end.
+// Stays: one function for this slice, as others have theirs: what stands past the end is another each time.
 #[tactic(auto, unfolding(crate::specs::Run::values_in))]
 pub fn value_of(values: &[u32], signal: u32) -> u32
     ensures { result ≡ values_in values.now signal }
@@ -15,18 +16,18 @@ pub fn value_of(values: &[u32], signal: u32) -> u32
     values.get(signal as usize).copied().unwrap_or(0)
 }
 
-// The value modulo p of the term at an offset; 0 of a signal that no circuit has.
+// The value modulo p of a form's term i; 0 of a signal that no circuit has.
 #[tactic(auto, unfolding(crate::specs::Run::term_mod))]
-fn term_at(part: &[u8], at: usize, values: &[u32], p: u32) -> u32
-    requires { (0 < p) × (at ≤ form_most) }
-    ensures { (result ≡ term_mod p part.now at (values_in values.now)) × (result < p) }
+fn term_value(part: &[u8], i: u32, values: &[u32], p: u32) -> u32
+    requires { 0 < p }
+    ensures { (result ≡ term_mod p part.now (form_size i) (values_in values.now)) × (result < p) }
 {
-    let signal = u16_at(part, at);
-    if SIGNALS_MOST < signal {
+    let term = term_at(part, i);
+    if SIGNALS_MOST < term.signal {
         return 0;
     }
-    let coefficient = u64::from(u32_at(part, at + 2));
-    let value = u64::from(value_of(values, signal));
+    let coefficient = u64::from(term.coefficient);
+    let value = u64::from(value_of(values, term.signal));
     (coefficient * value % u64::from(p)) as u32
 }
 
@@ -36,8 +37,8 @@ fn eval_form(part: &[u8], values: &[u32], p: u32) -> u32
     ensures { result ≡ eval_mod p (form_in part.now) (values_in values.now) }
 {
     let mut sum: u64 = 0;
-    for i in 0..byte_at(part, 0) as usize {
-        sum += u64::from(term_at(part, 1 + TERM_SIZE * i, values, p));
+    for i in 0..term_count(part) {
+        sum += u64::from(term_value(part, i, values, p));
     }
     (sum % u64::from(p)) as u32
 }
@@ -50,10 +51,9 @@ pub fn satisfied(part: &[u8], values: &[u32], p: u32) -> bool
     if p == 0 {
         return false;
     }
-    let b_part = after_form(part);
-    let c_part = after_form(b_part);
-    let a = u64::from(eval_form(part, values, p));
-    let b = u64::from(eval_form(b_part, values, p));
-    let c = u64::from(eval_form(c_part, values, p));
+    let forms = Forms::of(part);
+    let a = u64::from(eval_form(forms.a, values, p));
+    let b = u64::from(eval_form(forms.b, values, p));
+    let c = u64::from(eval_form(forms.c, values, p));
     a * b % u64::from(p) == c
 }

@@ -12,13 +12,12 @@ use crate::run::{satisfied, value_of};
 
 pub const VALUE_SIZE: usize = 4;
 
-// The value with a number.
+// The value with a number, counted from 1; that of 0 is the first too, so that a test of a search asks nothing.
 #[tactic(auto, unfolding(crate::specs::Runs::value_at))]
 fn value_at(values: &[u8], number: u32) -> u32
-    requires { 0 < number }
     ensures { result ≡ value_at values.now number }
 {
-    u32_at(values, VALUE_SIZE * (number as usize - 1))
+    u32_at(values, VALUE_SIZE * (number as usize).saturating_sub(1))
 }
 
 // The constant one and the first n values: a run, with the value of signal s at place s.
@@ -37,15 +36,11 @@ pub fn copy_run(values: &[u8], n: u32) -> [u32; 257]
 pub fn first_large(values: &[u8], p: u32, count: u32) -> Option<u32>
     ensures { result ≡ found (first_from (below p values.now) 1 count) }
 {
-    for j in 1..=count {
-        if p <= value_at(values, j) {
-            return Some(j);
-        }
-    }
-    None
+    (1..=count).find(|j| p <= value_at(values, *j))
 }
 
 // The first of m constraints that the values don't satisfy, each read from the part after the one before it.
+// Stays: a rest of the bytes goes along from one constraint to the next.
 pub fn first_unsatisfied(body: &[u8], values: &[u32], p: u32, m: u32) -> Option<u32>
     ensures { result ≡ found (first_from (satisfied_by p (constraint_of body.now) (values_in values.now)) 1 m) }
 {
@@ -63,10 +58,5 @@ pub fn first_unsatisfied(body: &[u8], values: &[u32], p: u32, m: u32) -> Option<
 pub fn first_difference(values: &[u32], other: &[u32], count: u32) -> Option<u32>
     ensures { result ≡ found (first_from (agree (values_in values.now) (values_in other.now)) 1 count) }
 {
-    for s in 1..=count {
-        if value_of(values, s) != value_of(other, s) {
-            return Some(s);
-        }
-    }
-    None
+    (1..=count).find(|s| value_of(values, *s) != value_of(other, *s))
 }

@@ -1,20 +1,19 @@
 -- `circuit::reader::check_body`: a constraint leads out or on, and the end.
-use native.Mathlib.Omega.{arith}
+use Rattle.std.proofs.Common.{arith}
 use Rattle.std.proofs.lemmas.Grind.{common_steps}
-use Rattle.std.proofs.lemmas.Result.{err_from_is_err_and}
+use Rattle.circuit.proofs.AnswerLaws.{err_is}
 use Rattle.circuit.proofs.BodyLaws as laws
 use Rattle.circuit.proofs.reader.check_body.Goals as goal
 
 pub loop-init : goal.loop-init
-loop-init c = laws.body_start _ _ _ _ c.requires
+loop-init c = laws.body_start _ _ c.requires
 
 pub shifted-requires : goal.shifted-requires
 shifted-requires c = omega (arith, laws.body_inside c.loop.invariant c.check_constraint.ensures)
 
 pub returns-in_err-at : goal.returns-in_err-at
 returns-in_err-at c =
-    let p = err_from_is_err_and c.from_residual.result c.from_residual.ensures.1 in
-    rw (p.1, p.2) (laws.body_fault c.loop.invariant c.check_constraint.ensures c.loop-test.true c.in_err-at.ensures)
+    rw (err_is _ c.from_residual.ensures.1) (laws.body_fault c.loop.invariant c.check_constraint.ensures c.loop-test.true c.in_err-at.ensures)
 
 pub loop-preserved : goal.loop-preserved
 loop-preserved c =

@@ -3,4 +3,4 @@ use Rattle.circuit.proofs.BodyLaws.{Body}
 use Rattle.circuit.proofs.reader.check_body.Given as goal
 
 abbrev pub invariant-loop : goal.invariant-loop
-invariant-loop l = Body l.sizes.n l.sizes.p l.sizes.m l.s l.rest l.counter l.at
+invariant-loop l = Body l.s l.sizes l.rest l.counter l.at

@@ -3,5 +3,5 @@ use mathlib.Core.Path.{sym, ◌∙◌}
 use Rattle.circuit.proofs.Sized.{call_sized}
 use Rattle.circuit.proofs.reader.check_circuit.Goals as goal
 
-pub returns-in-Ok-clause-sized : goal.returns-in-Ok-clause-sized
-returns-in-Ok-clause-sized c = λ z e. call_sized (sym c.in-Ok.ensures.answer ∙ e)
+pub returns-clause-sized : goal.returns-clause-sized
+returns-clause-sized c = λ z e. call_sized (sym c.read.ensures.answer ∙ sym c.from.ensures ∙ e)

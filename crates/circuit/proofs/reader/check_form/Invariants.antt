@@ -2,5 +2,5 @@
 use Rattle.circuit.proofs.ReaderLaws.{Terms}
 use Rattle.circuit.proofs.reader.check_form.Given as goal
 
-abbrev pub invariant-loop : goal.invariant-loop
-invariant-loop l = Terms l.n l.p l.part l.count l.counter l.at l.least
+abbrev pub invariant-loop-i : goal.invariant-loop-i
+invariant-loop-i l = Terms l.n l.p l.part l.count l.i l.least
