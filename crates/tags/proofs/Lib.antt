@@ -1,5 +1,4 @@
 pub mod TagLaws
-pub mod FindLaws
 pub mod SheetLaws
 pub mod ShownLaws
 pub mod TaggedLaws

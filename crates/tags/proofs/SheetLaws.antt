@@ -25,6 +25,8 @@ use Rattle.tags.specs.Tag.{Tag, number_fits, Sheet}
 use Rattle.tags.specs.Tagged.{on_tagged, tagged_call}
 use Rattle.tags.specs.Sheet.{
   sheet_letter,
+  sheet_header,
+  entry_size,
   entries_most,
   read_tag,
   no_tag,
@@ -62,8 +64,8 @@ unfolding sheet_on framed
 sheet_given z h e =
     let a = ask_given (framed h) 26 0 _ e in
     let g = none_given (first_from (entry_fits z.n z.p h) 1 (u16_at h 5)) 27 0 _ a.1 in
-    let marked = leb 7 (length h) && has_mark sheet_letter h && eqb (u16_at h 3) 1 in
-    let few = and_right marked _ (and_left (marked && leb (u16_at h 5) entries_most) (eqb (length h) (7 + 7 * u16_at h 5)) a.0) in
+    let marked = leb sheet_header (length h) && has_mark sheet_letter h && eqb (u16_at h 3) 1 in
+    let few = and_right marked _ (and_left (marked && leb (u16_at h 5) entries_most) (eqb (length h) (sheet_header + entry_size * u16_at h 5)) a.0) in
     let is : given _ ≡ given (sheet_of h) = sym g.1 in
     record { few = leb-true _ _ few; none_wrong = g.0; is = cc }
 

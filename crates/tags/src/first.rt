@@ -10,9 +10,11 @@ ghost use Rattle.tags.specs.Answer.{LoweredBy, Lowered};
 
 use crate::sheet::count_of;
 use crate::tag::Tag;
+use circuit::reader::SIGNALS_MOST;
 use circuit::run::value_of;
 
 // Lowers the bound of tag k's signal to its limit, where that is an input, 1 to i.
+// Stays: a test and a store, since nothing is known of a slice after its `get_mut`.
 fn lower_by(sheet: &[u8], bounds: &mut [u32], i: u32, k: u32)
     ensures { LoweredBy i ((sheet_of sheet.now).tag k) bounds.old bounds.new }
 {
@@ -40,5 +42,5 @@ pub fn first_broken(sheet: &[u8], values: &[u32], i: u32) -> Option<u32>
 {
     let mut limits = [u32::MAX; 257];
     lower_inputs(sheet, &mut limits, i);
-    (1..=i.min(256)).find(|s| value_of(&limits, *s) < value_of(values, *s))
+    (1..=i.min(SIGNALS_MOST)).find(|s| value_of(&limits, *s) < value_of(values, *s))
 }

@@ -23,7 +23,7 @@ impl Tag {
 }
 
 // A sheet, the bounds that are to show its tags, and how many inputs there are.
-#[derive(Clone, Copy)]
+#[derive(Clone, Copy, Debug, PartialEq, Eq)]
 struct Showing<'a> {
     sheet: &'a [u8],
     bounds: &'a [u32],

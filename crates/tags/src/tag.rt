@@ -4,13 +4,13 @@ ghost use Rattle.std.specs.Prelude.{◌≡◌, ◌*◌, ◌-◌, ◌^◌, ◌<�
 ghost use Rattle.std.specs.Option.{option_map};
 ghost use Rattle.laws.specs.Step.{within};
 ghost use Rattle.tags.specs.Tag.{limit, limit_by, number_fits};
-ghost use Rattle.tags.specs.Sheet.{kind_of, read_tag};
+ghost use Rattle.tags.specs.Sheet.{entry_start, kind_of, read_tag};
 ghost use Rattle.tags.specs.Answer.{kind_in, tag_of, number_most};
 
 use circuit::bytes::{byte_at, u16_at, u32_at};
 
 // The size of an entry of a sheet (rule 2.5).
-pub(crate) const ENTRY_SIZE: usize = 7;
+pub const ENTRY_SIZE: usize = 7;
 
 // Rule 2.6: the most bits of a maxbit tag.
 const BITS_MOST: u32 = 30;
@@ -33,6 +33,7 @@ fn largest_of(bits: u32) -> u32
 
 impl TagKind {
     // The kind with a number, if it is known.
+    // Stays: the match is the conversion; TryFrom would answer a Result whose error says nothing, and the reader goes on with an Option.
     #[tactic(auto, unfolding(crate::specs::Sheet::kind_of))]
     fn from_number(number: u32) -> Option<TagKind>
         ensures { option_map kind_in result ≡ kind_of number }
@@ -77,8 +78,8 @@ pub(crate) struct Tag {
 }
 
 // Where entry k starts, counted from 1.
-fn start_of(k: u32) -> usize
-    ensures { (result ≡ 7 * k) × (result < 30064771072) }
+fn entry_start(k: u32) -> usize
+    ensures { (result ≡ entry_start k) × (result < 30064771072) }
 {
     ENTRY_SIZE * (k as usize)
 }
@@ -89,7 +90,7 @@ impl Tag {
     pub(crate) fn read(sheet: &[u8], k: u32) -> Option<Tag>
         ensures { option_map tag_of result ≡ read_tag sheet.now k }
     {
-        let at = start_of(k);
+        let at = entry_start(k);
         let kind = TagKind::from_number(byte_at(sheet, at + 2))?;
         Some(Tag {
             signal: u16_at(sheet, at),
@@ -99,6 +100,7 @@ impl Tag {
     }
 
     // Whether the tag doesn't meet refusal 27: its signal is 1 to n, and its number goes with its kind.
+    // Stays: two comparisons, no plainer by `within` of derivation, which lies above.
     #[tactic(auto, unfolding(laws::specs::Step::within))]
     pub(crate) fn fits(self, n: u32, p: u32) -> bool
         ensures { result ≡ within n self.signal && number_fits p (kind_in self.kind) self.number }

@@ -4,15 +4,12 @@ ghost use Rattle.std.specs.Prelude.{◌≡◌, IfOk};
 ghost use Rattle.circuit.specs.Run.{values_in};
 ghost use Rattle.circuit.specs.Runs.{first_from, found};
 ghost use Rattle.circuit.specs.Answer.{given, answer_by};
-ghost use Rattle.tags.specs.Tag.{kept, shown_by};
+ghost use Rattle.tags.specs.Tag.{kept};
 ghost use Rattle.tags.specs.Sheet.{sheet_of, sheet_on};
 ghost use Rattle.tags.specs.Tagged.{tagged_call};
-ghost use Rattle.tags.specs.Answer.{Lowered, shown_in};
 
-use crate::answer::Shown;
-use crate::first::{first_broken, lower_inputs};
+use crate::first::first_broken;
 use crate::sheet::check_sheet;
-use crate::shown::show;
 use circuit::file::CircuitFile;
 use circuit::refusal::Refusal;
 
@@ -34,24 +31,10 @@ impl<'a> Tagged<'a> {
         Ok(Tagged { file, sheet })
     }
 
-    // Rule 3.2: lowers the bound of each input to the limits of all tags on it.
-    pub fn lower_inputs(&self, bounds: &mut [u32])
-        ensures { Lowered self.now.file.sizes.i (sheet_of self.now.sheet.now) bounds.old bounds.new }
-    {
-        lower_inputs(self.sheet, bounds, self.file.sizes.i);
-    }
-
     // Refusal 28: the first input whose value exceeds the limit of a tag on it.
     pub fn first_broken(&self, values: &[u32]) -> Option<u32>
         ensures { result ≡ found (first_from (kept (sheet_of self.now.sheet.now) (values_in values.now)) 1 self.now.file.sizes.i) }
     {
         first_broken(self.sheet, values, self.file.sizes.i)
-    }
-
-    // Rule 6.10.
-    pub fn show(&self, bounds: &[u32]) -> Shown
-        ensures { shown_in result ≡ shown_by self.now.file.sizes.i (sheet_of self.now.sheet.now) (values_in bounds.now) }
-    {
-        show(self.sheet, bounds, self.file.sizes.i)
     }
 }

@@ -1,7 +1,7 @@
 -- A value within the least limit on its input leads on, any other out.
 use Rattle.std.proofs.Common.{rules, arith, sym, ◌∙◌}
 use Rattle.circuit.specs.Run.{values_in}
-use Rattle.tags.proofs.FindLaws.{find_first}
+use Rattle.circuit.proofs.FindLaws.{find_first}
 use Rattle.tags.proofs.TagLaws.{kept_by}
 use Rattle.tags.proofs.first.first_broken.Goals as goal
 

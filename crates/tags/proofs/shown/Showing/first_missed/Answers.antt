@@ -2,7 +2,7 @@
 use Rattle.std.proofs.Common.{rules, arith, sym}
 use Rattle.laws.specs.Sum.{implies}
 use Rattle.tags.specs.Tag.{not_missed}
-use Rattle.tags.proofs.FindLaws.{find_first}
+use Rattle.circuit.proofs.FindLaws.{find_first}
 use Rattle.tags.proofs.shown.Showing.first_missed.Goals as goal
 
 pub returns : goal.returns
