@@ -100,7 +100,7 @@ module _ (z : Sizes) (T : Sheet) (constraint : ℕ → Constraint) (v w : ℕ �
       (record { first = a.0; second = b.0; input = c.0; broken = d.0 }, not-true (agree v w q) f.0, cc)
 
 -- the runs as they are copied into arrays, the second from the part after the first
-pub runs_copied : (z : Sizes) (T : Sheet) (constraint : ℕ → Constraint) (t first second : List ℕ) (q : ℕ) → z.n ≤ 256 → length t ≡ 7 + 8 * z.n
+runs_copied : (z : Sizes) (T : Sheet) (constraint : ℕ → Constraint) (t first second : List ℕ) (q : ℕ) → z.n ≤ 256 → length t ≡ 7 + 8 * z.n
     → let values = take (length t - 7) (drop 7 t) in
     values_in first ≡ value_of (run_in values (min z.n 256))
     → values_in second ≡ value_of (run_in (take (length values - 4 * z.n) (drop (4 * z.n) values)) (min z.n 256))
@@ -140,6 +140,12 @@ module _ (s h t : List ℕ) {z : Sizes} (read : circuit_call s ≡ given z) (fit
   pub file_refused : {number place : ℕ} → refused number place ≡ file_on z t → refused number place ≡ pair_call s h t
   file_refused e = sym (call_by ∙ rw (← e))
 
-  pub runs_answer : {q : ℕ} {r : Answer ℕ} → given q ≡ file_on z t
-      → r ≡ runs_on z (sheet_of h) (constraint_of (drop 17 s)) (value_of (first_run z.n t)) (value_of (second_run z.n t)) q → r ≡ pair_call s h t
-  runs_answer e a = a ∙ sym (call_by ∙ rw (← e))
+  pub runs_answer : (first second : List ℕ) {q : ℕ} {r : Answer ℕ} → given q ≡ file_on z t → length t ≡ 7 + 8 * z.n
+      → let values = take (length t - 7) (drop 7 t) in
+      values_in first ≡ value_of (run_in values (min z.n 256))
+      → values_in second ≡ value_of (run_in (take (length values - 4 * z.n) (drop (4 * z.n) values)) (min z.n 256))
+      → r ≡ runs_on z (sheet_of h) (constraint_of (drop 17 s)) (values_in first) (values_in second) q → r ≡ pair_call s h t
+  runs_answer first second e long f g a =
+      let Z = call_sized read in
+      a ∙ runs_copied z (sheet_of h) (constraint_of (drop 17 s)) t first second _ (omega (arith, Z.formed.n_most, Z.is_n)) long f g
+      ∙ sym (call_by ∙ rw (← e))

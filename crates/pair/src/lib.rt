@@ -6,21 +6,21 @@ ghost use Rattle.std.specs.Prelude.{◌≡◌, ◌+◌, ◌*◌, length, drop, O
 ghost use Rattle.circuit.specs.Reader.{header_size, constraint_of};
 ghost use Rattle.circuit.specs.Run.{values_in};
 ghost use Rattle.circuit.specs.Runs.{value_size};
-ghost use Rattle.circuit.specs.Answer.{answer_of};
+ghost use Rattle.circuit.specs.Answer.{answer_of, answer_by};
 ghost use Rattle.tags.specs.Sheet.{sheet_of};
 ghost use Rattle.pair.specs.Call.{pair_header, file_on, runs_on, pair_call};
 ghost use Rattle.pair.specs.Exact.{Exact};
 ghost use Rattle.pair.specs.Answer.{paper_of};
 
 use circuit::bytes::u16_at;
-use circuit::reader::has_mark;
+use circuit::reader::{has_mark, has_version};
 use circuit::refusal::{Reason, Refusal};
 use circuit::run::value_of;
 use circuit::runs::{VALUE_SIZE, copy_run, first_difference, first_large, first_unsatisfied};
 use tags::tagged::Tagged;
 
 // The letter P of a pair's mark, and the size of its header.
-const PAIR_LETTER: u32 = 80;
+const PAIR_LETTER: u32 = b'P' as u32;
 
 const PAIR_HEADER: usize = 7;
 
@@ -32,8 +32,22 @@ pub enum PairAnswer {
     Accepted { q: u32 },
 }
 
+impl From<Result<u32, Refusal>> for PairAnswer {
+    ghost from_gives = { λ found answer. paper_of answer ≡ answer_of found };
+
+    fn from(found: Result<u32, Refusal>) -> PairAnswer {
+        match found {
+            Ok(q) => PairAnswer::Accepted { q },
+            Err(refusal) => PairAnswer::Refused {
+                number: refusal.number(),
+                place: refusal.place,
+            },
+        }
+    }
+}
+
 // Refusals 18 to 21, or q.
-#[tactic(auto, using(tags::proofs::FindLaws::asks), unfolding(crate::specs::Call::file_on))]
+#[tactic(auto, using(circuit::proofs::FindLaws::asks), unfolding(crate::specs::Call::file_on))]
 fn check_file(tagged: &Tagged, pair: &[u8]) -> Result<u32, Refusal>
     ensures answer { answer_of result ≡ file_on tagged.now.file.sizes pair.now }
     ensures long { OnOk result (length pair.now ≡ pair_header + 2 * value_size * tagged.now.file.sizes.n) }
@@ -42,7 +56,7 @@ fn check_file(tagged: &Tagged, pair: &[u8]) -> Result<u32, Refusal>
     if pair.len() < PAIR_HEADER || !has_mark(pair, PAIR_LETTER) {
         return Err(Reason::PairMark.at(0));
     }
-    if u16_at(pair, 3) != 1 {
+    if !has_version(pair) {
         return Err(Reason::PairVersion.at(0));
     }
     if pair.len() != PAIR_HEADER + 2 * VALUE_SIZE * (sizes.n as usize) {
@@ -58,10 +72,10 @@ fn check_file(tagged: &Tagged, pair: &[u8]) -> Result<u32, Refusal>
     Ok(q)
 }
 
-// Refusals 22, 23, 28 and 24 of two runs, or q.
-#[tactic(auto, using(tags::proofs::FindLaws::asks), unfolding(crate::specs::Call::runs_on, circuit::specs::Runs::agree))]
-fn check_runs(tagged: &Tagged, first: &[u32], second: &[u32], q: u32) -> Result<u32, Refusal>
-    ensures { answer_of result
+// Refusals 22, 23, 28 and 24 of two runs.
+#[tactic(auto, using(circuit::proofs::FindLaws::asks), unfolding(crate::specs::Call::runs_on, circuit::specs::Runs::agree))]
+fn check_runs(tagged: &Tagged, first: &[u32], second: &[u32], q: u32) -> Result<(), Refusal>
+    ensures { answer_by (λ done. q) result
         ≡ runs_on tagged.now.file.sizes (sheet_of tagged.now.sheet.now) (constraint_of (drop header_size tagged.now.file.bytes.now))
         (values_in first.now) (values_in second.now) q }
 {
@@ -82,7 +96,7 @@ fn check_runs(tagged: &Tagged, first: &[u32], second: &[u32], q: u32) -> Result<
     if value_of(first, q) == value_of(second, q) {
         return Err(Reason::OutputAgrees.at(q as usize));
     }
-    Ok(q)
+    Ok(())
 }
 
 // The circuit's refusals 1 to 10, then the sheet's, 26 and 27, then 18 to 24 in reading order with 28 before 24, or q.
@@ -95,19 +109,15 @@ fn judged(circuit: &[u8], sheet: &[u8], pair: &[u8]) -> Result<u32, Refusal>
     let values = &pair[PAIR_HEADER..];
     let first = copy_run(values, n);
     let second = copy_run(&values[VALUE_SIZE * (n as usize)..], n);
-    check_runs(&tagged, &first, &second, q)
+    check_runs(&tagged, &first, &second, q)?;
+    Ok(q)
 }
 
 // The pair call (rule 6.8).
+// Stays: the parameters of the C interface, here and in `judged`.
 pub fn check_pair(circuit: &[u8], sheet: &[u8], pair: &[u8]) -> PairAnswer
     ensures answer { paper_of result ≡ pair_call circuit.now sheet.now pair.now }
     ensures exact { Exact circuit.now sheet.now pair.now (paper_of result) }
 {
-    match judged(circuit, sheet, pair) {
-        Ok(q) => PairAnswer::Accepted { q },
-        Err(refusal) => PairAnswer::Refused {
-            number: refusal.number(),
-            place: refusal.place,
-        },
-    }
+    PairAnswer::from(judged(circuit, sheet, pair))
 }

@@ -16,7 +16,7 @@ use Rattle.circuit.specs.Call.{circuit_call, circuit_of, Sized}
 use Rattle.circuit.specs.declared.reader.Sizes.{Sizes}
 use Rattle.circuit.proofs.AnswerLaws.{ask_given}
 use Rattle.circuit.proofs.SearchLaws.{passed}
-use Rattle.circuit.proofs.Sized.{on_sized, on_refused}
+use Rattle.circuit.proofs.Sized.{call_sized, on_sized, on_refused}
 use Rattle.runs.specs.Call.{Found, first_run, next_run, few, fits, first_on, next_on, first_call, next_call}
 use Rattle.runs.specs.Listed.{EachBelow, IsLeast, Later, FirstAnswer, NextAnswer}
 use Rattle.runs.specs.Answer.{paper_of, run_answer}
@@ -56,24 +56,24 @@ found_none (suc z) e = absurd cc
 
 -- ---- on a circuit that isn't refused
 
--- at most 65,536 candidates, and a buffer with room for a run
-pub record Roomy (z : Sizes) (room : ℕ) : Type 0 where
-  pub is_few : z.p ^ z.n ≤ 65536
-  pub is_room : room ≡ z.n
+module _ (s : List ℕ) {z : Sizes} (read : given z ≡ circuit_call s) where
+  abbrev Z : Sized s z
+  Z = call_sized (sym read)
 
-pub is_roomy : (z : Sizes) (room : ℕ) → given tt ≡ roomy z room → Roomy z room
-unfolding roomy few
-is_roomy z room e =
-    let small = ask_given (few z.p z.n) 30 0 _ (sym e) in
-    let fit = ask_given (eqb room z.n) 31 0 _ small.1 in
-    record { is_few = leb-true (z.p ^ z.n) 65536 small.0; is_room = eqb-true room z.n fit.0 }
-
-module _ {s : List ℕ} {z : Sizes} (Z : Sized s z) where
   positive : 0 < (circuit_of s).p
   positive = omega (arith, Z.formed.p_least)
 
-  pub few_here : {room : ℕ} → Roomy z room → z.n ≤ 10
-  few_here W = few_signals (omega (arith, Z.is_p, Z.formed.p_least)) W.is_few
+  -- at most 65,536 candidates, and a buffer with room for a run
+  module _ (room : ℕ) (e : given tt ≡ roomy z room) where
+    pub few_here : z.n ≤ 10
+    unfolding roomy few
+    few_here =
+        let small = ask_given (few z.p z.n) 30 0 _ (sym e) in
+        few_signals (omega (arith, Z.is_p, Z.formed.p_least)) (leb-true (z.p ^ z.n) 65536 small.0)
+
+    pub room_here : room ≡ z.n
+    unfolding roomy
+    room_here = let small = ask_given (few z.p z.n) 30 0 _ (sym e) in eqb-true room z.n (ask_given (eqb room z.n) 31 0 _ small.1).0
 
   pub start_here : Candidate z.p z.n (value_of [])
   start_here = seek.start_candidate z.p z.n (omega (arith, Z.is_p, Z.formed.p_least))

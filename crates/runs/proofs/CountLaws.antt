@@ -15,7 +15,9 @@ use Rattle.std.specs.Prelude.{Option, None, Some, is_some, MatchOption}
 use Rattle.laws.proofs.Sum.{true_or_false}
 use Rattle.circuit.specs.Circuit.{value_of}
 use Rattle.circuit.specs.Run.{values_in}
+use Rattle.circuit.specs.Runs.{first_from, found}
 use Rattle.circuit.proofs.CopyLaws.{zeros}
+use Rattle.circuit.proofs.SearchLaws.{none, first_at}
 use Rattle.runs.specs.Call.{fits}
 use Rattle.runs.specs.Inner.{Candidate, Rose, Ended}
 
@@ -38,13 +40,26 @@ pub value_is : (run : List ℕ) (s : ℕ) → value_of run (s + 1) ≡ get_or ru
 unfolding value_of
 value_is run s = rw (add-one s)
 
-pub fits_yes : (p : ℕ) (run : List ℕ) (s : ℕ) → get_or run s 0 < p → fits p run (s + 1) ≡ true
+fits_yes : (p : ℕ) (run : List ℕ) (s : ℕ) → get_or run s 0 < p → fits p run (s + 1) ≡ true
 unfolding fits
 fits_yes p run s h = lt-ltb (value_of run (s + 1)) p (omega (arith, value_is run s))
 
-pub fits_no : (p : ℕ) (run : List ℕ) (s : ℕ) → p ≤ get_or run s 0 → fits p run (s + 1) ≡ false
+fits_no : (p : ℕ) (run : List ℕ) (s : ℕ) → p ≤ get_or run s 0 → fits p run (s + 1) ≡ false
 unfolding fits
 fits_no p run s h = le-ltb (value_of run (s + 1)) p (omega (arith, value_is run s))
+
+module _ (p : ℕ) (run : List ℕ) where
+  fits_before : (i : ℕ) → ((k : ℕ) → k < i → get_or run k 0 < p) → (j : ℕ) → 1 ≤ j → j ≤ i → fits p run j ≡ true
+  fits_before i h j l m = let is : j ≡ j - 1 + 1 = omega arith in rw is (fits_yes p run (j - 1) (h (j - 1) (omega arith)))
+
+  pub unfit_none : ((k : ℕ) → k < length run → get_or run k 0 < p) → None ≡ found (first_from (fits p run) 1 (length run))
+  unfit_none h = ap found (sym (none (fits p run) (length run) (fits_before (length run) h)))
+
+  pub unfit_some : (i : ℕ) → i < length run → p ≤ get_or run i 0 → ((k : ℕ) → k < i → get_or run k 0 < p)
+      → Some (i + 1) ≡ found (first_from (fits p run) 1 (length run))
+  unfit_some i l e h =
+      let at = first_at (fits p run) (length run) (i + 1) (omega arith) (omega arith) (fits_no p run i e) (λ j m n. fits_before i h j m (omega arith)) in
+      rw (at, add-one i)
 
 -- the constant one, the values of a run, and zeros after them
 pub run_and_zeros : (run rest : List ℕ) → ((i : ℕ) → get_or rest i 0 ≡ 0) → values_in (1 ∷ (run ++ rest)) ≡ value_of run

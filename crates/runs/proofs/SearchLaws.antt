@@ -220,36 +220,36 @@ module _ {s table : List ℕ} {z : Sizes} (Z : Sized s z) (O : Offsets s z.m tab
   ordered : Ordered (level_at s table z.n) (circuit_of s).m order
   ordered = subst (λ (m : ℕ). Ordered (level_at s table z.n) m order) Z.is_m A
 
-  -- whether the constraint at a place holds, by the code
-  held_here : (i : ℕ) (d : Leveled) → i < length items → {part : List ℕ} {b : Bool} → part ≡ part_of s table (get_or items i d).constraint
-      → b ≡ holds z.p (constraint_in part) v → held_at (circuit_of s) v (get_or order (begin + i) d).constraint ≡ b
-  held_here i d inside e f =
+  -- whether a constraint holds, by the code
+  abbrev holding : Leveled → Bool
+  holding x = holds z.p (constraint_in (part_of s table x.constraint)) v
+
+  held_here : (i : ℕ) (d : Leveled) → i < length items → {b : Bool} → holding (get_or items i d) ≡ b
+      → held_at (circuit_of s) v (get_or order (begin + i) d).constraint ≡ b
+  held_here i d inside e =
       let within : begin + i < length order = omega (arith, items_long, A.sized) in
       let x = A.each (begin + i) d within in
-      held_by Z O v (get_or order (begin + i) d).constraint x.0 x.1 (rw (item_at i d) at e) f
+      held_by Z O v (get_or order (begin + i) d).constraint x.0 x.1 refl (sym (rw (item_at i d) at e))
 
-  pub broken_here : (i : ℕ) (d : Leveled) → HeldWithin (circuit_of s) v order begin (begin + i) → i < length items → {part : List ℕ} {b : Bool}
-      → part ≡ part_of s table (get_or items i d).constraint → b ≡ holds z.p (constraint_in part) v → b ≡ false
-      → Checked (circuit_of s) (level_at s table z.n) v from (Some (get_or items i d).level)
-  broken_here i d H inside e f broken =
-      rw (item_at i d)
-      (checked_some (circuit_of s) ordered B v from (omega arith) (begin + i) d (omega arith) (omega (arith, items_long, A.sized)) H
-      (held_here i d inside e f ∙ broken))
+  held_to : (i : ℕ) (d : Leveled) → i ≤ length items → ((k : ℕ) → k < i → holding (get_or items k d) ≡ true)
+      → HeldWithin (circuit_of s) v order begin (begin + i)
+  held_to i d inside h k g l m =
+      let is : begin + (k - begin) ≡ k = omega arith in
+      let held = held_here (k - begin) d (omega arith) (h (k - begin) (omega arith)) in
+      rw (get_or_default order k g d (omega (arith, items_long, A.sized))) (rw is at held)
 
-  pub broken_later : (i : ℕ) (d : Leveled) → HeldWithin (circuit_of s) v order begin (begin + i) → i < length items → {part : List ℕ} {b : Bool}
-      → part ≡ part_of s table (get_or items i d).constraint → b ≡ holds z.p (constraint_in part) v → b ≡ true
-      → HeldWithin (circuit_of s) v order begin (begin + (i + 1))
-  broken_later i d H inside e f holds_here k g l m = at (ℕ_discrete k (begin + i))
-    where
-      at : Dec (k ≡ begin + i) → held_at (circuit_of s) v (get_or order k g).constraint ≡ true
-      at (yes q) =
-          rw (q, get_or_default order (begin + i) g d (omega (arith, items_long, A.sized))) (held_here i d inside e f ∙ holds_here)
-      at (no q) = H k g l (omega arith)
+  pub broken_here : (i : ℕ) (d x : Leveled) → i < length items → get_or items i d ≡ x → holding x ≡ false
+      → ((k : ℕ) → k < i → holding (get_or items k d) ≡ true) → Checked (circuit_of s) (level_at s table z.n) v from (Some x.level)
+  broken_here i d x inside is e h =
+      rw (sym is, item_at i d)
+      (checked_some (circuit_of s) ordered B v from (omega arith) (begin + i) d (omega arith) (omega (arith, items_long, A.sized))
+      (held_to i d (omega arith) h) (held_here i d inside (rw is e)))
 
-  pub broken_nowhere : (i : ℕ) → HeldWithin (circuit_of s) v order begin (begin + i) → length items ≤ i
+  pub broken_nowhere : (d : Leveled) → ((k : ℕ) → k < length items → holding (get_or items k d) ≡ true)
       → Checked (circuit_of s) (level_at s table z.n) v from None
-  broken_nowhere i H end =
-      checked_none (circuit_of s) ordered B v from (omega arith) (λ k d l m. H k d l (omega (arith, items_long, A.sized, B.inside from)))
+  broken_nowhere d h =
+      checked_none (circuit_of s) ordered B v from (omega arith)
+      (λ k g l m. held_to (length items) d (omega arith) h k g l (omega (arith, items_long, A.sized, B.inside from)))
 
 -- the candidates
 module _ {s table : List ℕ} {z : Sizes} (Z : Sized s z) (O : Offsets s z.m table) (from : ℕ → ℕ) where

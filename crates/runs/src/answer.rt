@@ -3,7 +3,7 @@
 use circuit::refusal::Refusal;
 
 // A refusal's number and place, or that a run was written, or that there are no more.
-// Stays: one enum per call whose cases carry number and place or the result, a form of docs/DECISIONS.md.
+// Stays: one enum for both calls, whose cases carry number and place or the result, a form of docs/DECISIONS.md.
 #[derive(Clone, Copy, Debug, PartialEq, Eq)]
 pub enum RunAnswer {
     Refused { number: u32, place: usize },

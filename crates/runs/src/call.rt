@@ -12,23 +12,24 @@ ghost use Rattle.runs.specs.Inner.{roomy, Candidate, Seeks, Answers};
 
 use crate::answer::RunAnswer;
 use crate::candidates::{advance, few, first_unfit};
-use crate::levels::{Leveled, by_level};
+use crate::levels::{Leveled, SIGNAL_NUMBERS, by_level};
 use crate::search::Levels;
 use circuit::file::{CircuitFile, Constraints};
-use circuit::reader::Sizes;
+use circuit::reader::{CONSTRAINTS_MOST, Sizes};
 use circuit::refusal::{Reason, Refusal};
 
-// Places for the constant one and at most 10 signals: 3 to the power 11 is above 65,536.
-const PLACES: usize = 11;
+// Refusal 30: a circuit whose runs are listed has at most that many candidates.
+pub const CANDIDATES_MOST: u32 = 65536;
 
-const CONSTRAINTS_MOST: usize = 512;
+// So its runs have at most that many values: 3 to the power 11 is above 65,536.
+pub const VALUES_MOST: usize = 10;
 
 // The values of a run after the constant one, 0 past its end.
-fn values_of(run: &[u32]) -> [u32; PLACES]
+fn values_of(run: &[u32]) -> [u32; SIGNAL_NUMBERS]
     requires { length run.now < 11 }
     ensures { values_in result ≡ value_of run.now }
 {
-    let mut values = [0; PLACES];
+    let mut values = [0; SIGNAL_NUMBERS];
     values[0] = 1;
     values[1..=run.len()].copy_from_slice(run);
     values
@@ -49,14 +50,15 @@ fn check_room(sizes: Sizes, room: usize) -> Result<(), Refusal>
 }
 
 // Writes the first run that satisfies the circuit, from a candidate on. Nothing is written before it is found. Whether there is one.
-fn seek(file: CircuitFile, mut values: [u32; PLACES], answer: &mut [u32]) -> bool
+// Stays: the run goes to the buffer of the C interface, so that whether there is one is all that is left to answer.
+fn seek(file: CircuitFile, mut values: [u32; SIGNAL_NUMBERS], answer: &mut [u32]) -> bool
     requires { (file.sizes.n ≤ 10) × (length answer.old ≡ file.sizes.n)
         × Candidate file.sizes.p file.sizes.n (values_in values) }
     ensures { Seeks (circuit_of file.entry.bytes.now) (values_in values) answer.old result answer.new }
 {
     let constraints = Constraints::new(file);
     // Stays: without a heap there is room for the most constraints.
-    let mut order = [Leveled::NONE; CONSTRAINTS_MOST];
+    let mut order = [Leveled::NONE; CONSTRAINTS_MOST as usize];
     let m = file.sizes.m as usize;
     by_level(&constraints, &mut order[..m]);
     let levels = Levels::new(&constraints, &order[..m]);
@@ -78,6 +80,7 @@ fn first_on(circuit: &[u8], answer: &mut [u32]) -> Result<bool, Refusal>
 }
 
 // The next-run call: from the candidate after the given run.
+#[tactic(auto, using(crate::proofs::CallLaws::few_here))]
 fn next_on(circuit: &[u8], run: &[u32], answer: &mut [u32]) -> Result<bool, Refusal>
     ensures { Answers (next_call circuit.now run.now (length answer.old)) answer.old
         (paper_of (run_answer result) answer.new) answer.new }
@@ -108,6 +111,7 @@ pub fn first_run(circuit: &[u8], answer: &mut [u32]) -> RunAnswer
 }
 
 // The next-run call (rule 6.13): refusals 1 to 10, 30 and 31, or the first satisfying run after the given one written, or that there is none.
+// Stays: the parameters of the C interface.
 pub fn next_run(circuit: &[u8], given: &[u32], answer: &mut [u32]) -> RunAnswer
     ensures answer { paper_of result answer.new
         ≡ next_call circuit.now given.now (length answer.old) }

@@ -6,7 +6,7 @@ ghost use Rattle.circuit.specs.Runs.{found, first_from};
 ghost use Rattle.runs.specs.Call.{few as Call·few, fits};
 ghost use Rattle.runs.specs.Inner.{Candidate, Rose, Ended};
 
-const CANDIDATES_MOST: u32 = 65536;
+use crate::call::CANDIDATES_MOST;
 
 // Refusal 30 is not met: p to the power n is at most 65,536.
 #[tactic(auto, unfolding(crate::specs::Call::few))]
@@ -22,12 +22,8 @@ pub(crate) fn first_unfit(run: &[u32], p: u32) -> Option<u32>
     requires { length run.now ≤ 256 }
     ensures { result ≡ found (first_from (fits p run.now) 1 (length run.now)) }
 {
-    for (index, &value) in run.iter().enumerate() {
-        if p <= value {
-            return Some(index as u32 + 1);
-        }
-    }
-    None
+    let index = run.iter().position(|value| p <= *value)?;
+    Some(index as u32 + 1)
 }
 
 // Goes to the next candidate that differs among the first h signals, and gives the signal that has risen, if there is one.

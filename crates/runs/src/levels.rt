@@ -4,12 +4,12 @@ ghost use Rattle.std.specs.Prelude.{◌≡◌, ◌≤◌, take, length};
 ghost use Rattle.std.specs.List.Sorted.{IsNonDecreasingBy};
 ghost use Rattle.runs.specs.Inner.{last_signal, level_in, level_at, Ordered, Starts};
 
-use circuit::bytes::{byte_at, u16_at};
+use crate::call::VALUES_MOST;
 use circuit::file::Constraints;
-use circuit::reader::after_form;
+use circuit::form::{Forms, term_at, term_count};
 
-// The levels of at most 10 signals.
-pub(crate) const LEVELS: usize = 11;
+// The numbers of the constant one, 0, and of at most 10 signals, which are their levels too.
+pub(crate) const SIGNAL_NUMBERS: usize = VALUES_MOST + 1;
 
 // A constraint with its level, in few bytes: for a small circuit clearing the room for 512 of them takes longer than the work.
 #[derive(Clone, Copy, Debug, PartialEq, Eq)]
@@ -31,11 +31,11 @@ impl Leveled {
 fn last_signal(part: &[u8]) -> u32
     ensures { result ≡ last_signal part.now }
 {
-    let count = byte_at(part, 0) as usize;
+    let count = term_count(part);
     if count == 0 {
         0
     } else {
-        u16_at(part, 6 * count - 5)
+        term_at(part, count - 1).signal
     }
 }
 
@@ -44,9 +44,8 @@ fn last_signal(part: &[u8]) -> u32
 fn level_of(part: &[u8], n: u32) -> u32
     ensures { result ≡ level_in n part.now }
 {
-    let b = after_form(part);
-    let c = after_form(b);
-    last_signal(part)
+    let Forms { a, b, c } = Forms::of(part);
+    last_signal(a)
         .max(last_signal(b))
         .max(last_signal(c))
         .min(n)
@@ -71,12 +70,12 @@ pub(crate) fn by_level(constraints: &Constraints, order: &mut [Leveled])
 }
 
 // Where the constraints of each level begin.
-pub(crate) fn starts(order: &[Leveled]) -> [usize; LEVELS]
+pub(crate) fn starts(order: &[Leveled]) -> [usize; SIGNAL_NUMBERS]
     requires { IsNonDecreasingBy (λ x. x.level) order.now }
     ensures { Starts order.now result }
 {
-    let mut starts = [0; LEVELS];
-    for level in 0..LEVELS {
+    let mut starts = [0; SIGNAL_NUMBERS];
+    for level in 0..SIGNAL_NUMBERS {
         starts[level] = order.partition_point(|leveled| (leveled.level as usize) < level);
     }
     starts

@@ -6,7 +6,7 @@ ghost use Rattle.circuit.specs.Call.{circuit_of};
 ghost use Rattle.runs.specs.Inner.{level_at, Ordered, Starts, Candidate, Checked, Sought};
 
 use crate::candidates::advance;
-use crate::levels::{LEVELS, Leveled, starts};
+use crate::levels::{Leveled, SIGNAL_NUMBERS, starts};
 use circuit::file::Constraints;
 use circuit::run::satisfied;
 
@@ -15,7 +15,7 @@ use circuit::run::satisfied;
 pub(crate) struct Levels<'a> {
     constraints: &'a Constraints<'a>,
     order: &'a [Leveled],
-    starts: [usize; LEVELS],
+    starts: [usize; SIGNAL_NUMBERS],
     ghost few: { constraints.now.file.sizes.n ≤ 10 },
     ghost ordered: { let file = constraints.now.file in
         Ordered (level_at file.bytes.now constraints.now.offsets file.sizes.n) file.sizes.m order.now },
@@ -36,7 +36,7 @@ impl<'a> Levels<'a> {
         }
     }
 
-    // The lowest level, from one on, at which the values break a constraint.
+    // The lowest level, from a given one on, at which the values break a constraint.
     fn broken(&self, values: &[u32], from: u32) -> Option<u32>
         requires { from ≤ self.now.constraints.now.file.sizes.n }
         ensures { let file = self.now.constraints.now.file in
@@ -44,17 +44,19 @@ impl<'a> Levels<'a> {
             (level_at file.bytes.now self.now.constraints.now.offsets file.sizes.n)
             (values_in values.now) from result }
     {
-        let sizes = self.constraints.file.sizes;
-        for leveled in &self.order[self.starts[from as usize]..] {
-            let part = self.constraints.part(u32::from(leveled.constraint));
-            if !satisfied(part, values, sizes.p) {
-                return Some(u32::from(leveled.level));
-            }
-        }
-        None
+        let p = self.constraints.file.sizes.p;
+        let broken = self.order[self.starts[from as usize]..]
+            .iter()
+            .find(|leveled| !satisfied(
+                self.constraints.part(u32::from(leveled.constraint)),
+                values,
+                p,
+            ))?;
+        Some(u32::from(broken.level))
     }
 
     // Goes to the first candidate that satisfies the circuit, from the one that the values are on. Whether there is one.
+    // Stays: the search goes on in the caller's values; an option of them would hand back, by a copy, what the caller lent.
     pub(crate) fn search(&self, values: &mut [u32]) -> bool
         requires { let sizes = self.now.constraints.now.file.sizes in
             (sizes.n < length values.old) × Candidate sizes.p sizes.n (values_in values.old) }

@@ -1,9 +1,7 @@
 -- EXACT holds of the call's answer.
+use mathlib.Core.Path.{◌∙◌}
 use Rattle.pair.proofs.Exact.{exact}
 use Rattle.pair.proofs.check_pair.Goals as goal
 
-pub returns-in-Ok-clause-exact : goal.returns-in-Ok-clause-exact
-returns-in-Ok-clause-exact c = rw c.in-Ok.ensures (exact _ _ _)
-
-pub returns-in-Err-clause-exact : goal.returns-in-Err-clause-exact
-returns-in-Err-clause-exact c = rw (c.number.ensures, c.in-Err.ensures) (exact _ _ _)
+pub returns-clause-exact : goal.returns-clause-exact
+returns-clause-exact c = rw (c.from.ensures ∙ c.judged.ensures) (exact _ _ _)

@@ -1,4 +1,5 @@
--- `runs::search::Levels::broken`: a constraint that holds leads on, any other out.
+-- A constraint that holds leads on, any other out.
+use Rattle.std.proofs.Common.{rules}
 use Rattle.circuit.proofs.Sized.{call_sized}
 use Rattle.runs.specs.declared.levels.Leveled.{Leveled}
 use Rattle.runs.proofs.SearchLaws as laws
@@ -8,23 +9,16 @@ use Rattle.runs.proofs.search.Levels.broken.Goals as goal
 abbrev nothing : Leveled
 nothing = record { level = 0; constraint = 0 }
 
-pub returns-then-not-satisfied : goal.returns-then-not-satisfied
-returns-then-not-satisfied c =
+pub returns-in_err-broken : goal.returns-in_err-broken
+returns-in_err-broken c =
     let S = c.args.self.now in
-    rw c.from-then-not-satisfied.ensures
-    (laws.broken_here (call_sized S.constraints.now.file.read) S.constraints.now.placed S.order.now S.starts S.ordered S.begun _ _ c.requires S.few
-    c.loop-leveled.leveled-index nothing c.loop-leveled.invariant c.loop-leveled-test.true (rw c.from.ensures at c.part-part.ensures)
-    c.satisfied.ensures c.if-not-satisfied.true)
-
-pub loop-leveled-preserved : goal.loop-leveled-preserved
-loop-leveled-preserved c =
-    let S = c.args.self.now in
-    laws.broken_later (call_sized S.constraints.now.file.read) S.constraints.now.placed S.order.now S.starts S.ordered S.begun _ _ c.requires S.few
-    c.loop-leveled.leveled-index nothing c.loop-leveled.invariant c.loop-leveled-test.true (rw c.from.ensures at c.part-part.ensures)
-    c.satisfied.ensures c.if-not-satisfied.false
+    rw c.from_residual.ensures
+    (laws.broken_nowhere (call_sized S.constraints.now.file.read) S.constraints.now.placed S.order.now S.starts S.ordered S.begun _ _ c.requires S.few
+    nothing (λ k l. search rules))
 
 pub returns : goal.returns
 returns c =
     let S = c.args.self.now in
-    laws.broken_nowhere (call_sized S.constraints.now.file.read) S.constraints.now.placed S.order.now S.starts S.ordered S.begun _ _ c.requires S.few
-    c.loop-leveled.leveled-index c.loop-leveled.invariant c.loop-leveled-test.false
+    rw c.from.ensures
+    (laws.broken_here (call_sized S.constraints.now.file.read) S.constraints.now.placed S.order.now S.starts S.ordered S.begun _ _ c.requires S.few
+    c.in_ok-broken.ensures.runs.2.0 nothing c.in_ok-broken.broken.now (search rules) (search rules) (search rules) (λ k l. search rules))
