@@ -7,7 +7,7 @@ use native.Mathlib.Nat.{mul-zero, mul-le-mul_right, pos_of_ne-zero}
 use native.Mathlib.Numerals.{add-one}
 use native.Mathlib.Omega.{arith}
 use lib.Dec.{ltb, eqb}
-use lib.ListN.{length, get_or, set, take, length-set}
+use lib.ListN.{length, get_or, set, take, length-set, get_or-eq_default}
 use Rattle.std.proofs.lemmas.List.{get_or-take, length-take-le}
 use lib.Seq.{get_or-set_same, get_or-set_other}
 use Rattle.std.specs.List.{list_all}
@@ -16,7 +16,7 @@ use borrow.Author.Tests.{ne_eqb, eqb-false, lt-ltb, le-ltb, ltb-true, ltb-false,
 use Rattle.field.specs.Inverse.{inverse}
 use Rattle.laws.specs.Sum.{sum, all, keep, implies}
 use Rattle.laws.specs.Rules.{weight, live, differs, smaller_term, smaller_sum, separate, live_term, separated}
-use Rattle.laws.proofs.Sum.{and_left, and_right, and_both, by_test, true_or_false, true_by, false_by, implies_elim, implies_intro, keep_true, keep_false}
+use Rattle.laws.proofs.Sum.{and_left, and_right, and_both, by_test, true_or_false, true_by, false_by, by_order, implies_elim, implies_intro, keep_true, keep_false}
 use Rattle.laws.proofs.Sum.{and-true, keep_le, keep_mono, keep_zero, all_at, all_from, sum_cong, sum_mono}
 use Rattle.rules.specs.View.{coef_in}
 use Rattle.rules.specs.Rows.{rank}
@@ -256,7 +256,23 @@ module _ (q : ℕ → Bool) (f g : ℕ → ℕ) where
     gathered_many n h e full =
         record { upto = k + 1; within = omega arith; many = rw (add-one k) (omega (arith, G.ranked, rank_passed q k e)) }
 
+-- all that have a bound above 0 fit: past the end no digit has one
+pub gathered_few : (f g : ℕ → ℕ) (k : ℕ) (digits : List Digit) (count : ℕ) → Gathered (positive g) f g k digits count → count ≤ 31
+unfolding digit_at positive
+gathered_few f g k digits count G =
+    by_order 31 count
+    (λ l.
+    let R = rank_onto (positive g) k 31 (omega (arith, G.ranked)) in
+    let none : g R.index ≡ 0 =
+    ap (λ (x : Digit). x.bound) (sym (G.held R.index R.below R.passes) ∙ get_or-eq_default digits _ (omega (arith, G.wide, R.is))) in
+    absurd (omega (arith, ltb-true 0 (g R.index) R.passes, none)))
+    (λ l. l)
+
 -- Weights and products of what was gathered
+
+pub digit_take : (k : ℕ) (digits digits' : List Digit) (j : ℕ) → digits' ≡ take k digits → j < k → digit_at digits' j ≡ digit_at digits j
+unfolding digit_at
+digit_take k digits digits' j e l = rw e (get_or-take k digits j _ l)
 
 coef_take : (j : ℕ) (xs : List ℕ) (i : ℕ) → i < j → coef_in (take j xs) i ≡ coef_in xs i
 unfolding coef_in
@@ -295,8 +311,9 @@ module _ (p : ℕ) (W X : ℕ → ℕ) (places : ℕ) where
     weighed_products small = omega (arith, sum_cong j (coef_in products) X G.takes, G.totalled, G.below)
 
     -- the places below j alone
-    pub weighed_take : j ≤ places → Held p W X j j (take j weights) (take j products) total
-    weighed_take h =
+    pub weighed_take : (k : ℕ) → k ≡ j → j ≤ places → Held p W X j j (take k weights) (take k products) total
+    weighed_take k e h =
+        rw e
         record {
           weights_wide = length-take-le j weights (omega (arith, G.weights_wide));
           products_wide = length-take-le j products (omega (arith, G.products_wide));

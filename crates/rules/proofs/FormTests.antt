@@ -4,10 +4,11 @@ use mathlib.Core.Path.{◌≡◌, refl, sym, ◌∙◌}
 use mathlib.Core.Bool.{Bool, true, false, not, ◌&&◌, ◌||◌, or_self}
 use mathlib.Core.List.{[], ◌∷◌}
 use native.Mathlib.Nat.{zero-add, zero-mod, mul-zero, mod-mod}
+use native.Mathlib.Omega.{arith}
 use lib.Dec.{eqb}
+use borrow.Author.Tests.{le-ltb}
 use Rattle.field.specs.Residue.{opposite}
 use Rattle.field.specs.Inverse.{inverse}
-use Rattle.field.proofs.Euclid.{inverse_small}
 use Rattle.circuit.specs.Circuit.{Form, Constraint, coef, names}
 use Rattle.laws.specs.Rules.{names_none, linear, is_zero, names_only, root, others_marked, product_met}
 use Rattle.laws.proofs.Sum.{or_false}
@@ -61,6 +62,11 @@ product_is K m t =
     go false false false true false y false = refl
 
 -- Roots
+
+-- modulo 0 and 1 no inverse is found
+inverse_small : (p c : ℕ) → p < 2 → 0 ≡ inverse p c
+unfolding inverse
+inverse_small p c h = rw (le-ltb 1 p (omega arith))
 
 pub root_small : (p : ℕ) (f : Form) (t : ℕ) → p < 2 → 0 ≡ root p f t
 unfolding root

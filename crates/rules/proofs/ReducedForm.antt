@@ -234,7 +234,7 @@ module _ (p : ℕ) (s : List ℕ) (h : 1 < p) where
 
   -- the forms added one after the other, from nothing
   module _
-      (b c : List ℕ) (b-is : b ≡ after_form s) (c-is : c ≡ after_form b)
+      (b c : List ℕ) (b-is : b ≡ after_form s) (c-is : c ≡ after_form (after_form s))
       (a0 b0 : ℕ) (a0-is : a0 ≡ coef (form_in s) 0 % p) (b0-is : b0 ≡ coef (form_in b) 0 % p)
       {f₀ f₁ f₂ f₃ : List Entry} (none : (t : ℕ) → entry_at f₀ t ≡ nothing)
       (first : FormAdded p b0 1 (form_in s) f₀ f₁) (second : FormAdded p a0 2 (form_in b) f₁ f₂)

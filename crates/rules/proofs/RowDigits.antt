@@ -4,7 +4,11 @@ use mathlib.Core.Path.{◌≡◌, refl, sym, ap, ◌∙◌}
 use mathlib.Core.Bool.{Bool, true, false, not, and-false}
 use mathlib.Core.List.{List}
 use Rattle.std.specs.Prelude.{Option, None, Some}
-use Rattle.std.specs.List.{list_all}
+use Rattle.std.specs.List.{list_all, find, position_or_len}
+use Rattle.std.specs.Option.{option_map}
+use Rattle.std.proofs.lemmas.List.Folds.{find_at}
+use Rattle.std.proofs.lemmas.List.Sums.{fails_before_first, passes_at_first}
+use Rattle.std.proofs.lemmas.Option.{slice_get-get_or, slice_get_past}
 use native.Mathlib.Nat.{mod-lt}
 use native.Mathlib.Omega.{arith}
 use lib.Dec.{eqb}
@@ -19,9 +23,9 @@ use Rattle.laws.proofs.Sum.{and_left, and_right, and_both, by_test, by_order, tr
 use Rattle.laws.proofs.Reduced.{reduced_below, occurs_yes, occurs_no, occurs_nonzero}
 use Rattle.rules.specs.View.{bound_in, mark_in}
 use Rattle.rules.specs.Rows.{entries, entry_at, nothing, rank, stands, signal_on, coef_on, bound_on, Row}
-use Rattle.rules.specs.Live.{live_on, live_bound, bounds_on, positive, Differ}
+use Rattle.rules.specs.Live.{is_live, live_on, live_bound, bounds_on, positive, Differ}
 use Rattle.rules.specs.Weights.{scaled, times, weights_of, products_of, Held, Many, Gathers, Ready, Hopeless, Prepared, exceeds}
-use Rattle.rules.specs.Weights.{Tells, FirstReference, LowestLive}
+use Rattle.rules.specs.Weights.{Tells, FirstReference, FirstLive, LowestLive}
 use Rattle.rules.specs.declared.rows.Entry.{Entry}
 use Rattle.rules.specs.declared.gathered.Digit.{Digit}
 use Rattle.rules.specs.declared.gathered.Few.{Few}
@@ -189,7 +193,7 @@ module _ {p n : ℕ} {K : Constraint} {row : List Entry} (L : Row p n K row) whe
         → (j : ℕ) → j < i → unmarked (signal_on row j) ≡ false
     dead_before i h passed j l = live_there j (omega arith) ∙ passed j l
 
-    pub first_found : (i : ℕ) → i < entries row → live_on marks row i ≡ true
+    first_found : (i : ℕ) → i < entries row → live_on marks row i ≡ true
         → ((j : ℕ) → j < i → live_on marks row j ≡ false) → LowestLive n (reduced p K) (mark_in marks) (signal_on row i)
     first_found i h e passed =
         let here = live_there i h ∙ e in
@@ -201,9 +205,29 @@ module _ {p n : ℕ} {K : Constraint} {row : List Entry} (L : Row p n K row) whe
             (λ a. true_or_false _ f (row_before (λ (u : ℕ). unmarked u ≡ false) dead_off i s h (dead_before i (omega arith) passed) a))
             (λ a. a)
 
-    pub first_none : ((j : ℕ) → j < entries row → live_on marks row j ≡ false) → (s : ℕ) → 1 ≤ s → s ≤ n → unmarked s ≡ false
+    first_none : ((j : ℕ) → j < entries row → live_on marks row j ≡ false) → (s : ℕ) → 1 ≤ s → s ≤ n → unmarked s ≡ false
     first_none passed s l h =
         row_all (λ (u : ℕ). unmarked u ≡ false) dead_off s (dead_before (entries row) (omega arith) passed) h
+
+    abbrev first : ℕ
+    first = position_or_len (is_live marks) row
+
+    fails_before : (j : ℕ) → j < first → live_on marks row j ≡ false
+    unfolding live_on entry_at nothing
+    fails_before j l = fails_before_first (is_live marks) row j nothing l
+
+    -- what a search of the row finds
+    pub first_live : (x : Option ℕ) → x ≡ option_map (λ e. e.signal) (find (is_live marks) row) → FirstLive n (reduced p K) (mark_in marks) x
+    unfolding live_on signal_on entry_at nothing
+    first_live x is =
+        by_order first (entries row)
+        (λ l.
+        let found : x ≡ Some (signal_on row first) =
+        is ∙ ap (option_map (λ (e : Entry). e.signal)) (find_at (is_live marks) row ∙ slice_get-get_or row first nothing l) in
+        rw found (first_found first l (passes_at_first (is_live marks) row nothing l) fails_before))
+        (λ h.
+        let absent : x ≡ None = is ∙ ap (option_map (λ (e : Entry). e.signal)) (find_at (is_live marks) row ∙ slice_get_past row first h) in
+        rw absent (first_none (λ j l. fails_before j (omega arith))))
 
   -- Coefficients
 

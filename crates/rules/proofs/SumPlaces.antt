@@ -218,10 +218,9 @@ module _ {p n : ℕ} {K : Constraint} {row : List Entry} (P : Prime p) (L : Row 
           same : (x y : ℕ) → Some x ≡ Some y → x ≡ y
           same x y q = cc
 
-      pub lowering_over :
-          (0 < p → Target R' (entries row) found → b (signal_on row found) ≤ sum (entries row) (sum_term p R' b' found))
-          → OneSum p n R b None
-      lowering_over h =
+      pub lowering_over : {limit : ℕ} → b (signal_on row found) ≤ limit
+          → (0 < p → Target R' (entries row) found → limit ≤ sum (entries row) (sum_term p R' b' found)) → OneSum p n R b None
+      lowering_over {limit} least h =
           record {
             only = λ t l m o below less. absurd (omega (arith, over t l m o less));
             held = tt;
@@ -232,11 +231,11 @@ module _ {p n : ℕ} {K : Constraint} {row : List Entry} (P : Prime p) (L : Row 
               let q = there t l m o less in
               let signal : signal_on row found ≡ t = rw q (signal_there t l m o less) in
               let T : Target R' (entries row) found = rw q (signal_target t l m o) in
-              rw signal at (sum_over found T h)
+              omega (arith, rw signal at least, rw signal at (sum_over found T h))
 
-      pub lowering_found : {x : ℕ} → Total p R' b' (entries row) found (b (signal_on row found)) x
+      pub lowering_found : {limit x : ℕ} → limit ≤ b (signal_on row found) → Total p R' b' (entries row) found limit x
           → OneSum p n R b (Some (record { target = signal_on row found; bound = x }))
-      lowering_found {x} F =
+      lowering_found {limit} {x} most F =
           let S = target_signal found F.target in
           let is = sum_is found F.target F in
           record {
@@ -247,7 +246,7 @@ module _ {p n : ℕ} {K : Constraint} {row : List Entry} (P : Prime p) (L : Row 
               present = S.present;
               is = sym is;
               below = omega (arith, F.below, low (signal_on row found));
-              lower = F.below;
+              lower = omega (arith, F.below);
             };
           }
         where

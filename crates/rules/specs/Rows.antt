@@ -90,10 +90,14 @@ row_of table ends rows k = take (at ends k - start_of table k) (drop (start_of t
 pub record Rows (C : Circuit) (table ends : List ℕ) (rows : List Entry) : Type 0 where
   pub each : (k : ℕ) → 1 ≤ k → k ≤ C.m → (at ends k ≡ 0) ⊎ Row C.p C.n (constraint_at C k) (row_of table ends rows k)
 
+-- how many places for entries the rows of so many bytes and m constraints lie in
+abbrev pub places : ℕ → ℕ → ℕ
+places bytes m = bytes / 6 + m + 1
+
 -- room for the rows of every circuit of so many bytes, and for m ends
 pub record Roomy (bytes m : ℕ) (ends : List ℕ) (rows : List Entry) : Type 0 where
   pub ends_room : m < length ends
-  pub rows_room : bytes / 6 + m + 1 ≤ length rows
+  pub rows_room : places bytes m ≤ length rows
 
 -- Making rows
 

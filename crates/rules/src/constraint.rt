@@ -1,4 +1,5 @@
 // What the rules ask of one constraint, whose part of the circuit bytes starts at it: linear, root and product.
+// Stays: part, marks, t and p as parameters, here and for forms: each function reads up to three of them, and no fact joins them.
 
 ghost use Rattle.std.specs.Prelude.{◌≡◌, not, ◌&&◌};
 ghost use Rattle.circuit.specs.Circuit.{names};
@@ -8,6 +9,7 @@ ghost use Rattle.rules.specs.View.{mark_in};
 
 use crate::arith::multiply_add;
 use crate::form::{coefficients, names_beside};
+use circuit::form::Forms;
 use circuit::reader::after_form;
 use field::modular::inverse;
 
@@ -51,6 +53,7 @@ fn names_just(part: &[u8], t: u32) -> bool
 }
 
 // Rule 4.1: whether A or B names no signal.
+// Stays: B by `after_form`, here and in `root_bound`, since `Forms` would find the third form too, which isn't looked at.
 #[tactic(auto, unfolding(laws::specs::Rules::linear, circuit::specs::Reader::constraint_in))]
 pub fn is_linear(part: &[u8]) -> bool
     ensures { result ≡ linear (constraint_in part.now) }
@@ -63,9 +66,8 @@ pub fn is_linear(part: &[u8]) -> bool
 pub fn root_met(part: &[u8], t: u32) -> bool
     ensures { result ≡ root_met (constraint_in part.now) t }
 {
-    let b = after_form(part);
-    let c = after_form(b);
-    is_zero(c) && names_just(part, t) && names_just(b, t)
+    let Forms { a, b, c } = Forms::of(part);
+    is_zero(c) && names_just(a, t) && names_just(b, t)
 }
 
 // Where the form is 0, if it names only t.
@@ -92,10 +94,6 @@ pub fn root_bound(part: &[u8], p: u32, t: u32) -> u32
 pub fn product_met(part: &[u8], marks: &[bool], t: u32) -> bool
     ensures { result ≡ product_met (constraint_in part.now) (mark_in marks.now) t }
 {
-    let b = after_form(part);
-    let c = after_form(b);
-    !is_linear(part)
-        && stands_in(c, marks, t)
-        && stays_out(part, marks, t)
-        && stays_out(b, marks, t)
+    let Forms { a, b, c } = Forms::of(part);
+    !is_linear(part) && stands_in(c, marks, t) && stays_out(a, marks, t) && stays_out(b, marks, t)
 }

@@ -1,9 +1,11 @@
 // The digits rule over a row: whether the weights of its unmarked signals separate their values, as those of a mixed-radix numeral do.
 // What doesn't turn on the reference is tested once: modulo a prime weights differ exactly if coefficients do. Sums run over the entries with
 // a bound above 0, of which a row that passes has fewer than 32, since 2 to their number is at most p.
+// Stays: that a row is one of a constraint (`Row`) is a premise of promises, here and for sums, and no type: the functions take any slice.
 
 ghost use Rattle.std.specs.Prelude.{◌≡◌, true, false, List, ℕ, ◌≤◌, ◌<◌};
-ghost use Rattle.std.specs.List.{list_any};
+ghost use Rattle.std.specs.List.{list_any, find};
+ghost use Rattle.std.specs.Option.{option_copied};
 ghost use Rattle.field.specs.Prime.{Prime};
 ghost use Rattle.circuit.specs.Circuit.{Constraint};
 ghost use Rattle.circuit.specs.Reader.{constraint_in};
@@ -17,30 +19,26 @@ ghost use Rattle.rules.specs.Weights.{Gathers, Ready, Prepared, Tells, FirstLive
 
 use crate::arith::product;
 use crate::constraint::is_linear;
-use crate::gathered::{Digit, Few, Weighed, weight_of};
+use crate::gathered::{DIGITS_MOST, Digit, Few, Weighed, weight_of};
 use crate::rows::Entry;
 use crate::sums::place_in;
 use crate::view::{bound_at, mark_at};
 use field::modular::inverse;
 
-// Whether an entry is an unmarked signal with a coefficient.
+// Whether an entry is an unmarked signal with a coefficient. The mark first: a row of marked signals then takes 0.7 of the time.
+// Stays: by `is_marked` here and `bound` in `live_bound` solving bits behind decoys took 1.19 times as long, by `bound` alone 1.03 times.
 #[tactic(auto, unfolding(crate::specs::Live::is_live))]
 pub(crate) fn is_live(entry: &Entry, marks: &[bool]) -> bool
     ensures { result ≡ is_live marks.now entry.now }
 {
-    entry.signal != 0 && entry.coefficient != 0 && !mark_at(marks, entry.signal as usize)
+    !mark_at(marks, entry.signal as usize) && entry.coefficient != 0 && entry.signal != 0
 }
 
-// The bound of an entry if it is one, else 0.
-#[tactic(auto, unfolding(crate::specs::Live::live_bound))]
-fn live_bound(entry: &Entry, bounds: &[u32], marks: &[bool], p: u32) -> u32
-    ensures { result ≡ live_bound p bounds.now marks.now entry.now }
+// The first entry that is an unmarked signal with a coefficient.
+fn first_live_entry<'a>(row: &'a [Entry], marks: &[bool]) -> Option<&'a Entry>
+    ensures { option_copied result ≡ find (is_live marks.now) row.now }
 {
-    if is_live(entry, marks) {
-        bound_at(bounds, entry.signal as usize, p)
-    } else {
-        0
-    }
+    row.iter().find(|entry| is_live(entry, marks))
 }
 
 // The lowest unmarked signal of the row with a coefficient, None where there is none.
@@ -48,29 +46,11 @@ pub fn first_live(row: &[Entry], marks: &[bool]) -> Option<u32>
     ensures { (p n : ℕ) (K : Constraint) → 0 < p → Row p n K row.now
         → FirstLive n (reduced p K) (mark_in marks.now) result }
 {
-    for entry in row {
-        if is_live(entry, marks) {
-            return Some(u32::from(entry.signal));
-        }
-    }
-    None
+    first_live_entry(row, marks).map(|entry| u32::from(entry.signal))
 }
 
-// Whether the bounds of the unmarked entries add up to p or more. So do they with weights, which are at least 1.
-fn is_crowded(row: &[Entry], bounds: &[u32], marks: &[bool], p: u32) -> bool
-    ensures { result ≡ true → p ≤ sum (entries row.now) (bounds_on p bounds.now marks.now row.now) }
-{
-    let mut reach: u64 = 0;
-    for entry in row {
-        reach += u64::from(live_bound(entry, bounds, marks, p));
-        if u64::from(p) <= reach {
-            return true;
-        }
-    }
-    false
-}
-
-// Whether x is among the coefficients of the entries. No early end, so that the loop takes several at once.
+// Whether x is among the coefficients of the entries.
+// Stays: no early end, so that the loop takes several at once; with `any` a search of 30 entries takes 3.8 times as long, one of 96 6.2 times.
 fn is_among(some: &[Entry], x: u32) -> bool
     ensures { result ≡ false → (u : ℕ) → u < entries some.now → coef_on some.now u ≡ x → ⊥ }
 {
@@ -83,82 +63,133 @@ fn is_among(some: &[Entry], x: u32) -> bool
     found
 }
 
-// Whether x is among the coefficients of the unmarked entries, which are `least` to `most`: outside of that range no search is needed.
-fn is_taken(some: &[Entry], marks: &[bool], x: u32, least: u32, most: u32) -> bool
-    requires { Between (coef_on some.now) (live_on marks.now some.now) (entries some.now) least most }
-    ensures { result ≡ list_any (has_coefficient marks.now x) some.now }
-{
-    if most < x || x < least || !is_among(some, x) {
-        return false;
-    }
-    some.iter()
-        .any(|entry| is_live(entry, marks) && entry.coefficient == x)
+// A row, and the bounds and marks of signals, modulo p.
+// Stays: beside `Sums`, since the sum rule looks at no marks, and where sums are sought none are at hand.
+#[derive(Clone, Copy, Debug, PartialEq, Eq)]
+struct Digits<'a> {
+    row: &'a [Entry],
+    bounds: &'a [u32],
+    marks: &'a [bool],
+    p: u32,
 }
 
-// Whether the coefficients of the unmarked entries differ.
-fn coefs_differ(row: &[Entry], marks: &[bool]) -> bool
-    ensures { (result ≡ true → Differ (coef_on row.now) (live_on marks.now row.now) (entries row.now))
-        × (result ≡ false → Differ (coef_on row.now) (live_on marks.now row.now) (entries row.now) → ⊥) }
-{
-    let mut least = u32::MAX;
-    let mut most: u32 = 0;
-    for (i, entry) in row.iter().enumerate() {
-        if is_live(entry, marks) {
-            let coef = entry.coefficient;
-            if is_taken(&row[..i], marks, coef, least, most) {
-                return false;
-            }
-            least = least.min(coef);
-            most = most.max(coef);
+impl<'a> Digits<'a> {
+    // The bound of an entry if it is an unmarked signal with a coefficient, else 0.
+    // Stays: not by the entry's `bound`, as above.
+    fn live_bound(self, entry: &Entry) -> u32
+        ensures { result ≡ live_bound self.entry.p self.entry.bounds.now self.entry.marks.now entry.now }
+    {
+        if is_live(entry, self.marks) {
+            bound_at(self.bounds, entry.signal as usize, self.p)
+        } else {
+            0
         }
     }
-    true
-}
 
-// Gathers the unmarked entries with a bound above 0; None where they are 32 or more.
-fn gather(row: &[Entry], bounds: &[u32], marks: &[bool], p: u32) -> Option<Few>
-    ensures { Gathers p row.now bounds.now marks.now result }
-{
-    let none = Digit {
-        coefficient: 0,
-        bound: 0,
-    };
-    let mut digits = [none; 31];
-    let mut count: usize = 0;
-    for entry in row {
-        let bound = live_bound(entry, bounds, marks, p);
-        if bound != 0 {
-            if count == 31 {
-                return None;
+    // Whether the bounds of the unmarked entries add up to p or more. So do they with weights, which are at least 1.
+    fn is_crowded(self) -> bool
+        ensures { result ≡ true → self.entry.p ≤ sum (entries self.entry.row.now)
+            (bounds_on self.entry.p self.entry.bounds.now self.entry.marks.now self.entry.row.now) }
+    {
+        let mut reach: u64 = 0;
+        for entry in self.row {
+            reach += u64::from(self.live_bound(entry));
+            if u64::from(self.p) <= reach {
+                return true;
             }
-            digits[count] = Digit {
-                coefficient: entry.coefficient,
-                bound,
-            };
-            count += 1;
         }
+        false
     }
-    Some(Few { digits, count })
-}
 
-// Gathers, where coefficients differ; None where no reference separates.
-fn gather_differing(row: &[Entry], bounds: &[u32], marks: &[bool], p: u32) -> Option<Few>
-    ensures { Prepared p row.now bounds.now marks.now result }
-{
-    if !coefs_differ(row, marks) {
-        return None;
+    // Whether x is among the coefficients of the unmarked entries, which are `least` to `most`: outside of that range no search is needed.
+    fn is_taken(self, x: u32, least: u32, most: u32) -> bool
+        requires { Between (coef_on self.row.now) (live_on self.marks.now self.row.now) (entries self.row.now) least most }
+        ensures { result ≡ list_any (has_coefficient self.entry.marks.now x) self.entry.row.now }
+    {
+        if most < x || x < least || !is_among(self.row, x) {
+            return false;
+        }
+        self.row.iter().any(|entry| is_live(entry, self.marks) && entry.coefficient == x)
     }
-    gather(row, bounds, marks, p)
+
+    // Whether the coefficients of the unmarked entries differ.
+    fn coefs_differ(self) -> bool
+        ensures { (result ≡ true
+            → Differ (coef_on self.entry.row.now) (live_on self.entry.marks.now self.entry.row.now) (entries self.entry.row.now))
+            × (result ≡ false
+            → Differ (coef_on self.entry.row.now) (live_on self.entry.marks.now self.entry.row.now) (entries self.entry.row.now) → ⊥) }
+    {
+        let mut least = u32::MAX;
+        let mut most: u32 = 0;
+        for (i, entry) in self.row.iter().enumerate() {
+            if is_live(entry, self.marks) {
+                let coef = entry.coefficient;
+                let before = Digits {
+                    row: &self.row[..i],
+                    ..self
+                };
+                if before.is_taken(coef, least, most) {
+                    return false;
+                }
+                least = least.min(coef);
+                most = most.max(coef);
+            }
+        }
+        true
+    }
+
+    // Gathers the unmarked entries with a bound above 0; None where they are 32 or more.
+    fn gather(self) -> Option<Few>
+        ensures { Gathers self.entry.p self.entry.row.now self.entry.bounds.now self.entry.marks.now result }
+    {
+        let none = Digit {
+            coefficient: 0,
+            bound: 0,
+        };
+        let mut digits = [none; DIGITS_MOST];
+        let mut count: usize = 0;
+        for entry in self.row {
+            let bound = self.live_bound(entry);
+            if bound != 0 {
+                if count == DIGITS_MOST {
+                    return None;
+                }
+                digits[count] = Digit {
+                    coefficient: entry.coefficient,
+                    bound,
+                };
+                count += 1;
+            }
+        }
+        Some(Few { digits, count })
+    }
+
+    // Gathers, where coefficients differ; None where no reference separates.
+    fn gather_differing(self) -> Option<Few>
+        ensures { Prepared self.entry.p self.entry.row.now self.entry.bounds.now self.entry.marks.now result }
+    {
+        if !self.coefs_differ() {
+            return None;
+        }
+        self.gather()
+    }
 }
 
 // All that is tested once for all references; None where none separates. The sum of the bounds is for a search, which has many such rows.
+// Stays: slices as parameters, here and in the functions on rows below: a public one takes the slices that its callers hold, and so do those it calls.
 pub fn prepare(row: &[Entry], bounds: &[u32], marks: &[bool], p: u32) -> Option<Few>
     ensures { Prepared p row.now bounds.now marks.now result }
 {
-    if is_crowded(row, bounds, marks, p) {
+    let digits = Digits {
+        row,
+        bounds,
+        marks,
+        p,
+    };
+    if digits.is_crowded() {
         return None;
     }
-    gather_differing(row, bounds, marks, p)
+    digits.gather_differing()
 }
 
 // Whether the reference with this coefficient separates the unmarked signals of the row, of which those with a bound above 0 are gathered: the sum of
@@ -170,11 +201,11 @@ fn separates(row: &[Entry], marks: &[bool], few: &Few, p: u32, coef: u32) -> boo
         → result ≡ specs.separated p n (reduced p K) (bound_in p bounds) (mark_in marks.now) r }
 {
     let scale = inverse(p, coef);
-    let mut weights = [0u32; 31];
-    let mut products = [0u32; 31];
+    let digits = few.gathered();
+    let mut weights = [0u32; DIGITS_MOST];
+    let mut products = [0u32; DIGITS_MOST];
     let mut total: u64 = 0;
-    for j in 0..few.count {
-        let digit = few.digits[j];
+    for (j, digit) in digits.iter().enumerate() {
         let weight = weight_of(digit.coefficient, scale, p);
         let term = product(weight, digit.bound);
         total += term;
@@ -185,8 +216,8 @@ fn separates(row: &[Entry], marks: &[bool], few: &Few, p: u32, coef: u32) -> boo
         products[j] = term as u32;
     }
     let weighed = Weighed {
-        weights: &weights[..few.count],
-        products: &products[..few.count],
+        weights: &weights[..digits.len()],
+        products: &products[..digits.len()],
         scale,
         p,
     };
@@ -208,7 +239,8 @@ pub fn separates_at(row: &[Entry], marks: &[bool], few: &Few, p: u32, i: usize) 
     separates(row, marks, few, p, coef)
 }
 
-// The coefficient of signal s in the reduced form: 0 where it drops out.
+// The coefficient of signal s in the reduced form.
+// Stays: 0 and no None where the row lacks s, since 0 is what the reduced form has there.
 fn coef_of(row: &[Entry], s: u32) -> u32
     ensures { (p n : ℕ) (K : Constraint) → 0 < p → Row p n K row.now → 1 ≤ s → s ≤ n → result ≡ reduced p K s }
 {
@@ -219,6 +251,7 @@ fn coef_of(row: &[Entry], s: u32) -> u32
 }
 
 // Rule 4.7 by a row: whether the digits rule is met for target t with reference r.
+// Stays: parameters, as of `prepare`.
 pub(crate) fn digits_met(
     part: &[u8],
     row: &[Entry],
@@ -241,7 +274,13 @@ pub(crate) fn digits_met(
     if coef == 0 {
         return false;
     }
-    match gather_differing(row, bounds, marks, p) {
+    let digits = Digits {
+        row,
+        bounds,
+        marks,
+        p,
+    };
+    match digits.gather_differing() {
         None => false,
         Some(few) => separates(row, marks, &few, p, coef),
     }

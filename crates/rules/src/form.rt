@@ -1,7 +1,7 @@
 // Forms in bytes: what a form names, and its coefficients.
+// Stays: parameters, as in constraint.rt.
 
-ghost use Rattle.std.specs.Prelude.{◌≡◌, Some, None, cond, ◌&&◌, ◌+◌, ◌*◌, ◌%◌, ◌<◌, leb, eqb};
-ghost use Rattle.circuit.specs.Bytes.{byte_at, u16_at, u32_at};
+ghost use Rattle.std.specs.Prelude.{◌≡◌, Some, None, cond, ◌&&◌, ◌%◌, ◌<◌, leb, eqb};
 ghost use Rattle.circuit.specs.Circuit.{coef, names};
 ghost use Rattle.circuit.specs.Reader.{signals_most, form_in};
 ghost use Rattle.laws.specs.Sum.{keep};
@@ -10,36 +10,8 @@ ghost use Rattle.rules.specs.View.{mark_in};
 ghost use Rattle.rules.specs.Steps.{allowed};
 
 use crate::view::mark_at;
-use circuit::bytes::{byte_at, u16_at, u32_at};
-
-// The most signals of a circuit.
-const SIGNALS_MOST: u32 = 256;
-
-// A term of a form: its signal and its coefficient.
-#[derive(Clone, Copy)]
-pub(crate) struct Term {
-    pub signal: u32,
-    pub coefficient: u32,
-}
-
-// How many terms the form at the start of the part has.
-pub(crate) fn term_count(part: &[u8]) -> usize
-    ensures { (result ≡ byte_at part.now 0) × (result < 256) }
-{
-    byte_at(part, 0) as usize
-}
-
-// Its term i, counted from 0: after the count byte, six bytes for each.
-pub(crate) fn term_at(part: &[u8], i: usize) -> Term
-    requires { i < 256 }
-    ensures { (result.signal ≡ u16_at part.now (1 + 6 * i)) × (result.coefficient ≡ u32_at part.now (1 + 6 * i + 2)) }
-{
-    let at = 1 + 6 * i;
-    Term {
-        signal: u16_at(part, at),
-        coefficient: u32_at(part, at + 2),
-    }
-}
+use circuit::form::{Term, term_at, term_count};
+use circuit::reader::SIGNALS_MOST;
 
 // Whether a term on this signal is one on t. A signal above 256 is passed over.
 fn is_on(signal: u32, t: u32) -> bool
@@ -78,14 +50,14 @@ fn term_on(term: Term, t: u32) -> u64
     ensures { (result ≡ keep (leb term.signal signals_most && eqb term.signal t) term.coefficient) × (result < 4294967296) }
 {
     if is_on(term.signal, t) {
-        term.coefficient as u64
+        u64::from(term.coefficient)
     } else {
         0
     }
 }
 
 // A form as a function of one signal: its constant and that signal's coefficient modulo p.
-#[derive(Clone, Copy)]
+#[derive(Clone, Copy, Debug, PartialEq, Eq)]
 pub(crate) struct Affine {
     pub constant: u32,
     pub coef: u32,
@@ -103,8 +75,9 @@ pub(crate) fn coefficients(part: &[u8], t: u32, p: u32) -> Affine
         constant += term_on(term, 0);
         coef += term_on(term, t);
     }
+    let modulus = u64::from(p);
     Affine {
-        constant: (constant % p as u64) as u32,
-        coef: (coef % p as u64) as u32,
+        constant: (constant % modulus) as u32,
+        coef: (coef % modulus) as u32,
     }
 }

@@ -1,12 +1,15 @@
 // What is gathered of a row for the digits test: the unmarked entries with a bound above 0, and their weights by the scale of a reference.
 
-ghost use Rattle.std.specs.Prelude.{◌≡◌, ◌*◌, ◌%◌, ◌≤◌, ◌<◌, length};
+ghost use Rattle.std.specs.Prelude.{◌≡◌, ◌*◌, ◌%◌, ◌<◌, length, take, min};
 ghost use Rattle.laws.specs.Sum.{sum};
 ghost use Rattle.rules.specs.View.{coef_in};
 
 use crate::arith::multiply_add;
 use crate::digits::is_live;
 use crate::rows::Entry;
+
+// The most digits of a row that passes, since 2 to their number is at most p.
+pub(crate) const DIGITS_MOST: usize = 31;
 
 // The coefficient of an unmarked entry, and its bound, above 0.
 #[derive(Clone, Copy, Debug, PartialEq, Eq)]
@@ -19,9 +22,17 @@ pub struct Digit {
 // Stays: an array with a count, since there is no heap.
 #[derive(Clone, Copy, Debug, PartialEq, Eq)]
 pub struct Few {
-    pub digits: [Digit; 31],
+    pub digits: [Digit; DIGITS_MOST],
     pub count: usize,
-    ghost few: { count ≤ 31 },
+}
+
+impl Few {
+    // The digits that are gathered; for all counts.
+    pub(crate) fn gathered(&self) -> &[Digit]
+        ensures { (result.now ≡ take (min self.entry.now.count 31) self.entry.now.digits) × (length result.now ≡ min self.entry.now.count 31) }
+    {
+        &self.digits[..self.count.min(DIGITS_MOST)]
+    }
 }
 
 // The weight of a coefficient, where the scale is the inverse of the reference's.
@@ -34,7 +45,7 @@ pub(crate) fn weight_of(coef: u32, scale: u32, p: u32) -> u32
 
 // The weights of the digits by the scale of a reference, and weight times bound.
 // Stays: weights and products apart, so that the loop over both takes several at once; one at a time, renewals on 30 digits took 1.9 times as long.
-#[derive(Clone, Copy)]
+#[derive(Clone, Copy, Debug, PartialEq, Eq)]
 pub(crate) struct Weighed<'a> {
     pub(crate) weights: &'a [u32],
     pub(crate) products: &'a [u32],
@@ -57,7 +68,7 @@ impl<'a> Weighed<'a> {
         if weight < w { product } else { 0 }
     }
 
-    // The sum of the products of weights below w. No early end, as above.
+    // The sum of the products of weights below w. No early end, so that the loop takes several at once.
     fn smaller_sum(&self, w: u32) -> u32
         ensures { result ≡ sum (length self.entry.now.weights.now) (smaller_at (coef_in self.entry.now.weights.now) (coef_in self.entry.now.products.now) w) }
     {

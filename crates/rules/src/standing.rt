@@ -13,6 +13,8 @@ use crate::digits::digits_met;
 use crate::rows::Entry;
 use crate::sums::sum_step;
 use crate::view::bound_at;
+use circuit::reader::SIGNALS_MOST;
+use std::fmt;
 
 // Rule 3.1. Signal 0 is the constant one; bounds and marks of signals above 256 are those of the start.
 // Stays: two arrays by value, a form of docs/DECISIONS.md.
@@ -41,6 +43,19 @@ pub enum Kind {
     Digits,
 }
 
+// Stays: written by hand, since std derives no Display.
+impl fmt::Display for Kind {
+    fn fmt<W: fmt::Write>(&self, f: &mut fmt::Formatter<W>) -> fmt::Result {
+        f.write_str(match self {
+            Kind::Root => "root",
+            Kind::Sum => "sum",
+            Kind::Zero => "zero",
+            Kind::Product => "product",
+            Kind::Digits => "digits",
+        })
+    }
+}
+
 // Rule 4.3: the bound that the root rule gives, if it is met.
 fn root_step(part: &[u8], p: u32, t: u32) -> Option<u32>
     ensures { result ≡ bound_given (rule laws.Root (subject_in p 0 part.now) (view_of p [] []) t 0) }
@@ -58,9 +73,7 @@ impl Standing {
     {
         let bounds = if p == 0 { [0; 257] } else { [p - 1; 257] };
         let mut marks = [false; 257];
-        for s in 0..i.min(256) as usize {
-            marks[s + 1] = true;
-        }
+        marks[1..=i.min(SIGNALS_MOST) as usize].fill(true);
         Standing { bounds, marks }
     }
 
@@ -72,8 +85,8 @@ impl Standing {
         let most = most?;
         let at = t as usize;
         let mut idle = true;
-        // Stays: after `get_mut` of an array a proof knows no element of it.
-        if at < 257 {
+        // Stays: a test and a store, since nothing is known of a slice's elements after its `get_mut`.
+        if at < self.bounds.len() {
             let bound = self.bounds[at];
             idle = bound <= most;
             self.bounds[at] = bound.min(most);
@@ -91,7 +104,7 @@ impl Standing {
         let at = t as usize;
         let mut idle = true;
         // Stays: as in `lower`.
-        if at < 257 {
+        if at < self.marks.len() {
             idle = self.marks[at];
             self.marks[at] = true;
         }
@@ -99,6 +112,7 @@ impl Standing {
     }
 
     // Rules 4.3 to 4.7, in place, by the constraint at the start of the part and its row, at which only some rules look. No target in range is above 256.
+    // Stays: six parameters here and in `step`: just what a rule looks at, and each method takes its part of them (docs/DECISIONS.md, Forms).
     fn change(
         &mut self,
         kind: Kind,
@@ -135,7 +149,7 @@ impl Standing {
         }
     }
 
-    // A step of any kind.
+    // A step of any kind. Fast where the caller's loop calls it itself: a function that is called for each step and holds the Outcome clears its 1.3 kB first.
     pub fn step(mut self, kind: Kind, part: &[u8], row: &[Entry], p: u32, t: u32, r: u32) -> Outcome
         ensures { (n : ℕ) → Asked (kind_of kind) p n part.now row.now t r
             → Gives p result (view p self) t (rule (kind_of kind) (subject_in p n part.now) (view p self) t r) }
@@ -145,7 +159,7 @@ impl Standing {
     }
 
     // A method for each kind, by its row in the table of rules.
-    // Stays: parameters, since each method takes just what its rule looks at, and a struct of all would be made for one call.
+    // Stays: parameters, as in `change`.
 
     pub fn root(self, part: &[u8], p: u32, t: u32) -> Outcome
         ensures { (n r : ℕ) (row : List Entry) → Asked laws.Root p n part.now row t r
@@ -168,6 +182,7 @@ impl Standing {
         self.step(Kind::Zero, &[], &[], p, t, 0)
     }
 
+    // Stays: not by `step`, since it takes no p, and what it promises holds for each.
     pub fn product(mut self, part: &[u8], t: u32) -> Outcome
         ensures { (p n r : ℕ) (row : List Entry) → Asked laws.Product p n part.now row t r
             → Gives p result (view p self) t (rule laws.Product (subject_in p n part.now) (view p self) t r) }

@@ -22,7 +22,7 @@ pub(crate) fn place_in(row: &[Entry], t: u32) -> Option<usize>
 }
 
 // A row and the bounds of signals, modulo p.
-#[derive(Clone, Copy)]
+#[derive(Clone, Copy, Debug, PartialEq, Eq)]
 struct Sums<'a> {
     row: &'a [Entry],
     bounds: &'a [u32],
@@ -94,6 +94,7 @@ impl<'a> Sums<'a> {
 
     // The place whose bound is above those of all other signals with a coefficient, if there is one and it is below p; None where the highest
     // bound stands twice. Where p - 1 stands twice nothing further is looked at.
+    // Stays: by index; tried: over `enumerate().skip(1)` a proof knows the iterator's state, not the place, and no answer carried over.
     fn highest(self) -> Option<usize>
         ensures within { IfSome result (λ e. e < entries self.entry.row.now) }
         ensures found { (e : ℕ) → Highest (coef_on self.entry.row.now) (bound_on self.entry.p self.entry.bounds.now self.entry.row.now)
@@ -125,6 +126,7 @@ impl<'a> Sums<'a> {
 }
 
 // The bound that the sum rule gives the target, None where the rule isn't met.
+// Stays: slices as parameters, here and in `lowering_sum`: these take the slices that their callers hold.
 pub(crate) fn sum_step(part: &[u8], row: &[Entry], bounds: &[u32], p: u32, t: u32) -> Option<u32>
     ensures { (n : ℕ) → Prime p → Row p n (constraint_in part.now) row.now → 1 ≤ t → t ≤ n
         → result ≡ sum_step p n (constraint_in part.now) (bound_in p bounds.now) t }

@@ -1,15 +1,8 @@
 // Elements of arrays by signal, also past the end.
+// Stays: a function for each, since what stands past the end is another each time.
 
 ghost use Rattle.std.specs.Prelude.{◌≡◌};
-ghost use Rattle.rules.specs.View.{coef_in, bound_in, mark_in};
-
-// The coefficient of signal s.
-#[tactic(auto, unfolding(crate::specs::View::coef_in))]
-pub(crate) fn coef_at(form: &[u32], s: usize) -> u32
-    ensures { result ≡ coef_in form.now s }
-{
-    form.get(s).copied().unwrap_or(0)
-}
+ghost use Rattle.rules.specs.View.{bound_in, mark_in};
 
 // The bound of signal s.
 #[tactic(auto, unfolding(crate::specs::View::bound_in))]

@@ -1,4 +1,4 @@
-use Rattle.std.proofs.Common.{◌%◌, ℕ, ap, sym}
+use Rattle.std.proofs.Common.{refl}
 use Rattle.rules.proofs.Walk as walk
 use Rattle.rules.proofs.form.coefficients.Goals as goal
 
@@ -21,4 +21,4 @@ pub returns : goal.returns
 returns c =
     let walks = c.loop-i.invariant in
     let end = c.loop-i-test.false in
-    (ap (λ (x : ℕ). x % c.args.p) (sym (walk.adding_end walks.0 end)), ap (λ (x : ℕ). x % c.args.p) (sym (walk.adding_end walks.1 end)))
+    rw (c.from-modulus.ensures, walk.adding_end walks.0 end, walk.adding_end walks.1 end) (refl, refl)

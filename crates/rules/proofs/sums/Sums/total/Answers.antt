@@ -1,5 +1,5 @@
 -- `rules::sums::Sums::total`: the sum over the places passed, which is below the limit.
-use Rattle.std.proofs.Common.{arith}
+use Rattle.std.proofs.Common.{arith, rules}
 use Rattle.rules.proofs.SumLaws as laws
 use Rattle.rules.proofs.sums.Sums.total.Goals as goal
 
@@ -15,8 +15,9 @@ loop-i-preserved c =
     }
 
 pub returns-then-from-total : goal.returns-then-from-total
-returns-then-from-total c h T =
-    laws.sum_over _ c.loop-i.i _ c.loop-i.total _ _ c.loop-i.invariant.is c.term-total.ensures.0 c.loop-i-test.true (omega arith)
+returns-then-from-total c =
+    let over = laws.sum_over _ c.loop-i.i _ c.loop-i.total _ c.args.limit c.loop-i.invariant.is c.term-total.ensures.0 c.loop-i-test.true (omega arith) in
+    search (rules, over)
 
 pub returns : goal.returns
 returns c =

@@ -1,9 +1,9 @@
--- `rules::digits::is_crowded`: the sum of the bounds of the entries passed.
+-- `rules::digits::Digits::is_crowded`: the sum of the bounds of the entries passed.
 use Rattle.std.proofs.Common.{arith, ◌∙◌}
 use Rattle.rules.specs.Rows.{entry_at, nothing}
 use Rattle.rules.specs.Live.{bounds_on}
 use Rattle.rules.proofs.SumLaws as laws
-use Rattle.rules.proofs.digits.is_crowded.Goals as goal
+use Rattle.rules.proofs.digits.Digits.is_crowded.Goals as goal
 
 pub loop-entry-init : goal.loop-entry-init
 loop-entry-init c = record { fits = omega arith; is = laws.sum_start _ }

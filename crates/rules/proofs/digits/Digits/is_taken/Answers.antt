@@ -1,9 +1,9 @@
--- `rules::digits::is_taken`: outside of the range, or where no entry has it, none is unmarked with it.
+-- `rules::digits::Digits::is_taken`: outside of the range, or where no entry has it, none is unmarked with it.
 use Rattle.std.proofs.Common.{sym}
 use Rattle.rules.proofs.WeightLaws as laws
-use Rattle.rules.proofs.digits.is_taken.Goals as goal
-use Rattle.rules.proofs.digits.is_taken.Goals.{then-most-x-via-then-most-x, then-most-x-via-else-most-x+then-x-least}
-use Rattle.rules.proofs.digits.is_taken.Goals.{then-most-x-via-else-most-x+else-x-least+then-not-is_among}
+use Rattle.rules.proofs.digits.Digits.is_taken.Goals as goal
+use Rattle.rules.proofs.digits.Digits.is_taken.Goals.{then-most-x-via-then-most-x, then-most-x-via-else-most-x+then-x-least}
+use Rattle.rules.proofs.digits.Digits.is_taken.Goals.{then-most-x-via-else-most-x+else-x-least+then-not-is_among}
 
 pub returns-then-most-x : goal.returns-then-most-x
 returns-then-most-x c =

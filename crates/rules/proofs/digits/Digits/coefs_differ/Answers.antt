@@ -1,11 +1,11 @@
--- `rules::digits::coefs_differ`: the coefficients of the unmarked entries passed differ, and the range holds them.
+-- `rules::digits::Digits::coefs_differ`: the coefficients of the unmarked entries passed differ, and the range holds them.
 use Rattle.std.proofs.Common.{refl, sym, ◌∙◌, arith}
 use Rattle.laws.proofs.Sum.{true_or_false}
 use Rattle.rules.specs.Rows.{coef_on, entry_at, nothing}
 use Rattle.rules.specs.Live.{live_on}
 use Rattle.rules.proofs.WeightLaws as laws
-use Rattle.rules.proofs.digits.coefs_differ.Goals as goal
-use Rattle.rules.proofs.digits.coefs_differ.Goals.{then-is_live+else-is_taken, else-is_live}
+use Rattle.rules.proofs.digits.Digits.coefs_differ.Goals as goal
+use Rattle.rules.proofs.digits.Digits.coefs_differ.Goals.{then-is_live+else-is_taken, else-is_live}
 
 pub loop-i-init : goal.loop-i-init
 loop-i-init c = record { differ = laws.differ_start _ _; between = laws.between_start _ _ _ _ }

@@ -1,7 +1,7 @@
--- `rules::digits::gather_differing`: no reference separates where coefficients are alike; else what was gathered.
+-- `rules::digits::Digits::gather_differing`: no reference separates where coefficients are alike; else what was gathered.
 use Rattle.std.proofs.Common.{refl, arith}
 use Rattle.rules.proofs.RowDigits as laws
-use Rattle.rules.proofs.digits.gather_differing.Goals as goal
+use Rattle.rules.proofs.digits.Digits.gather_differing.Goals as goal
 
 pub returns-then-not-coefs_differ : goal.returns-then-not-coefs_differ
 returns-then-not-coefs_differ c =

@@ -1,8 +1,8 @@
--- `rules::digits::live_bound`: the entry's bound, or 0.
+-- `rules::digits::Digits::live_bound`: the entry's bound, or 0.
 use Rattle.std.proofs.Common.{sym, ◌∙◌}
 use Rattle.laws.proofs.Sum.{keep_true, keep_false}
 use Rattle.rules.specs.Live.{live_bound}
-use Rattle.rules.proofs.digits.live_bound.Goals as goal
+use Rattle.rules.proofs.digits.Digits.live_bound.Goals as goal
 
 pub returns-then-is_live : goal.returns-then-is_live
 unfolding live_bound
