@@ -47,6 +47,14 @@ pub framed_is : {A : Type 0} (d : List ℕ) (r : Answer A) → Framed d → fram
 unfolding framed
 framed_is d r F = rw (le-leb _ _ F.long, F.mark, eq-eqb _ _ F.version, le-leb _ _ F.few, eq-eqb _ _ F.sized)
 
+-- what the frame's answer lets on
+pub framed_fine : {A : Type 0} {head : Answer A} {done : A} {d : List ℕ} → ((x : Answer Standing) → and_then head (λ done. x) ≡ framed d x) → head ≡ given done
+    → Framed d
+framed_fine {d = d} framing fine =
+    let x : Answer Standing = given (record { bound = λ s. 0; marked = λ s. false }) in
+    let on : framed d x ≡ x = sym (framing x) ∙ rw fine in
+    (framed_given d x on).0
+
 -- what an accepted derivation has
 pub record AcceptedAs (P : Problem) (d : List ℕ) (room : ℕ) : Type 0 where
   pub framed : Framed d

@@ -1,14 +1,17 @@
 -- Laws of the marks written one after the other, of their count, and of the verdict.
-use Prim.Native.Nat.{ℕ, zero, suc, ◌+◌, ◌≤◌, ◌<◌}
+use Prim.Native.Nat.{ℕ, zero, suc, ◌+◌, ◌-◌, ◌≤◌, ◌<◌}
 use mathlib.Core.Path.{◌≡◌, refl, sym, ap, ◌∙◌}
 use mathlib.Core.Bool.{Bool, true, false}
 use mathlib.Core.List.{List, [], ◌∷◌, ◌++◌}
+use Rattle.std.specs.Prelude.{None, Some}
 use native.Mathlib.Numerals.{add-one}
 use native.Mathlib.Omega.{arith}
 use lib.ListN.{length, drop, set}
 use lib.Seq.{drop-cons, append_snoc, set_at}
+use Rattle.circuit.specs.Runs.{first_from, found}
+use Rattle.circuit.proofs.SearchLaws.{passed, none}
 use Rattle.laws.specs.Sum.{all}
-use Rattle.laws.proofs.Sum.{all_at, all_from, false_by, true_or_false}
+use Rattle.laws.proofs.Sum.{all_at, all_from, false_by}
 use Rattle.derivation.specs.Call.{Fixed, Open, bit, marks_from, total, output_marked, verdict_by}
 use Rattle.derivation.proofs.Sound.{marks_length}
 
@@ -23,12 +26,6 @@ total_more : (xs : List ℕ) (x : ℕ) → total (xs ++ (x ∷ [])) ≡ total xs
 unfolding total
 total_more [] x = omega arith
 total_more (y ∷ xs) x = omega (arith, total_more xs x)
-
--- s of the marks of m are written and counted
-pub record Written (m : ℕ → Bool) (out₀ out : List ℕ) (count s : ℕ) : Type 0 where
-  pub few : count ≤ s
-  pub counted : count ≡ total (marks_from m 0 s)
-  pub written : out ≡ marks_from m 0 s ++ drop s out₀
 
 module _ (m : ℕ → Bool) (s : ℕ) where
   next_mark : marks_from m 0 (s + 1) ≡ marks_from m 0 s ++ (bit (m (s + 1)) ∷ [])
@@ -58,16 +55,30 @@ pub bit_most : (b : Bool) → bit b ≤ 1
 bit_most true = omega arith
 bit_most false = omega arith
 
-module _ (m : ℕ → Bool) (i o : ℕ) where
-  -- every output is marked
-  pub outputs_fixed : ((j : ℕ) → j < o → m (i + j + 1) ≡ true) → Fixed ≡ verdict_by (all o (output_marked m i))
-  unfolding output_marked
-  outputs_fixed each = rw (all_from o (output_marked m i) (λ (j : ℕ) (h : j < o). rw add-one at (each j h)))
+found_nothing : (n : ℕ) → None ≡ found n → n ≡ 0
+found_nothing zero e = refl
+found_nothing (suc n) e = let z : ◌≡◌ {A = ℕ} 0 1 = cc in absurd (omega arith)
 
-  -- one of them isn't
-  pub output_open : (j : ℕ) → j < o → m (i + j + 1) ≡ false → Open ≡ verdict_by (all o (output_marked m i))
+found_something : (n : ℕ) {k : ℕ} → Some k ≡ found n → n ≡ 0 → ⊥
+found_something zero e z = let z : ◌≡◌ {A = ℕ} 0 1 = cc in omega arith
+found_something (suc n) e z = omega (arith, z)
+
+module _ (m : ℕ → Bool) (i o : ℕ) where
+  -- the outputs counted from 1, as they are searched
+  abbrev pub output_at : ℕ → Bool
+  output_at j = m (i + j)
+
+  -- none is found that isn't marked ..
+  pub outputs_fixed : None ≡ found (first_from output_at 1 o) → Fixed ≡ verdict_by (all o (output_marked m i))
   unfolding output_marked
-  output_open j h e =
-      let not_all : all o (output_marked m i) ≡ false
-      = false_by _ (λ (t : all o (output_marked m i) ≡ true). true_or_false (m (suc (i + j))) (all_at o (output_marked m i) t j h) (rw add-one at e)) in
-      rw not_all
+  outputs_fixed e =
+      let each = passed output_at o (found_nothing (first_from output_at 1 o) e) in
+      rw (all_from o (output_marked m i) (λ (j : ℕ) (h : j < o). let is : i + suc j ≡ suc (i + j) = omega arith in rw is at (each (suc j) (omega arith) (omega arith))))
+
+  -- .. or one is
+  pub output_open : {j : ℕ} → Some j ≡ found (first_from output_at 1 o) → Open ≡ verdict_by (all o (output_marked m i))
+  unfolding output_marked
+  output_open e =
+      let each = λ (t : all o (output_marked m i) ≡ true) (j : ℕ) (l : 1 ≤ j) (h : j ≤ o).
+      let is : suc (i + (j - 1)) ≡ i + j = omega arith in rw is at (all_at o (output_marked m i) t (j - 1) (omega arith)) in
+      rw (false_by _ (λ (t : all o (output_marked m i) ≡ true). found_something (first_from output_at 1 o) e (none output_at o (each t))))

@@ -22,7 +22,7 @@ use Rattle.circuit.specs.Call.{circuit_of, Sized}
 use Rattle.circuit.proofs.ReaderLaws.{part_drop}
 use Rattle.circuit.proofs.OffsetLaws.{sized_part}
 use Rattle.laws.specs.Problem.{Problem, Names, nothing, a_constraint, equation_at}
-use Rattle.laws.specs.Standing.{Standing, start}
+use Rattle.laws.specs.Standing.{Standing}
 use Rattle.laws.specs.Step.{Kind, names_of, Step, within, inside, named, constraints, references}
 use Rattle.laws.specs.Step.{in_range, rule, rule_of, met, change, is_idle, after, unless, less_idle}
 use Rattle.laws.proofs.Sum.{and_left, and_right, true_or_false}
@@ -31,8 +31,8 @@ use Rattle.rules.specs.Promise.{subject_in, reduces, Taken, Gives, Asked}
 use Rattle.rules.specs.Rows.{at, Row, row_of, RowMade}
 use Rattle.rules.specs.declared.rows.Entry.{Entry}
 use Rattle.rules.specs.declared.standing.Outcome.{Outcome}
-use Rattle.derivation.specs.Steps.{read_step, tried, walk_from, walked, steps_from, steps_of}
-use Rattle.derivation.specs.Inner.{problem_of, step_in, unnoted, unflagged, Noted, Reads, Kept, Ready, part_named, rule_in}
+use Rattle.derivation.specs.Steps.{read_step, tried, walk_from, steps_from, steps_of}
+use Rattle.derivation.specs.Inner.{problem_of, step_in, unnoted, unflagged, Noted, Reads, Kept, Ready, part_named, rule_in, Walks}
 use Rattle.derivation.specs.declared.step.Step as code
 use Rattle.derivation.proofs.Walks.{steps_known}
 
@@ -167,35 +167,35 @@ unless_noted false x rest = refl
 
 -- The turns of the loop
 
--- before step k: the whole walk is what is left of it from S, and of each step before it is noted whether it is idle
-pub record Walking (padded : Bool) (P : Problem) (d : List ℕ) (notes : List Bool) (k : ℕ) (S : Standing) : Type 0 where
-  pub left : walked padded P d ≡ walk_from padded P d k (u16_at d 5 - k) S
+-- before step k: the whole walk from S₀ is what is left of it from S, and of each step before it is noted whether it is idle
+pub record Walking (padded : Bool) (P : Problem) (d : List ℕ) (S₀ : Standing) (notes : List Bool) (k : ℕ) (S : Standing) : Type 0 where
+  pub left : walk_from padded P d 0 (u16_at d 5) S₀ ≡ walk_from padded P d k (u16_at d 5 - k) S
   pub noted : u16_at d 5 ≤ length notes
-      → less_idle P (start P) (steps_of d) ≡ unflagged notes d k ++ less_idle P S (steps_from d k (u16_at d 5 - k))
+      → less_idle P S₀ (steps_of d) ≡ unflagged notes d k ++ less_idle P S (steps_from d k (u16_at d 5 - k))
 
-pub walk_starts : {padded : Bool} {P : Problem} {d : List ℕ} {notes : List Bool} {S : Standing} → S ≡ start P → Walking padded P d notes 0 S
+pub walk_starts : {padded : Bool} {P : Problem} {d : List ℕ} {notes : List Bool} {S : Standing} → Walking padded P d S notes 0 S
 unfolding unflagged steps_of
-walk_starts {d = d} e =
+walk_starts {d = d} =
     let all : u16_at d 5 - 0 ≡ u16_at d 5 = omega arith in
-    record { left = rw (all, e); noted = λ h. rw (all, e) }
+    record { left = rw all; noted = λ h. rw all }
 
-module _ {padded : Bool} {P : Problem} {d : List ℕ} {notes : List Bool} {k : ℕ} {S : Standing} (W : Walking padded P d notes k S) where
-  pub walk_ended : u16_at d 5 ≤ k → given S ≡ walked padded P d
+module _ {padded : Bool} {P : Problem} {d : List ℕ} {S₀ : Standing} {notes : List Bool} {k : ℕ} {S : Standing} (W : Walking padded P d S₀ notes k S) where
+  pub walk_ended : u16_at d 5 ≤ k → given S ≡ walk_from padded P d 0 (u16_at d 5) S₀
   unfolding walk_from
   walk_ended h = sym (W.left ∙ (let z : u16_at d 5 - k ≡ 0 = omega arith in rw z))
 
-  pub notes_ended : k ≡ u16_at d 5 → {room : ℕ} → room ≡ length notes → Noted P (start P) d room notes
+  pub notes_ended : k ≡ u16_at d 5 → {room : ℕ} → room ≡ length notes → Noted P S₀ d room notes
   unfolding less_idle steps_from
   notes_ended last e =
       let z : u16_at d 5 - k ≡ 0 = omega arith in
       record { tells = λ g. sym (W.noted (omega arith) ∙ rw z (append-nil (unflagged notes d k)) ∙ ap (unflagged notes d) last) }
 
   module _ (some_left : k < u16_at d 5) where
-    turn : walked padded P d ≡ and_then (tried padded P S (read_step d k) (suc k)) (walk_from padded P d (k + 1) (u16_at d 5 - (k + 1)))
+    turn : walk_from padded P d 0 (u16_at d 5) S₀ ≡ and_then (tried padded P S (read_step d k) (suc k)) (walk_from padded P d (k + 1) (u16_at d 5 - (k + 1)))
     unfolding walk_from
     turn = W.left ∙ (let z : u16_at d 5 - k ≡ suc (u16_at d 5 - (k + 1)) = omega arith in rw (z, add-one k))
 
-    pub walk_refused : (reason : Reason) → Reads P d k (Err reason) → refused (number_of reason) (k + 1) ≡ walked padded P d
+    pub walk_refused : (reason : Reason) → Reads P d k (Err reason) → refused (number_of reason) (k + 1) ≡ walk_from padded P d 0 (u16_at d 5) S₀
     walk_refused reason R = sym (turn ∙ rw (R padded S, add-one k))
 
     -- step k, by whether it is met and idle
@@ -206,7 +206,7 @@ module _ {padded : Bool} {P : Problem} {d : List ℕ} {notes : List Bool} {k : �
       unfolding met
       tried_is = rw (R.0, R.1)
 
-      pub walk_unmet : (rule_of P S (step_in x)).met ≡ false → refused 17 (k + 1) ≡ walked padded P d
+      pub walk_unmet : (rule_of P S (step_in x)).met ≡ false → refused 17 (k + 1) ≡ walk_from padded P d 0 (u16_at d 5) S₀
       walk_unmet e = sym (turn ∙ rw (tried_is, e, add-one k))
 
       module _ {idle : Bool} {next : Standing} (T : Taken idle next S x.target (rule_of P S (step_in x))) where
@@ -218,13 +218,13 @@ module _ {padded : Bool} {P : Problem} {d : List ℕ} {notes : List Bool} {k : �
         unfolding change
         idle_is = T.idle
 
-        pub walk_idle : (idle && not padded) ≡ true → refused 29 (k + 1) ≡ walked padded P d
+        pub walk_idle : (idle && not padded) ≡ true → refused 29 (k + 1) ≡ walk_from padded P d 0 (u16_at d 5) S₀
         walk_idle e =
             let same : is_idle P S (step_in x) ≡ true = sym idle_is ∙ and_left idle (not padded) e in
             sym (turn ∙ rw (tried_is, T.met, same, not-true padded (and_right idle (not padded) e), add-one k))
 
         pub walk_on : (idle && not padded) ≡ false → {later : List Bool} → later ≡ set notes k idle
-            → Walking padded P d later (k + 1) next
+            → Walking padded P d S₀ later (k + 1) next
         unfolding less_idle
         walk_on pass {later} is =
             record {
@@ -238,3 +238,17 @@ module _ {padded : Bool} {P : Problem} {d : List ℕ} {notes : List Bool} {k : �
                   ∙ sym (append_assoc (unflagged notes d k) (unnoted idle (some (step_in x))) _)
                   ∙ sym (rw (is, add-one k, unflagged_more notes d k idle here, R.0)));
             }
+
+-- The walk
+
+-- it is refused ..
+pub walks_refused : {A : Type 0} {padded : Bool} {c d : List ℕ} {S : Standing} {room : ℕ} {S' : Standing} {notes : List Bool} {number place : ℕ}
+    → ((first : ℕ → ℕ) → refused number place ≡ walk_from padded (problem_of c first) d 0 (u16_at d 5) S)
+    → Walks {A = A} padded c d S room (refused number place) S' notes
+walks_refused e = record { way = e; noted = λ first done f. let z : ◌≡◌ {A = ℕ} 0 1 = cc in absurd (omega arith) }
+
+-- .. or comes to its end
+pub walks_ended : {A : Type 0} {done : A} {padded : Bool} {c d : List ℕ} {S : Standing} {room k : ℕ} {S' : Standing} {notes : List Bool}
+    → ((first : ℕ → ℕ) → Walking padded (problem_of c first) d S notes k S') → k ≡ u16_at d 5 → room ≡ length notes
+    → Walks padded c d S room (given done) S' notes
+walks_ended W last e = record { way = λ first. walk_ended (W first) (omega (arith, last)); noted = λ first done f. notes_ended (W first) last e }

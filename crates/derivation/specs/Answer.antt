@@ -17,4 +17,4 @@ judgement_in x = record { count = x.count; verdict = verdict_in x.verdict; shown
 
 abbrev pub paper_of : DerivationAnswer → Answer call.Judgement
 paper_of (Refused number place) = refused number place
-paper_of (Accepted count verdict shown) = given (record { count = count; verdict = verdict_in verdict; shown = shown_in shown })
+paper_of (Accepted x) = given (judgement_in x)

@@ -2,7 +2,7 @@
 use Rattle.std.specs.Prelude as prelude
 use Rattle.std.specs.Prelude.{ℕ, zero, suc, ◌≤◌, min, ◌≡◌, Bool, true, false, List, [], ◌∷◌, ◌++◌, length, get_or, Some, None, Result, Ok, Err}
 use Rattle.std.proofs.Math.Option.{Option, none, some}
-use Rattle.circuit.specs.Answer.{Answer, refused, number_of}
+use Rattle.circuit.specs.Answer.{Answer, refused, given, and_then, number_of}
 use Rattle.circuit.specs.declared.refusal.Reason.{Reason}
 use Rattle.circuit.specs.Bytes.{u16_at}
 use Rattle.circuit.specs.Reader.{signals_most}
@@ -21,7 +21,7 @@ use Rattle.rules.specs.Promise.{subject_in, kind_of, reduces}
 use Rattle.rules.specs.Rows.{Row, Rows, Roomy, row_of}
 use Rattle.rules.specs.declared.rows.Entry as row
 use Rattle.rules.specs.declared.standing.Kind.{Kind}
-use Rattle.derivation.specs.Steps.{read_step, tried, steps_of}
+use Rattle.derivation.specs.Steps.{read_step, tried, walk_from, steps_of}
 use Rattle.derivation.specs.Call.{Judgement, marks_from, total, output_marked, verdict_by, derivation_call, derivation_marks}
 use Rattle.derivation.specs.declared.kinds.Entry.{Entry}
 use Rattle.derivation.specs.declared.step.Step.{Step}
@@ -56,6 +56,10 @@ range_of true most = step.from_one most
 abbrev pub step_in : Step → step.Step
 step_in x = record { kind = kind_of x.kind; target = x.target; constraint = x.constraint; reference = x.reference }
 
+abbrev pub step_found : prelude.Option Step → Option step.Step
+step_found (Some x) = some (step_in x)
+step_found None = none
+
 -- step k, counted from 0, is known and in range; or it is refused, whatever the standing is
 abbrev pub Reads : Problem → List ℕ → ℕ → Result Step Reason → Type 0
 Reads P d k (Ok x) = (read_step d k ≡ some (step_in x)) × (step.in_range P (step_in x) ≡ true)
@@ -84,6 +88,13 @@ unflagged idle d (suc k) = unflagged idle d k ++ unnoted (get_or idle k false) (
 -- the notes, in an array with this much room, say of each step whether it is idle where it stands
 pub record Noted (P : Problem) (S : standing.Standing) (d : List ℕ) (room : ℕ) (idle : List Bool) : Type 0 where
   pub tells : u16_at d 5 ≤ room → unflagged idle d (u16_at d 5) ≡ step.less_idle P S (steps_of d)
+
+-- All steps of d taken on S in the circuit c, whatever its first bounds: they are refused as r says, or lead to S', with the notes of them in an array
+-- with this much room.
+pub record Walks {A : Type 0} (padded : Bool) (c d : List ℕ) (S : standing.Standing) (room : ℕ) (r : Answer A) (S' : standing.Standing) (notes : List Bool)
+    : Type 0 where
+  pub way : (first : ℕ → ℕ) → and_then r (λ done. given S') ≡ walk_from padded (problem_of c first) d 0 (u16_at d 5) S
+  pub noted : (first : ℕ → ℕ) (done : A) → r ≡ given done → Noted (problem_of c first) S d room notes
 
 -- the call's answer, and what it leaves in the buffer that held `marks`
 pub record Answers (c h d marks : List ℕ) (r : Answer Judgement) (left : List ℕ) : Type 0 where

@@ -8,8 +8,10 @@ ghost use Rattle.derivation.specs.Answer.{judgement_in, paper_of};
 ghost use Rattle.derivation.specs.Inner.{Answers};
 
 use crate::answer::{DerivationAnswer, Judgement};
+use crate::file::DerivationFile;
 use crate::marks::hand_over;
-use crate::walk::{IdleSteps, check_frame, walk_all};
+use crate::sheets::start_with;
+use crate::walk::{IdleSteps, walk_file};
 use circuit::refusal::{Reason, Refusal};
 use tags::tagged::Tagged;
 
@@ -23,21 +25,24 @@ fn judged(
     ensures { Answers circuit.now sheet.now derivation.now marks.old (answer_by judgement_in result) marks.new }
 {
     let tagged = Tagged::read(circuit, sheet)?;
-    check_frame(derivation)?;
-    if marks.len() < tagged.file.sizes.n as usize {
+    let derivation = DerivationFile::read(derivation)?;
+    let file = tagged.file;
+    if marks.len() < file.sizes.n as usize {
         return Err(Reason::MarksRoom.at(0));
     }
-    let last = walk_all(
-        &tagged.file,
-        tagged.sheet,
-        derivation,
+    let mut standing = start_with(tagged.sheet, file.sizes.p, file.sizes.i);
+    walk_file(
+        &file,
+        derivation.bytes,
         &mut [],
         IdleSteps::Refused,
+        &mut standing,
     )?;
-    Ok(hand_over(&tagged, &last, marks))
+    Ok(hand_over(&tagged, &standing, marks))
 }
 
 // The derivation call: refusals 1 to 10, 26, 27, 11 to 17 and 29, or the marks written, how many signals are marked, the verdict, and what is shown.
+// Stays: the parameters of the C interface, here and in `judged`.
 pub fn check_derivation(
     circuit: &[u8],
     sheet: &[u8],
@@ -51,21 +56,5 @@ pub fn check_derivation(
     ensures exact { ExactCall circuit.now sheet.now derivation.now (length marks.old) (paper_of result) }
     ensures sound { SoundCall circuit.now sheet.now derivation.now (paper_of result) marks.new }
 {
-    match judged(circuit, sheet, derivation, marks) {
-        Ok(
-            Judgement {
-                count,
-                verdict,
-                shown,
-            },
-        ) => DerivationAnswer::Accepted {
-            count,
-            verdict,
-            shown,
-        },
-        Err(refusal) => DerivationAnswer::Refused {
-            number: refusal.number(),
-            place: refusal.place,
-        },
-    }
+    DerivationAnswer::from(judged(circuit, sheet, derivation, marks))
 }

@@ -8,6 +8,7 @@ ghost use Rattle.derivation.specs.Inner.{kind_found, range_of, EntryOf};
 use rules::standing::Kind;
 
 // The kinds, in the order of their numbers.
+// Stays: a list to search beside the match of `entry_of`, which alone has the numbers; Rattle derives no list of an enum's cases.
 const KINDS: [Kind; 5] = [
     Kind::Root,
     Kind::Sum,
@@ -44,7 +45,7 @@ pub(crate) fn entry_of(kind: Kind) -> Entry
 
 // The kind with a number.
 #[tactic(auto, unfolding(crate::specs::Steps::kind_of, crate::specs::Steps::numbered))]
-pub(crate) fn kind_of(number: u8) -> Option<Kind>
+pub fn kind_of(number: u8) -> Option<Kind>
     ensures { kind_found result ≡ kind_of number }
 {
     KINDS

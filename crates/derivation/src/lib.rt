@@ -4,7 +4,8 @@
 
 pub mod answer;
 pub mod call;
-mod kinds;
+pub mod file;
+pub mod kinds;
 pub mod marks;
 pub mod sheets;
 pub mod step;

@@ -15,17 +15,23 @@ use rules::standing::Standing;
 use rules::view::mark_at;
 use tags::tagged::Tagged;
 
-// Writes one byte for each of the n signals, 1 for marked and 0 for not, and counts what it writes.
-pub(crate) fn write_marks(out: &mut [u8], marks: &[bool], n: u32) -> u32
+// Writes one byte for each of the n signals, 1 for marked and 0 for not.
+fn write_marks(out: &mut [u8], marks: &[bool], n: u32)
     requires { (n < length marks.now) × (n ≤ length out.old) }
-    ensures count { result ≡ total (marks_from (mark_in marks.now) 0 n) }
-    ensures written { out.new ≡ marks_from (mark_in marks.now) 0 n ++ drop n out.old }
+    ensures { out.new ≡ marks_from (mark_in marks.now) 0 n ++ drop n out.old }
+{
+    for s in 0..n as usize {
+        out[s] = u8::from(marks[s + 1]);
+    }
+}
+
+// How many of the signals 1 to n are marked.
+pub fn count_marks(marks: &[bool], n: u32) -> u32
+    ensures { result ≡ total (marks_from (mark_in marks.now) 0 n) }
 {
     let mut count = 0;
-    for s in 0..n as usize {
-        let byte = u8::from(marks[s + 1]);
-        out[s] = byte;
-        count += u32::from(byte);
+    for s in 0..n {
+        count += u32::from(mark_at(marks, s as usize + 1));
     }
     count
 }
@@ -34,14 +40,25 @@ pub(crate) fn write_marks(out: &mut [u8], marks: &[bool], n: u32) -> u32
 pub fn verdict_of(marks: &[bool], sizes: Sizes) -> Verdict
     ensures { verdict_in result ≡ verdict_by (all sizes.o (output_marked (mark_in marks.now) sizes.i)) }
 {
-    // Stays: a loop, since the check leaves open what `all` over a range says of each output.
     let inputs = sizes.i as usize;
-    for j in 0..sizes.o as usize {
-        if !mark_at(marks, inputs + j + 1) {
-            return Verdict::Open;
-        }
+    let unmarked = (1..=sizes.o).find(|j| !mark_at(marks, inputs + *j as usize));
+    match unmarked {
+        Some(_) => Verdict::Open,
+        None => Verdict::Fixed,
     }
-    Verdict::Fixed
+}
+
+// What is answered of the standing after the last step.
+pub fn judgement_of(tagged: &Tagged, last: &Standing) -> Judgement
+    ensures { let z = tagged.now.file.sizes in
+        judgement_in result ≡ judged_by z tagged.now.sheet.now (view z.p last.now) }
+{
+    let sizes = tagged.file.sizes;
+    Judgement {
+        count: count_marks(&last.marks, sizes.n),
+        verdict: verdict_of(&last.marks, sizes),
+        shown: shown_of(tagged.sheet, &last.bounds, sizes),
+    }
 }
 
 // What is answered and written of the standing after the last step.
@@ -52,10 +69,6 @@ pub(crate) fn hand_over(tagged: &Tagged, last: &Standing, marks: &mut [u8]) -> J
     ensures written { let n = tagged.now.file.sizes.n in
         marks.new ≡ marks_from (mark_in last.now.marks) 0 n ++ drop n marks.old }
 {
-    let sizes = tagged.file.sizes;
-    Judgement {
-        count: write_marks(marks, &last.marks, sizes.n),
-        verdict: verdict_of(&last.marks, sizes),
-        shown: shown_of(tagged.sheet, &last.bounds, sizes),
-    }
+    write_marks(marks, &last.marks, tagged.file.sizes.n);
+    judgement_of(tagged, last)
 }

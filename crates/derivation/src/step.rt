@@ -1,20 +1,23 @@
 // One step of a derivation: read from its bytes and its range tested, and what it looks at of the circuit: a part of the bytes and a row.
 
-ghost use Rattle.std.specs.Prelude.{◌≡◌, ℕ, true, ◌≤◌, ◌<◌};
+ghost use Rattle.std.specs.Prelude.{◌≡◌, ◌≤◌};
 ghost use Rattle.laws.specs.Problem.{Problem, a_constraint};
 ghost use Rattle.laws.specs.Step as laws;
-ghost use Rattle.rules.specs.Promise.{view, kind_of, Gives};
+ghost use Rattle.rules.specs.Promise.{kind_of};
 ghost use Rattle.derivation.specs.Encoded.{step_bytes};
-ghost use Rattle.derivation.specs.Inner.{problem_of, step_in, Reads, Kept, Ready, part_named};
+ghost use Rattle.derivation.specs.Steps.{read_step};
+ghost use Rattle.derivation.specs.Inner.{step_in, step_found, Reads, Kept, Ready, part_named};
 
 use crate::kinds::{entry_of, field_within, kind_of, within};
+use crate::writer::derivation_size;
 use circuit::bytes::{byte_at, u16_at};
 use circuit::file::Constraints;
 use circuit::offsets::part_of;
 use circuit::reader::Sizes;
 use circuit::refusal::Reason;
-use rules::rows::{Entry, make_row, row_of};
-use rules::standing::{Kind, Outcome, Standing, reads_row};
+use rules::rows::{Entry, make_row};
+use rules::standing::{Kind, reads_row};
+use std::fmt;
 
 // Rule 2.2: a step's fields.
 #[derive(Clone, Copy, Debug, PartialEq, Eq)]
@@ -45,20 +48,26 @@ impl Step {
         ]
     }
 
-    // Step k of a derivation, counted from 0, by its own bytes: refusals 15 and 16 in this order.
-    pub(crate) fn read(derivation: &[u8], k: usize, sizes: Sizes) -> Result<Step, Reason>
-        requires { k < 65536 }
+    // Step k of a derivation, counted from 0, where its kind is known. Bytes past the end count as 0, which is no kind.
+    pub fn at(derivation: &[u8], k: u32) -> Option<Step>
+        ensures { step_found result ≡ read_step derivation.now k }
+    {
+        let start = derivation_size(k);
+        let kind = kind_of(byte_at(derivation, start) as u8)?;
+        Some(Step {
+            kind,
+            target: u16_at(derivation, start + 1) as u16,
+            constraint: u16_at(derivation, start + 3) as u16,
+            reference: u16_at(derivation, start + 5) as u16,
+        })
+    }
+
+    // The same with its fields in range: refusals 15 and 16 in this order.
+    pub(crate) fn read(derivation: &[u8], k: u32, sizes: Sizes) -> Result<Step, Reason>
         ensures { (P : Problem) → P.n ≡ sizes.n → P.m ≡ sizes.m → Reads P derivation.now k result }
     {
-        let at = 7 + 7 * k;
-        let Some(kind) = kind_of(byte_at(derivation, at) as u8) else {
+        let Some(step) = Step::at(derivation, k) else {
             return Err(Reason::StepKind);
-        };
-        let step = Step {
-            kind,
-            target: u16_at(derivation, at + 1) as u16,
-            constraint: u16_at(derivation, at + 3) as u16,
-            reference: u16_at(derivation, at + 5) as u16,
         };
         if !step.is_in_range(sizes) {
             return Err(Reason::StepField);
@@ -76,33 +85,23 @@ impl Step {
         let reference = field_within(entry.refers, sizes.n, u32::from(self.reference));
         target & constraint & reference
     }
+}
 
-    // Stays: constraints, ends and rows apart, since the kit proves no ghost field beside a lent slice that is written.
-    // Takes the step on a standing. A row that it looks at is made first.
-    pub(crate) fn take(
-        self,
-        standing: Standing,
-        constraints: &Constraints,
-        ends: &mut [u32],
-        rows: &mut [Entry],
-    ) -> Outcome
-        ensures { let c = constraints.now.file.bytes.now in let z = constraints.now.file.sizes in let table = constraints.now.offsets in
-            (first : ℕ → ℕ) → laws.in_range (problem_of c first) (step_in self) ≡ true → Kept c z table ends.old rows.old
-            → Kept c z table ends.new rows.new
-            × Gives z.p result (view z.p standing) self.target (laws.rule_of (problem_of c first) (view z.p standing) (step_in self)) }
-    {
-        let file = constraints.file;
-        let named = u32::from(self.constraint);
-        let target = u32::from(self.target);
-        let reference = u32::from(self.reference);
-        keep_row(self.kind, constraints, ends, rows, named);
-        let part = part_named(self.kind, file.bytes, &constraints.offsets, named);
-        let row = row_of(&constraints.offsets, ends, rows, named);
-        standing.step(self.kind, part, row, file.sizes.p, target, reference)
+// The kind's word and the three numbers.
+impl fmt::Display for Step {
+    fn fmt<W: fmt::Write>(&self, f: &mut fmt::Formatter<W>) -> fmt::Result {
+        let Step {
+            kind,
+            target,
+            constraint,
+            reference,
+        } = self;
+        write!(f, "{kind} {target} {constraint} {reference}")
     }
 }
 
 // The part of the circuit bytes that a step of this kind looks at; nothing where it names no constraint.
+// Stays: bytes and table, since it is public and serves any, and a `Constraints` would ask more.
 pub fn part_named<'a>(kind: Kind, circuit: &'a [u8], table: &[u32], k: u32) -> &'a [u8]
     ensures { result.now ≡ part_named (laws.names_of (kind_of kind)) circuit.now table.now k }
 {
@@ -113,8 +112,8 @@ pub fn part_named<'a>(kind: Kind, circuit: &'a [u8], table: &[u32], k: u32) -> &
     }
 }
 
-// Stays: constraints, ends and rows apart, as in `take`.
 // Makes the row of constraint k, unless it is there, if a step of this kind names a constraint and looks at its row.
+// Stays: constraints, ends and rows apart, since the kit proves no ghost field beside a lent slice that is written.
 pub(crate) fn keep_row(
     kind: Kind,
     constraints: &Constraints,
@@ -127,6 +126,7 @@ pub(crate) fn keep_row(
         → Ready (kind_of kind) k c z constraints.now.offsets ends.new rows.new }
 {
     if entry_of(kind).names && reads_row(kind) {
-        make_row(constraints, ends, rows, k);
+        let file = constraints.file;
+        make_row(file.bytes, &constraints.offsets, ends, rows, file.sizes, k);
     }
 }

@@ -1,31 +1,32 @@
 // A derivation's steps one after the other: the frame of the file, and the walk that takes each step on what the one before it gave.
 
-ghost use Rattle.std.specs.Prelude.{◌≡◌, ◌&&◌, not, ◌+◌, ◌/◌, ◌≤◌, length, set, OnOk};
+ghost use Rattle.std.specs.Prelude.{◌≡◌, ◌&&◌, not, ◌≤◌, length, set, OnOk};
+ghost use Rattle.circuit.specs.Reader.{read_circuit};
 ghost use Rattle.circuit.specs.Answer.{Answer, answer_of, answer_by, and_then};
+ghost use Rattle.circuit.specs.Call.{on_circuit, circuit_of};
 ghost use Rattle.laws.specs.Standing as laws;
+ghost use Rattle.rules.specs.Rows.{places};
 ghost use Rattle.rules.specs.Promise.{view};
+ghost use Rattle.tags.specs.Tag.{tagged};
+ghost use Rattle.tags.specs.Sheet.{sheet_of};
 ghost use Rattle.derivation.specs.Steps.{walked};
 ghost use Rattle.derivation.specs.Call.{framed};
-ghost use Rattle.derivation.specs.Inner.{padded_by, tagged_in, Noted};
+ghost use Rattle.derivation.specs.Inner.{padded_by, tagged_in, Noted, Walks};
 
+use crate::file::steps_told;
 use crate::sheets::start_with;
-use crate::step::Step;
-use circuit::bytes::u16_at;
+use crate::step::{Step, keep_row, part_named};
+use crate::writer::{HEAD_SIZE, derivation_size};
 use circuit::file::{CircuitFile, Constraints};
-use circuit::reader::has_mark;
+use circuit::reader::{has_mark, has_version};
 use circuit::refusal::{Reason, Refusal};
-use rules::rows::{Entry, MOST_ENTRIES};
+use rules::rows::{Entry, FEW_ENTRIES, MOST_ENTRIES, places, row_of};
 use rules::standing::{Outcome, Standing};
 
-// The letter D of a derivation's mark, its version, and the most steps that it may have.
-const DERIVATION_LETTER: u32 = 68;
+// The letter D of a derivation's mark, and the most steps that it may have.
+const DERIVATION_LETTER: u32 = b'D' as u32;
 
-const VERSION: u32 = 1;
-
-const STEPS_MOST: u32 = 4096;
-
-// How many entries the rows of a small file may have.
-const FEW_ENTRIES: usize = 512;
+pub const STEPS_MOST: u32 = 4096;
 
 // What becomes of idle steps: they are refused when a derivation is marked, and let pass when it is renewed.
 #[derive(Clone, Copy, Debug, PartialEq, Eq)]
@@ -48,21 +49,21 @@ impl IdleSteps {
 pub fn check_frame(derivation: &[u8]) -> Result<(), Refusal>
     ensures { (x : Answer laws.Standing) → and_then (answer_of result) (λ done. x) ≡ framed derivation.now x }
 {
-    if derivation.len() < 7 || !has_mark(derivation, DERIVATION_LETTER) {
+    if derivation.len() < HEAD_SIZE || !has_mark(derivation, DERIVATION_LETTER) {
         return Err(Reason::DerivationMark.at(0));
     }
-    if u16_at(derivation, 3) != VERSION {
+    if !has_version(derivation) {
         return Err(Reason::DerivationVersion.at(0));
     }
-    let count = u16_at(derivation, 5);
-    if STEPS_MOST < count || derivation.len() != 7 + 7 * count as usize {
+    let count = steps_told(derivation);
+    if STEPS_MOST < count || derivation.len() != derivation_size(count) {
         return Err(Reason::DerivationLength.at(0));
     }
     Ok(())
 }
 
-// Stays: a test and a store, since nothing is known of a slice after its `get_mut`.
 // Notes of a step whether it is idle, where there is room.
+// Stays: a test and a store, since nothing is known of a slice's elements after its `get_mut`.
 fn note(notes: &mut [bool], k: usize, idle: bool)
     ensures { notes.new ≡ set notes.old k idle }
 {
@@ -71,83 +72,110 @@ fn note(notes: &mut [bool], k: usize, idle: bool)
     }
 }
 
-// All steps from the start; which of them are idle is noted. Rows are made when a step looks at them.
+// All steps, from the standing that is lent on, which is then the one that they lead to; which of them are idle is noted. Rows are made when a step looks
+// at them. The step is called here, since a function that hands an `Outcome` on clears and copies it once more.
+// Stays: notes, idle steps and the standing as parameters, here and in the two below. The standing is lent, since each function that handed it on by value
+// would clear and copy its 1.3 kB. And a match of what is read: by `map_err` the closure would need a clause that says the same.
 fn walk(
     file: &CircuitFile,
-    sheet: &[u8],
     derivation: &[u8],
     rows: &mut [Entry],
     notes: &mut [bool],
     idle_steps: IdleSteps,
-) -> Result<Standing, Refusal>
-    requires { length file.now.bytes.now / 6 + file.now.sizes.m + 1 ≤ length rows.old }
-    ensures way { let P = tagged_in file.now.bytes.now sheet.now in
-        answer_by (view file.now.sizes.p) result ≡ walked (padded_by idle_steps) P derivation.now }
-    ensures noted { let P = tagged_in file.now.bytes.now sheet.now in
-        OnOk result (Noted P (laws.start P) derivation.now (length notes.old) notes.new) }
+    standing: &mut Standing,
+) -> Result<(), Refusal>
+    requires { places (length file.now.bytes.now) file.now.sizes.m ≤ length rows.old }
+    ensures { let p = file.now.sizes.p in Walks (padded_by idle_steps) file.now.bytes.now derivation.now
+        (view p standing.old) (length notes.old) (answer_of result) (view p standing.new) notes.new }
 {
     let sizes = file.sizes;
     let constraints = Constraints::new(*file);
     let mut ends = [0u32; 513];
     let mut outcome = Outcome {
-        next: start_with(sheet, sizes.p, sizes.i),
+        next: *standing,
         idle: None,
     };
-    let count = u16_at(derivation, 5) as usize;
+    let count = steps_told(derivation);
     for k in 0..count {
+        let place = k as usize + 1;
         let step = match Step::read(derivation, k, sizes) {
             Ok(step) => step,
-            Err(reason) => return Err(reason.at(k + 1)),
+            Err(reason) => return Err(reason.at(place)),
         };
-        outcome = step.take(outcome.next, &constraints, &mut ends, rows);
+        let target = u32::from(step.target);
+        let named = u32::from(step.constraint);
+        let reference = u32::from(step.reference);
+        keep_row(step.kind, &constraints, &mut ends, rows, named);
+        let part = part_named(step.kind, file.bytes, &constraints.offsets, named);
+        let row = row_of(&constraints.offsets, &ends, rows, named);
+        outcome = outcome
+            .next
+            .step(step.kind, part, row, sizes.p, target, reference);
         let Some(idle) = outcome.idle else {
-            return Err(Reason::RuleUnmet.at(k + 1));
+            return Err(Reason::RuleUnmet.at(place));
         };
         let refused = idle_steps.refuse(idle);
         if refused {
-            return Err(Reason::IdleStep.at(k + 1));
+            return Err(Reason::IdleStep.at(place));
         }
-        note(notes, k, idle);
+        note(notes, k as usize, idle);
     }
-    Ok(outcome.next)
+    *standing = outcome.next;
+    Ok(())
 }
 
 // The walk with rows of N entries.
 fn walk_sized<const N: usize>(
     file: &CircuitFile,
-    sheet: &[u8],
     derivation: &[u8],
     notes: &mut [bool],
     idle_steps: IdleSteps,
-) -> Result<Standing, Refusal>
-    requires { (length file.now.bytes.now / 6 + file.now.sizes.m + 1 ≤ N) × (N ≤ MOST_ENTRIES) }
-    ensures way { let P = tagged_in file.now.bytes.now sheet.now in
-        answer_by (view file.now.sizes.p) result ≡ walked (padded_by idle_steps) P derivation.now }
-    ensures noted { let P = tagged_in file.now.bytes.now sheet.now in
-        OnOk result (Noted P (laws.start P) derivation.now (length notes.old) notes.new) }
+    standing: &mut Standing,
+) -> Result<(), Refusal>
+    requires { (places (length file.now.bytes.now) file.now.sizes.m ≤ N) × (N ≤ MOST_ENTRIES) }
+    ensures { let p = file.now.sizes.p in Walks (padded_by idle_steps) file.now.bytes.now derivation.now
+        (view p standing.old) (length notes.old) (answer_of result) (view p standing.new) notes.new }
 {
     let mut rows = [Entry::NONE; N];
-    walk(file, sheet, derivation, &mut rows, notes, idle_steps)
+    walk(file, derivation, &mut rows, notes, idle_steps, standing)
 }
 
-// Stays: one walk for marker and renewal, with notes that may be none (docs/DECISIONS.md, 22).
-// All steps from the start. A small file gets a small array for its rows, since clearing a large one takes longer than a few steps.
-pub fn walk_all(
+// All steps, from the standing that is lent on, which is then the one that they lead to. A small file gets a small array for its rows, since clearing a
+// large one takes longer than a few steps. The derivation is lent as bytes, since `walk_all` serves any.
+// Stays: notes, which the marker lends none of, and `IdleSteps` for one walk of marker and renewal; a closure in place of both would carry its promise
+// through three functions, and so is no plainer.
+pub fn walk_file(
     file: &CircuitFile,
+    derivation: &[u8],
+    notes: &mut [bool],
+    idle_steps: IdleSteps,
+    standing: &mut Standing,
+) -> Result<(), Refusal>
+    ensures { let p = file.now.sizes.p in Walks (padded_by idle_steps) file.now.bytes.now derivation.now
+        (view p standing.old) (length notes.old) (answer_of result) (view p standing.new) notes.new }
+{
+    if places(file.bytes.len(), file.sizes.m) <= FEW_ENTRIES {
+        walk_sized::<FEW_ENTRIES>(file, derivation, notes, idle_steps, standing)
+    } else {
+        walk_sized::<MOST_ENTRIES>(file, derivation, notes, idle_steps, standing)
+    }
+}
+
+// All steps from the start that a sheet gives, for callers who hold a circuit's bytes and no file of them: a circuit that is refused is refused here too.
+pub fn walk_all(
+    circuit: &[u8],
     sheet: &[u8],
     derivation: &[u8],
     notes: &mut [bool],
     idle_steps: IdleSteps,
 ) -> Result<Standing, Refusal>
-    ensures way { let P = tagged_in file.now.bytes.now sheet.now in
-        answer_by (view file.now.sizes.p) result ≡ walked (padded_by idle_steps) P derivation.now }
-    ensures noted { let P = tagged_in file.now.bytes.now sheet.now in
+    ensures way { answer_by (view (circuit_of circuit.now).p) result
+        ≡ on_circuit (read_circuit circuit.now) (λ C. walked (padded_by idle_steps) (tagged C (sheet_of sheet.now)) derivation.now) }
+    ensures noted { let P = tagged_in circuit.now sheet.now in
         OnOk result (Noted P (laws.start P) derivation.now (length notes.old) notes.new) }
 {
-    let sizes = file.sizes;
-    if file.bytes.len() / 6 + sizes.m as usize + 1 <= FEW_ENTRIES {
-        walk_sized::<FEW_ENTRIES>(file, sheet, derivation, notes, idle_steps)
-    } else {
-        walk_sized::<MOST_ENTRIES>(file, sheet, derivation, notes, idle_steps)
-    }
+    let file = CircuitFile::read(circuit)?;
+    let mut standing = start_with(sheet, file.sizes.p, file.sizes.i);
+    walk_file(&file, derivation, notes, idle_steps, &mut standing)?;
+    Ok(standing)
 }

@@ -6,13 +6,25 @@ ghost use Rattle.derivation.specs.Encoded.{step_bytes, header_bytes, stored};
 ghost use Rattle.derivation.specs.Inner.{step_in};
 
 use crate::step::Step;
+use circuit::reader::VERSION;
 
-// A derivation's mark, its letter and then Q and T, and its version.
+// A derivation's mark, its letter and then Q and T.
+// Stays: the bytes as they are written; the reader asks for the letter as a number (`has_mark`).
 const MARK: [u8; 3] = *b"DQT";
 
-const VERSION: u16 = 1;
+// The bytes of a header, and those of a step.
+pub const HEAD_SIZE: usize = 7;
 
-// The bytes of a header or of a step.
+pub const STEP_SIZE: usize = 7;
+
+// The bytes of a derivation of so many steps, and so where the step after them starts.
+pub fn derivation_size(steps: u32) -> usize
+    ensures { result ≡ head_size + step_size * steps }
+{
+    HEAD_SIZE + STEP_SIZE * steps as usize
+}
+
+// Stores the bytes of a header or of a step from an offset on.
 fn put(output: &mut [u8], at: usize, bytes: [u8; 7])
     ensures { output.new ≡ stored output.old at bytes }
 {
@@ -26,7 +38,7 @@ pub fn put_step(output: &mut [u8], index: u32, step: Step)
     ensures { output.new
         ≡ stored output.old (head_size + step_size * index) (step_bytes (step_in step)) }
 {
-    put(output, 7 + 7 * (index as usize), step.to_bytes());
+    put(output, derivation_size(index), step.to_bytes());
 }
 
 // The mark, version 1 and the number of steps.
@@ -34,7 +46,7 @@ pub fn put_header(output: &mut [u8], count: u16)
     ensures { output.new ≡ stored output.old 0 (header_bytes count) }
 {
     let [letter, second, third] = MARK;
-    let [version_low, version_high] = VERSION.to_le_bytes();
+    let [version_low, version_high] = (VERSION as u16).to_le_bytes();
     let [count_low, count_high] = count.to_le_bytes();
     put(
         output,
