@@ -6,28 +6,26 @@
 
 ghost use Rattle.std.specs.Prelude.{◌≡◌, List, ℕ, length};
 ghost use Rattle.circuit.specs.Call.{circuit_call};
-ghost use Rattle.derivation.specs.Answer.{verdict_in};
+ghost use Rattle.derivation.specs.Answer.{judgement_in};
 ghost use Rattle.derivation.specs.Call.{derivation_call, derivation_marks};
 ghost use Rattle.pair.specs.Call.{pair_call};
 ghost use Rattle.renewal.specs.Call.{renewal_call, renewal_output};
 ghost use Rattle.runs.specs.Answer.{paper_of};
 ghost use Rattle.runs.specs.Call.{first_call, next_call, left_by};
 ghost use Rattle.solver.specs.Call.{solver_call, solver_output};
-ghost use Rattle.tags.specs.Answer.{shown_in};
 ghost use Rattle.exports.specs.Answers.{read_returned, read_answer, pair_returned, judgement_numbers, mark_returned, mark_answer, solve_returned, solve_answer};
 ghost use Rattle.exports.specs.Answers.{renew_returned, run_returned, returned as returned_value};
 
 use circuit::reader::{CircuitAnswer, Sizes, check_circuit};
-use derivation::answer::{DerivationAnswer, Verdict};
+use derivation::answer::{DerivationAnswer, Judgement, Verdict};
 use derivation::call::check_derivation;
 use pair::{PairAnswer, check_pair};
 use renewal::answer::RenewalAnswer;
 use renewal::call::renew;
 use runs::answer::RunAnswer;
 use runs::call::{first_run, next_run};
-use solver::answer::SolverAnswer;
+use solver::answer::{Solved, SolverAnswer};
 use solver::call::solve;
-use tags::answer::Shown;
 
 // What one of the returned value's halves holds.
 const HALF: u64 = 1 << 32;
@@ -70,13 +68,13 @@ pub fn yolqushek_pair(circuit: &[u8], sheet: &[u8], pair: &[u8]) -> u64
 }
 
 // How many signals are marked, 1 for fixed and 0 for open, how many tags are shown, and the first that isn't, 0 where all are.
-fn judgement(count: u32, verdict: Verdict, shown: Shown) -> [u64; 4]
-    ensures { result ≡ judgement_numbers
-        (record { count = count; verdict = verdict_in verdict; shown = shown_in shown }) }
+fn numbers_of(judgement: Judgement) -> [u64; 4]
+    ensures { result ≡ judgement_numbers (judgement_in judgement) }
 {
+    let shown = judgement.shown;
     [
-        u64::from(count),
-        u64::from(verdict == Verdict::Fixed),
+        u64::from(judgement.count),
+        u64::from(judgement.verdict == Verdict::Fixed),
         u64::from(shown.count),
         u64::from(shown.missed.unwrap_or(0)),
     ]
@@ -100,12 +98,8 @@ pub fn yolqushek_mark(
 {
     match check_derivation(circuit, sheet, derivation, marks) {
         DerivationAnswer::Refused { number, place } => returned(number, place),
-        DerivationAnswer::Accepted {
-            count,
-            verdict,
-            shown,
-        } => {
-            *answer = judgement(count, verdict, shown);
+        DerivationAnswer::Accepted(judgement) => {
+            *answer = numbers_of(judgement);
             returned(0, 0)
         }
     }
@@ -125,13 +119,8 @@ pub fn yolqushek_solve(
 {
     match solve(circuit, sheet, output) {
         SolverAnswer::Refused { number, place } => returned(number, place),
-        SolverAnswer::Solved {
-            count,
-            verdict,
-            shown,
-            bytes,
-        } => {
-            let [count, verdict, shown, missed] = judgement(count, verdict, shown);
+        SolverAnswer::Solved(Solved { judgement, bytes }) => {
+            let [count, verdict, shown, missed] = numbers_of(judgement);
             *answer = [count, verdict, shown, missed, bytes as u64];
             returned(0, 0)
         }

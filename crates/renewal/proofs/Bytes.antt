@@ -18,10 +18,7 @@ use Rattle.derivation.specs.Steps.{numbered, kind_of, of_kind, step_start, step_
 use Rattle.derivation.specs.Encoded.{low, high, step_bytes, steps_bytes, header_bytes, encoded}
 use Rattle.derivation.specs.Exact.{Framed}
 use Rattle.derivation.proofs.Walks.{step_known, steps_known}
-
--- the numbers of a list are bytes
-pub record Bytes (d : List ℕ) : Type 0 where
-  pub below : (k : ℕ) → k < length d → byte_at d k < 256
+use Rattle.renewal.specs.Inner.{Bytes}
 
 -- One number
 

@@ -20,7 +20,7 @@ use Rattle.tags.specs.Tag.{Sheet, tagged}
 use Rattle.tags.specs.Sheet.{sheet_of, sheet_on, Unrefused}
 use Rattle.tags.specs.Tagged.{tagged_call}
 use Rattle.tags.proofs.SheetLaws.{tagged_unrefused, tagged_refused}
-use Rattle.derivation.specs.Steps.{head_size, step_size, walked, steps_of}
+use Rattle.derivation.specs.Steps.{head_size, step_size, steps_most, walked, steps_of}
 use Rattle.derivation.specs.Call.{framed}
 use Rattle.derivation.specs.Encoded.{encoded}
 use Rattle.derivation.specs.Exact.{Framed}
@@ -28,11 +28,10 @@ use Rattle.derivation.specs.Inner.{tagged_in, unflagged, Noted}
 use Rattle.derivation.proofs.Walks.{walk_passed}
 use Rattle.derivation.proofs.Encoding.{encoded_lists}
 use Rattle.derivation.proofs.Written.{header_written}
-use Rattle.derivation.proofs.Exact.{framed_given}
+use Rattle.derivation.proofs.Exact.{framed_is}
 use Rattle.renewal.specs.Call.{renewed, renewal_on, renewal_call, left_by, renewal_output}
 use Rattle.renewal.specs.Renewed.{RenewedCall}
-use Rattle.renewal.specs.Inner.{Copied, Renews}
-use Rattle.renewal.proofs.Bytes.{Bytes}
+use Rattle.renewal.specs.Inner.{Bytes, Copied, Renews}
 use Rattle.renewal.proofs.Renewed.{GivenAs, call_on, output_on, given_renewal, renewed_call}
 
 renews_refused : (c h d output : List ℕ) (number place : ℕ) → refused number place ≡ renewal_call c h d (length output)
@@ -40,7 +39,7 @@ renews_refused : (c h d output : List ℕ) (number place : ℕ) → refused numb
 unfolding renewal_output
 renews_refused c h d output number place e = record { answer = e; written = rw (← e) }
 
--- on a circuit and a sheet that aren't refused, by the frame's answer and that of the steps
+-- on a circuit and a sheet that aren't refused, by the frame and what the steps answer
 module _ (c h : List ℕ) {z : Sizes} (read : circuit_call c ≡ given z) (fits : sheet_on z h ≡ given (sheet_of h)) (d output : List ℕ) where
   abbrev P : Problem
   P = tagged_in c h
@@ -56,52 +55,38 @@ module _ (c h : List ℕ) {z : Sizes} (read : circuit_call c ≡ given z) (fits 
   unfolding renewal_on
   call_is = call_on unrefused d (length output)
 
-  module _ {A : Type 0} {head : Answer A} (framing : (x : Answer Standing) → and_then head (λ (done : A). x) ≡ framed d x) where
-    pub head_refused : {number place : ℕ} → head ≡ refused number place → Renews c h d output (refused number place) output
-    head_refused {number} {place} e =
-        let out : framed d (walked true P d) ≡ refused number place = sym (framing _) ∙ rw e in
-        renews_refused c h d output number place (sym (call_is ∙ ap then out))
+  pub head_refused : {number place : ℕ} → ((x : Answer Standing) → refused number place ≡ framed d x) → Renews c h d output (refused number place) output
+  head_refused {number} {place} out = renews_refused c h d output number place (sym (call_is ∙ ap then (sym (out (walked true P d)))))
 
-    module _ {done : A} (fine : head ≡ given done) where
-      pub head_framed : Framed d
-      head_framed =
-          let any : framed d (given (start P)) ≡ given (start P) = sym (framing _) ∙ rw fine in
-          (framed_given d (given (start P)) any).0
+  module _ (F : Framed d) where
+    call_walked : {w : Answer Standing} → w ≡ walked true P d → renewal_call c h d (length output) ≡ then w
+    call_walked steps = call_is ∙ ap then (framed_is d (walked true P d) F ∙ sym steps)
 
-      call_walked : {w : Answer Standing} → w ≡ walked true P d → renewal_call c h d (length output) ≡ then w
-      call_walked {w} steps =
-          let on : framed d (walked true P d) ≡ w = sym (framing _) ∙ rw (fine, ← steps) in
-          call_is ∙ ap then on
+    pub walk_refused : {number place : ℕ} → refused number place ≡ walked true P d → Renews c h d output (refused number place) output
+    walk_refused {number} {place} steps = renews_refused c h d output number place (sym (call_walked steps))
 
-      pub walk_refused : {number place : ℕ} → refused number place ≡ walked true P d → Renews c h d output (refused number place) output
-      walk_refused {number} {place} steps = renews_refused c h d output number place (sym (call_walked steps))
+    module _ {S : Standing} (steps : given S ≡ walked true P d) where
+      pub room_refused : length output < length d → Renews c h d output (refused 25 0) output
+      room_refused few = renews_refused c h d output 25 0 (sym (call_walked steps ∙ rw (lt-leb (length d) (length output) few)))
 
-      module _ {S : Standing} (steps : given S ≡ walked true P d) where
-        pub room_refused : length output < length d → Renews c h d output (refused 25 0) output
-        room_refused few = renews_refused c h d output 25 0 (sym (call_walked steps ∙ rw (lt-leb (length d) (length output) few)))
-
-        given_as : length d ≤ length output → GivenAs P d (length output)
+      module _ (roomy : length d ≤ length output) where
+        given_as : GivenAs P d (length output)
         unfolding steps_of
-        given_as roomy =
+        given_as =
             let w = walk_passed true P d 0 (u16_at d 5) (start P) S (sym steps) in
-            record { framed = head_framed; met = w.passed; counted = w.counted; roomy = roomy }
+            record { framed = F; met = w.passed; counted = w.counted; roomy = roomy }
 
-        -- all kinds are known
-        pub all_listed : length (steps_of d) ≡ u16_at d 5
-        unfolding steps_of
-        all_listed = (walk_passed true P d 0 (u16_at d 5) (start P) S (sym steps)).counted
-
-        pub renews : length d ≤ length output → {room : ℕ} {idle : List Bool} → Noted P (start P) d room idle → u16_at d 5 ≤ room
-            → {left : List ℕ} {count : ℕ} → Copied (unflagged idle d (u16_at d 5)) output left count
+        pub renews : Bytes d → {idle : List Bool} → Noted P (start P) d steps_most idle → {left : List ℕ} {count : ℕ}
+            → (Bytes d → length (steps_of d) ≡ u16_at d 5 → Copied (unflagged idle d (u16_at d 5)) output left count)
             → Renews c h d output (given (head_size + step_size * count)) left
         unfolding renewed
-        renews roomy N enough {left} {count} K =
+        renews B N {left} {count} K =
             let xs = less_idle P (start P) (steps_of d) in
-            let C : Copied xs output left count = rw (N.tells enough) at K in
+            let G = given_as in
+            let C : Copied xs output left count = rw (N.tells F.few) at (K B G.counted) in
             let sized = (encoded_lists xs).sized in
             let bytes : head_size + step_size * count ≡ length (encoded xs) = omega (arith, C.counted, sized) in
-            let on = given_renewal P d (length output) (given_as roomy) in
-            let G = given_as roomy in
+            let on = given_renewal P d (length output) G in
             let room : head_size + step_size * length xs ≤ length output
             = omega (arith, less_fewer P (start P) (steps_of d), G.counted, G.framed.sized) in
             record {

@@ -12,8 +12,8 @@ use Rattle.derivation.specs.Encoded.{header_bytes, step_bytes, steps_bytes, stor
 use Rattle.derivation.specs.Inner.{unflagged}
 use Rattle.derivation.proofs.Walks.{step_known}
 use Rattle.derivation.proofs.Written.{nothing_stored, written_next}
-use Rattle.renewal.specs.Inner.{Copied}
-use Rattle.renewal.proofs.Bytes.{Bytes, step_copied}
+use Rattle.renewal.specs.Inner.{Bytes, Copied}
+use Rattle.renewal.proofs.Bytes.{step_copied}
 
 -- a test that is turned round
 pub told : (b : Bool) → not b ≡ false → b ≡ true

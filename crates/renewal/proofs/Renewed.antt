@@ -29,7 +29,8 @@ use Rattle.derivation.proofs.Encoding.{encoded_lists}
 use Rattle.derivation.proofs.Exact.{Lists, framed_given, framed_is, fine_counted, lists_accepted, derivation_accepted, accepted_derivation}
 use Rattle.renewal.specs.Call.{renewed, renewal_on, renewal_call, left_by, renewal_output}
 use Rattle.renewal.specs.Renewed.{Stored, Renewed, RenewedCall}
-use Rattle.renewal.proofs.Bytes.{Bytes, bytes_whole}
+use Rattle.renewal.specs.Inner.{Bytes}
+use Rattle.renewal.proofs.Bytes.{bytes_whole}
 
 -- what a derivation has that is renewed
 pub record GivenAs (P : Problem) (d : List ℕ) (room : ℕ) : Type 0 where

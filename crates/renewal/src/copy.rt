@@ -5,20 +5,20 @@ ghost use Rattle.circuit.specs.Bytes.{u16_at};
 ghost use Rattle.derivation.specs.Steps.{head_size, step_size, step_start, steps_of};
 ghost use Rattle.derivation.specs.Encoded.{stored};
 ghost use Rattle.derivation.specs.Inner.{unflagged};
-ghost use Rattle.renewal.specs.Inner.{Copied};
+ghost use Rattle.renewal.specs.Inner.{Bytes, Copied};
 
-use circuit::bytes::u16_at;
-use derivation::writer::put_header;
+use derivation::file::DerivationFile;
+use derivation::writer::{STEP_SIZE, derivation_size, put_header};
 
 // Step k, counted from 0, to place `index` of the output.
-fn copy_step(derivation: &[u8], k: usize, output: &mut [u8], index: usize)
+fn copy_step(derivation: &[u8], k: u32, output: &mut [u8], index: u32)
     requires { (head_size + step_size * k + step_size ≤ length derivation.now) × (head_size + step_size * index + step_size ≤ length output.old) }
     ensures { output.new
         ≡ stored output.old (head_size + step_size * index) (take step_size (drop (step_start k) derivation.now)) }
 {
-    let from = 7 + 7 * k;
-    let to = 7 + 7 * index;
-    output[to..to + 7].copy_from_slice(&derivation[from..from + 7]);
+    let from = derivation_size(k);
+    let to = derivation_size(index);
+    output[to..to + STEP_SIZE].copy_from_slice(&derivation[from..from + STEP_SIZE]);
 }
 
 // Whether step k isn't noted as idle.
@@ -29,18 +29,16 @@ fn is_kept(idle: &[bool], k: usize) -> bool
 }
 
 // The steps that aren't noted as idle, one after the other, and the header before them. Gives how many there are.
-pub(crate) fn copy_steps(derivation: &[u8], idle: &[bool], output: &mut [u8]) -> usize
-    requires { (length derivation.now ≡ head_size + step_size * u16_at derivation.now 5) × (length derivation.now ≤ length output.old) }
-    ensures few { result ≤ u16_at derivation.now 5 }
-    ensures copied { length (steps_of derivation.now) ≡ u16_at derivation.now 5
-        → Copied (unflagged idle.now derivation.now (u16_at derivation.now 5)) output.old output.new result }
+pub(crate) fn copy_steps(derivation: DerivationFile, idle: &[bool], output: &mut [u8]) -> u32
+    requires { length derivation.bytes.now ≤ length output.old }
+    ensures { let d = derivation.entry.bytes.now in
+        Bytes d → length (steps_of d) ≡ u16_at d 5 → Copied (unflagged idle.now d (u16_at d 5)) output.old output.new result }
 {
-    let count = u16_at(derivation, 5) as usize;
-    let mut index: usize = 0;
-    for k in 0..count {
-        let kept = is_kept(idle, k);
+    let mut index = 0;
+    for k in 0..derivation.count() {
+        let kept = is_kept(idle, k as usize);
         if kept {
-            copy_step(derivation, k, output, index);
+            copy_step(derivation.bytes, k, output, index);
             index += 1;
         }
     }

@@ -1,30 +1,26 @@
 -- `renewal::copy::copy_steps`: a step that is noted is passed over, another is copied.
 use Rattle.std.proofs.Common.{arith, ◌∙◌, sym}
 use borrow.Author.Tests.{not-true}
-use Rattle.circuit.specs.Bytes.{byte_at}
-use Rattle.renewal.proofs.Bytes.{Bytes}
 use Rattle.renewal.proofs.Copies as laws
 use Rattle.renewal.proofs.copy.copy_steps.Goals as goal
 use Rattle.renewal.proofs.copy.copy_steps.Goals.{then-kept, else-kept}
 
 pub loop-k-init : goal.loop-k-init
-loop-k-init c = (omega arith, λ n. laws.copying_start _ _ _)
+loop-k-init c = (omega arith, λ b n. laws.copying_start _ _ _)
 
 pub loop-k-preserved : goal.loop-k-preserved
-unfolding byte_at
 loop-k-preserved c =
     let l = c.loop-k in
-    let bytes : Bytes c.args.derivation.now = record { below = λ k h. omega (arith, c.type_inv.derivation k) } in
     elim c.if-kept.branch [
       | then-kept w ↦ (
         omega (arith, l.invariant.0, w.index-is),
-        λ n.
+        λ b n.
             rw (w.index-is, w.output-is)
-            (laws.copying_next (l.invariant.1 n) (not-true _ (sym c.is_kept-kept.ensures ∙ w.if-kept.true)) bytes n
-            (omega (arith, c.loop-k-test.true, c.u16_at-count.ensures.0)) c.requires.0 w.copy_step.ensures),
+            (laws.copying_next (l.invariant.1 b n) (not-true _ (sym c.is_kept-kept.ensures ∙ w.if-kept.true)) b n
+            (omega (arith, c.loop-k-test.true, c.count-k-end.ensures)) c.args.derivation.framed.sized w.copy_step.ensures),
       )
       | else-kept w ↦ (
         omega (arith, l.invariant.0, w.index-is),
-        λ n. rw (w.index-is, w.output-is) (laws.copying_noted (l.invariant.1 n) (laws.told _ (sym c.is_kept-kept.ensures ∙ w.if-kept.false))),
+        λ b n. rw (w.index-is, w.output-is) (laws.copying_noted (l.invariant.1 b n) (laws.told _ (sym c.is_kept-kept.ensures ∙ w.if-kept.false))),
       )
     ]
