@@ -4,7 +4,7 @@ use mathlib.Core.Path.{◌≡◌, refl, sym, ap, ◌∙◌}
 use mathlib.Core.List.{List}
 use mathlib.Core.Logic.{◌⊎◌, inl, inr, ⊎_elim}
 use native.Mathlib.Omega.{arith}
-use lib.ListN.{length, get_or, set, length-set, replicate}
+use lib.ListN.{length, get_or, length-set, replicate}
 use lib.Seq.{get_or-set_same, get_or-set_other}
 use borrow.Author.Tests.{ne_eqb}
 use Rattle.std.specs.Prelude.{Option, None, Some}
@@ -24,6 +24,8 @@ use Rattle.circuit.specs.Offsets.{part_of}
 use Rattle.circuit.specs.declared.reader.Sizes.{Sizes}
 use Rattle.circuit.proofs.OffsetLaws.{sized_part}
 use Rattle.solver.specs.Links.{Prepared, Forgotten}
+use Rattle.solver.specs.Kept as was
+use Rattle.solver.specs.Kept.{LookedUp}
 use Rattle.solver.specs.Bounds.{no_key, key_in, least_in, known_in, key_at, least_of, place_of, reference_of, Narrow, AllNarrow, Lower, no_step, stays, lowers, with_zeroth, IsKey, Keys, SomeKeys, Found, Least}
 use Rattle.solver.specs.declared.keys.Key.{Key}
 use Rattle.solver.specs.declared.keys.Choice.{Choice}
@@ -49,20 +51,20 @@ module _ {c table ends : List ℕ} {rows : List Entry} {z : Sizes} (D : Prepared
       rw (Z.is_p, Z.is_n, constraint_here) at
       (h z.n (rw Z.is_p Z.formed.prime) (rw (constraint_here, Z.is_p, Z.is_n) (Z.formed.each k)) (row_here e) (rw Z.is_p low))
 
-pub found_new : {C : Circuit} (b : ℕ → ℕ) (k : ℕ) (before : List (Option (Option Key))) (key : Option Key) → k < length before
-    → IsKey C.p C.n (constraint_at C k) b (least_in key) → Found C b k key before (set before k (Some key))
-found_new b k before key h I =
+-- the key was kept, or what is found is that key
+pub found_by : {Q : Option Key → Type 0} (C : Circuit) (b : ℕ → ℕ) (k : ℕ) (key : Option Key) {before later : List (Option (Option Key))}
+    → LookedUp Q k key before later → k < length before
+    → (get_or before k None ≡ None) ⊎ IsKey C.p C.n (constraint_at C k) b (key_at before k)
+    → (Q key → IsKey C.p C.n (constraint_at C k) b (least_in key)) → Found C b k key before later
+found_by C b k key (was.kept e) h K new =
+    record { is_key = ⊎_elim (λ z. cc) (λ I. rw e at I) K; here = e; kept = λ j d. refl; sized = refl }
+found_by C b k key {before} (was.sought e q) h K new =
     record {
-      is_key = I;
+      is_key = new q;
       here = get_or-set_same before k (Some key) None h;
       kept = λ j d. get_or-set_other before k j (Some key) None d;
       sized = length-set before k (Some key);
     }
-
-pub found_known : (C : Circuit) (b : ℕ → ℕ) (k : ℕ) (keys : List (Option (Option Key))) (key : Option Key) → get_or keys k None ≡ Some key
-    → (get_or keys k None ≡ None) ⊎ IsKey C.p C.n (constraint_at C k) b (key_at keys k) → Found C b k key keys keys
-found_known C b k keys key e K =
-    record { is_key = ⊎_elim (λ z. cc) (λ I. rw e at I) K; here = e; kept = λ j d. refl; sized = refl }
 
 -- The least of the keys, one more at a time
 
@@ -116,10 +118,9 @@ abbrev pub placed : List (Option (Option Key)) → ℕ → ℕ
 placed keys = with_zeroth no_key (key_at keys)
 
 -- the keys of the constraints up to k are known, and that of `lowest` is the least of them
-pub record Finding (C : Circuit) (b : ℕ → ℕ) (keys₀ : List (Option (Option Key))) (k : ℕ) (lowest : Option Choice) (keys : List (Option (Option Key)))
+pub record Finding (C : Circuit) (b : ℕ → ℕ) (k : ℕ) (lowest : Option Choice) (keys : List (Option (Option Key)))
     : Type 0 where
   pub few : k ≤ C.m
-  pub sized : length keys ≡ length keys₀
   pub low : (s : ℕ) → b s < C.p
   pub done : (j : ℕ) → 1 ≤ j → j ≤ k → IsKey C.p C.n (constraint_at C j) b (key_at keys j)
   pub rest : (j : ℕ) → k < j → j ≤ C.m → (get_or keys j None ≡ None) ⊎ IsKey C.p C.n (constraint_at C j) b (key_at keys j)
@@ -129,12 +130,11 @@ pub record Finding (C : Circuit) (b : ℕ → ℕ) (keys₀ : List (Option (Opti
   pub alone : reference_of lowest ≡ 0
   pub narrow : AllNarrow lowest
 
-pub finding_start : {C : Circuit} {b : ℕ → ℕ} {keys : List (Option (Option Key))} {k : ℕ} → k ≡ 0 → SomeKeys C b keys → Finding C b keys k None keys
+pub finding_start : {C : Circuit} {b : ℕ → ℕ} {keys : List (Option (Option Key))} {k : ℕ} → k ≡ 0 → SomeKeys C b keys → Finding C b k None keys
 finding_start {keys = keys} z K =
     rw z
     record {
       few = omega arith;
-      sized = refl;
       low = K.low;
       done = λ j l h. absurd (omega arith);
       rest = λ j l h. K.each j (omega arith) h;
@@ -145,8 +145,8 @@ finding_start {keys = keys} z K =
       narrow = tt;
     }
 
-module _ {C : Circuit} {b : ℕ → ℕ} {keys₀ : List (Option (Option Key))} {k : ℕ} {lowest : Option Choice} {keys : List (Option (Option Key))}
-    (F : Finding C b keys₀ k lowest keys) where
+module _ {C : Circuit} {b : ℕ → ℕ} {k : ℕ} {lowest : Option Choice} {keys : List (Option (Option Key))}
+    (F : Finding C b k lowest keys) where
   pub finding_known : SomeKeys C b keys
   finding_known = record { low = F.low; each = λ j l h. by_order k j (λ d. F.rest j d h) (λ d. inr (F.done j l d)) }
 
@@ -171,11 +171,10 @@ module _ {C : Circuit} {b : ℕ → ℕ} {keys₀ : List (Option (Option Key))} 
     here = nonzeroth no_key (key_at after) i (omega arith) ∙ ap known_in N.here
 
     next : (lowest' : Option Choice) → Least (placed after) i (place_of lowest') → least_of lowest' ≡ placed after (place_of lowest')
-        → least_of lowest' ≤ no_key → reference_of lowest' ≡ 0 → AllNarrow lowest' → Finding C b keys₀ i lowest' after
+        → least_of lowest' ≤ no_key → reference_of lowest' ≡ 0 → AllNarrow lowest' → Finding C b i lowest' after
     next lowest' L e small alone narrow =
         record {
           few = more;
-          sized = N.sized ∙ F.sized;
           low = F.low;
           done = λ j l h.
               by_equal j i (λ q. rw (q, N.here) N.is_key) (λ d. rw (N.kept j d) (F.done j l (omega arith)));
@@ -188,20 +187,20 @@ module _ {C : Circuit} {b : ℕ → ℕ} {keys₀ : List (Option (Option Key))} 
         }
 
     finding_new : {x : Key} → key ≡ Some x → Narrow x → key_in x < least_of lowest
-        → Finding C b keys₀ i (Some (record { key = x; constraint = i; reference = 0 })) after
+        → Finding C b i (Some (record { key = x; constraint = i; reference = 0 })) after
     finding_new {x} e N l =
         let is-here : placed after i ≡ key_in x = here ∙ ap least_in e in
         next (Some (record { key = x; constraint = i; reference = 0 })) (least_new is_i F.least F.is_lowest is-here kept l) (sym is-here)
         (omega (arith, F.small)) refl N
 
-    finding_on : least_of lowest ≤ least_in key → Finding C b keys₀ i lowest after
+    finding_on : least_of lowest ≤ least_in key → Finding C b i lowest after
     finding_on l =
         next lowest (least_on is_i F.least F.is_lowest here kept l) (F.is_lowest ∙ sym (kept _ F.least.within)) F.small F.alone F.narrow
 
-    pub finding_next : {lowest' : Option Choice} → Lower lowest i key lowest' → Finding C b keys₀ i lowest' after
+    pub finding_next : {lowest' : Option Choice} → Lower lowest i key lowest' → Finding C b i lowest' after
     finding_next L = go refl L
       where
-        go : {key' : Option Key} {lowest' : Option Choice} → key' ≡ key → Lower lowest i key' lowest' → Finding C b keys₀ i lowest' after
+        go : {key' : Option Key} {lowest' : Option Choice} → key' ≡ key → Lower lowest i key' lowest' → Finding C b i lowest' after
         go e no_step = finding_on (rw (← e) F.small)
         go e (stays l) = finding_on (rw (← e) l)
         go e (lowers N l) = finding_new (sym e) N l

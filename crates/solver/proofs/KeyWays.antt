@@ -1,7 +1,7 @@
 -- The ways out of the search for a constraint's key.
 use Prim.Native.Nat.{ℕ, ◌≤◌, ◌<◌}
 use mathlib.Core.Path.{◌≡◌}
-use mathlib.Core.Bool.{Bool, true, false}
+use mathlib.Core.Bool.{true, false}
 use native.Mathlib.Omega.{arith}
 use lib.Dec.{eqb}
 use borrow.Author.Tests.{eqb-true}
@@ -24,8 +24,8 @@ pub named_within : {n p : ℕ} {f : Form} → Rises n p 0 f → (t : ℕ) → na
 named_within {n} r t e = by_order n t (λ h. true_or_false _ e (unnamed_beyond r t h)) (λ h. h)
 
 module _ {p n : ℕ} {K : Constraint} (b : ℕ → ℕ) (P : Prime p) where
-  -- Not linear: a root at a signal of A, sought where none is marked
-  module _ (W : WellFormedConstraint n p K) (nonlinear : linear K ≡ false) {m : ℕ → Bool} (blank : (s : ℕ) → m s ≡ false) where
+  -- Not linear: a root at a signal of A
+  module _ (W : WellFormedConstraint n p K) (nonlinear : linear K ≡ false) where
     root_by : {q : Kind} {u x : ℕ} → LowersTo p n K b q u x → (root_met K u ≡ true) × (root_bound p K u < b u)
     root_by {q} {u} {x} L = go (lowers_by p n K b L)
       where
@@ -33,11 +33,11 @@ module _ {p n : ℕ} {K : Constraint} (b : ℕ → ℕ) (P : Prime p) where
         go (a_root e g) = (e, omega (arith, L.less))
         go (a_sum M g) = true_or_false _ M.is_linear nonlinear
 
-    pub root_unnamed : ((s : ℕ) → 1 ≤ s → names K.a s ≡ true → m s ≡ true) → IsKey p n K b no_key
+    pub root_unnamed : ((s : ℕ) → 1 ≤ s → names K.a s ≡ true → ⊥) → IsKey p n K b no_key
     root_unnamed missed =
-        no_key_lem p n K b (λ q u x L. true_or_false _ (missed u L.least (root_names K u (root_by L).0).0) (blank u))
+        no_key_lem p n K b (λ q u x L. missed u L.least (root_names K u (root_by L).0).0)
 
-    module _ {t : ℕ} (U : (1 ≤ t) × (names K.a t ≡ true) × (m t ≡ false)) where
+    module _ {t : ℕ} (U : (1 ≤ t) × (names K.a t ≡ true)) where
       root_only : {q : Kind} {u x : ℕ} → LowersTo p n K b q u x → (root_met K t ≡ true) × (root_bound p K t < b t)
       root_only {q} {u} {x} L =
           let e = root_by L in

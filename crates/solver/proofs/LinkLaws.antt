@@ -8,13 +8,15 @@ use native.Mathlib.Omega.{arith}
 use lib.ListN.{length, get_or, set, take, drop, length-take, length-set, get_or-eq_default}
 use lib.Seq.{get_or-take, get_or-drop, get_or-set_same, get_or-set_other}
 use Rattle.std.specs.Prelude.{Option, None}
-use Rattle.circuit.specs.Circuit.{Circuit, constraint_at}
+use Rattle.circuit.specs.Circuit.{constraint_at}
 use Rattle.laws.proofs.Sum.{false_by, by_equal, by_order}
 use Rattle.rules.specs.Rows as rows
 use Rattle.rules.specs.Rows.{at, nothing, rank, signal_on, involves, stands, start_of, row_of}
 use Rattle.rules.proofs.Ranks.{rank_below}
 use Rattle.rules.proofs.RowLaws.{stands_is}
-use Rattle.solver.specs.Links.{AllRows, Last, Linked, SameOwners, Linkable, Owned, Links, Forgotten, unlinked, before_on, owner_on}
+use Rattle.solver.specs.Links.{Last, Linked, SameOwners, Linkable, Owned, Forgotten, unlinked, before_on, owner_on}
+use Rattle.solver.specs.Table.{places_in, circuit_in, row_in}
+use Rattle.solver.specs.declared.table.Table.{Table}
 use Rattle.rules.specs.declared.rows.Entry.{Entry}
 use Rattle.solver.specs.declared.links.Link.{Link}
 
@@ -148,38 +150,43 @@ entry_at table ends rows k i h =
       omega (arith, size),
     )
 
--- the entries from x on that hold s have been walked over
-pub record Walked {A : Type 0} (C : Circuit) (end : ℕ) (rows : List Entry) (links : List Link) (s : ℕ) (before : List (Option A)) (x : ℕ) (after : List (Option A))
-    : Type 0 where
-  pub near : x ≤ end
-  pub here : 1 ≤ x → signal_on rows (x - 1) ≡ s
-  pub sized : length after ≡ length before
-  pub each : (k : ℕ) → 1 ≤ k → k ≤ C.m → (get_or after k None ≡ None)
-      ⊎ ((get_or after k None ≡ get_or before k None) × ((e : ℕ) → x ≤ e → e < end → signal_on rows e ≡ s → owner_on links e ≡ k → ⊥))
+-- a place that is out of range holds nothing
+forgotten_at : {A : Type 0} (kept : List (Option A)) (k : ℕ) → get_or (set kept k None) k None ≡ None
+forgotten_at kept k =
+    by_order k (length kept) (get_or-set_same kept k None None)
+    (λ h. get_or-eq_default (set kept k None) None (omega (arith, length-set kept k None)))
 
-module _ {C : Circuit} {end : ℕ} {table ends : List ℕ} {rows : List Entry} {lasts : List ℕ} {links : List Link} (R : AllRows C table ends rows) (L : Links C end table ends rows lasts links)
-    {s : ℕ} (low : 1 ≤ s) (high : s ≤ C.n) where
+-- the entries from x on that hold s have been walked over
+pub record Walked {A : Type 0} (T : Table) (s : ℕ) (before : List (Option A)) (x : ℕ) (after : List (Option A)) : Type 0 where
+  pub near : x ≤ places_in T
+  pub here : 1 ≤ x → signal_on T.rows.now (x - 1) ≡ s
+  pub sized : length after ≡ length before
+  pub each : (k : ℕ) → 1 ≤ k → k ≤ (circuit_in T).m → (get_or after k None ≡ None)
+      ⊎ ((get_or after k None ≡ get_or before k None)
+      × ((e : ℕ) → x ≤ e → e < places_in T → signal_on T.rows.now e ≡ s → owner_on T.links.now e ≡ k → ⊥))
+
+module _ (T : Table) {s : ℕ} (named : (1 ≤ s) × (s ≤ (circuit_in T).n)) where
   -- a constraint none of whose entries holds s doesn't name it
-  unnamed : (k : ℕ) → 1 ≤ k → k ≤ C.m → ((e : ℕ) → e < end → signal_on rows e ≡ s → owner_on links e ≡ k → ⊥) → involves (constraint_at C k) s ≡ false
+  unnamed : (k : ℕ) → 1 ≤ k → k ≤ (circuit_in T).m → ((e : ℕ) → e < places_in T → signal_on T.rows.now e ≡ s → owner_on T.links.now e ≡ k → ⊥) → involves (constraint_at (circuit_in T) k) s ≡ false
   unnamed k a b none =
       false_by _
       (λ i.
-      let K = constraint_at C k in
-      let here : stands K s ≡ true = stands_is K s low ∙ i in
-      let W = R.row k a b in
-      let inside : rank (stands K) s < length (row_of table ends rows k)
-      = omega (arith, W.counted, rank_below (stands K) s (suc C.n) (omega arith) here) in
-      let E = entry_at table ends rows k (rank (stands K) s) inside in
-      none (start_of table k + rank (stands K) s) (omega (arith, E.1, L.within k a b)) (sym E.0 ∙ W.signal s high here)
-      (L.owner k _ a b (omega arith) (omega (arith, E.1))))
+      let K = constraint_at (circuit_in T) k in
+      let here : stands K s ≡ true = stands_is K s named.0 ∙ i in
+      let W = T.made.row k a b in
+      let inside : rank (stands K) s < length (row_in T k)
+      = omega (arith, W.counted, rank_below (stands K) s (suc (circuit_in T).n) (omega arith) here) in
+      let E = entry_at T.constraints.now.offsets T.ends.now T.rows.now k (rank (stands K) s) inside in
+      none (start_of T.constraints.now.offsets k + rank (stands K) s) (omega (arith, E.1, T.linked.within k a b)) (sym E.0 ∙ W.signal s named.1 here)
+      (T.linked.owner k _ a b (omega arith) (omega (arith, E.1))))
 
   module _ {A : Type 0} {before : List (Option A)} where
-    pub walked_start : {x : ℕ} → x ≡ at lasts s → Walked C end rows links s before x before
+    pub walked_start : {x : ℕ} → x ≡ at T.lasts.now s → Walked T s before x before
     walked_start is =
-        let X = L.linked.last s (omega (arith, L.lasts_room)) in
+        let X = T.linked.linked.last s (omega (arith, T.linked.lasts_room)) in
         rw is record { near = X.before; here = X.holds; sized = refl; each = λ k l m. inr (refl, λ e a b g h. X.later e a b g) }
 
-    pub walked_end : {x : ℕ} {after : List (Option A)} → Walked C end rows links s before x after → x ≤ 0 → Forgotten C s before after
+    pub walked_end : {x : ℕ} {after : List (Option A)} → Walked T s before x after → x ≤ 0 → Forgotten (circuit_in T) s before after
     walked_end W h =
         record {
           sized = W.sized;
@@ -187,38 +194,38 @@ module _ {C : Circuit} {end : ℕ} {table ends : List ℕ} {rows : List Entry} {
         }
 
     -- one entry back
-    pub walked_on : {x : ℕ} {after : List (Option A)} → Walked C end rows links s before x after → 0 < x → C.m < length before → (k : ℕ) → k ≡ owner_on links (x - 1)
-        → (y : ℕ) → y ≡ before_on links (x - 1) → {after' : List (Option A)} → after' ≡ set after k None → Walked C end rows links s before y after'
-    walked_on {x} {after} W some roomy k is-k y is_y is_after =
+    pub walked_on : {x : ℕ} {after : List (Option A)} → Walked T s before x after → 0 < x → (k : ℕ) → k ≡ owner_on T.links.now (x - 1)
+        → (y : ℕ) → y ≡ before_on T.links.now (x - 1) → {after' : List (Option A)} → after' ≡ set after k None → Walked T s before y after'
+    walked_on {x} {after} W some k is-k y is_y is_after =
         rw (is_y, is_after)
         record {
           near = omega (arith, B.before, W.near);
           here = B.holds;
           sized = length-set after k None ∙ W.sized;
-          each = λ j l m. by_equal j k (λ z. inl (rw (sym z) (get_or-set_same after j None None (omega (arith, W.sized))))) (each j l m);
+          each = λ j l m. by_equal j k (λ z. inl (rw (sym z) (forgotten_at after j))) (each j l m);
         }
       where
-        B : Last rows s (x - 1) (before_on links (x - 1))
+        B : Last T.rows.now s (x - 1) (before_on T.links.now (x - 1))
         B =
             let holds = W.here (omega arith) in
-            rw (← holds) (L.linked.before (x - 1) (omega (arith, W.near)) (rw holds (omega (arith, L.lasts_room))))
+            rw (← holds) (T.linked.linked.before (x - 1) (omega (arith, W.near)) (rw holds (omega (arith, T.linked.lasts_room))))
 
-        each : (j : ℕ) → 1 ≤ j → j ≤ C.m → (j ≡ k → ⊥) → (get_or (set after k None) j None ≡ None)
+        each : (j : ℕ) → 1 ≤ j → j ≤ (circuit_in T).m → (j ≡ k → ⊥) → (get_or (set after k None) j None ≡ None)
             ⊎ ((get_or (set after k None) j None ≡ get_or before j None)
-            × ((i : ℕ) → before_on links (x - 1) ≤ i → i < end → signal_on rows i ≡ s → owner_on links i ≡ j → ⊥))
+            × ((i : ℕ) → before_on T.links.now (x - 1) ≤ i → i < places_in T → signal_on T.rows.now i ≡ s → owner_on T.links.now i ≡ j → ⊥))
         each j l m d =
             ⊎_elim (λ z. inl (get_or-set_other after k j None None d ∙ z))
             (λ w.
             inr (
               get_or-set_other after k j None None d ∙ w.0,
               λ i a b g h.
-                  by_equal i (x - 1) (λ z. d (sym h ∙ ap (owner_on links) z ∙ sym is-k))
+                  by_equal i (x - 1) (λ z. d (sym h ∙ ap (owner_on T.links.now) z ∙ sym is-k))
                   (λ z. by_order i x (λ p. B.later i a (omega arith) g) (λ p. w.1 i p b g h)),
             ))
             (W.each j l m)
 
-    pub walked_falls : {x : ℕ} {after : List (Option A)} → Walked C end rows links s before x after → 0 < x → (y : ℕ) → y ≡ before_on links (x - 1) → y < x
-    walked_falls {x} W some y is_y = omega (arith, L.linked.falls (x - 1) (omega (arith, W.near)), is_y)
+    pub walked_falls : {x : ℕ} {after : List (Option A)} → Walked T s before x after → 0 < x → (y : ℕ) → y ≡ before_on T.links.now (x - 1) → y < x
+    walked_falls {x} W some y is_y = omega (arith, T.linked.linked.falls (x - 1) (omega (arith, W.near)), is_y)
 
-    pub walked_inside : {x : ℕ} {after : List (Option A)} → Walked C end rows links s before x after → 0 < x → x - 1 < length links
-    walked_inside W some = omega (arith, W.near, L.links_room)
+    pub walked_inside : {x : ℕ} {after : List (Option A)} → Walked T s before x after → 0 < x → x - 1 < length T.links.now
+    walked_inside W some = omega (arith, W.near, T.linked.links_room)

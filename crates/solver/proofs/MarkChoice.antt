@@ -206,12 +206,12 @@ module _ {C : Circuit} (narrow : C.n < 4294967296) (S : Standing) {x r : ℕ} {k
           chosen H ∙ ap (λ (y : Step). some y) (sym (same_step (step_of choice) (step H.kind H.target r (refs r)) (number_is parts.2) parts.1 is-r is-reference))
 
 -- The choice of the phase
-module _ {C : Circuit} (narrow : C.n < 4294967296) (S : Standing) {x : ℕ} {lowest : Option Choice} {kept₀ kept : List (Option (Option Candidate))}
-    (W : Sweeping C S.bound S.marked x C.m lowest kept₀ kept) (first : ℕ → ℕ) where
+module _ {C : Circuit} (narrow : C.n < 4294967296) (S : Standing) {x : ℕ} {lowest : Option Choice} {kept : List (Option (Option Candidate))}
+    (W : Sweeping C S.bound S.marked x C.m lowest kept) (first : ℕ → ℕ) where
   pub sweeping_choice : choice_of lowest ≡ first_adding marks (given C first) S
   sweeping_choice = go lowest W
     where
-      go : (lowest : Option Choice) → Sweeping C S.bound S.marked x C.m lowest kept₀ kept → choice_of lowest ≡ first_adding marks (given C first) S
+      go : (lowest : Option Choice) → Sweeping C S.bound S.marked x C.m lowest kept → choice_of lowest ≡ first_adding marks (given C first) S
       go None W = sym (choice_none narrow S W.swept first (sym W.is_lowest))
       go (Some choice) W =
           sym (choice_some narrow S W.swept first choice W.narrow refl W.is_lowest

@@ -3,10 +3,12 @@ use Prim.Native.Nat.{ℕ, zero, suc, ◌+◌, ◌≤◌, ◌<◌}
 use mathlib.Core.Path.{◌≡◌, refl, sym, ap, ◌∙◌}
 use mathlib.Core.Bool.{Bool, true, false, not, ◌&&◌, ◌||◌}
 use mathlib.Core.Logic.{inl, inr, ⊎_elim}
+use native.Mathlib.Numerals.{add-one}
 use native.Mathlib.Omega.{arith}
 use lib.Dec.{eqb}
 use borrow.Author.Tests.{eqb-true, eq-eqb, not-true}
 use Rattle.circuit.specs.Circuit.{Constraint, Form, names}
+use Rattle.circuit.specs.Runs.{first_from, found}
 use Rattle.laws.specs.Rules.{linear, reduced, occurs, zero_met, others_marked, product_met, live, separated, digits_met}
 use Rattle.laws.specs.Step.{Kind, Zero, Product, Digits, kind_number}
 use Rattle.laws.proofs.KindLaws.{number_is}
@@ -48,21 +50,42 @@ key_order q t u h = omega arith
 pub record Passed (test : ℕ → Bool) (s : ℕ) : Type 0 where
   pub fails : (u : ℕ) → 1 ≤ u → u ≤ s → test u ≡ false
 
-pub counted_start : (test : ℕ → Bool) {s : ℕ} → s ≡ 0 → Passed test s
+counted_start : (test : ℕ → Bool) {s : ℕ} → s ≡ 0 → Passed test s
 counted_start test z = record { fails = λ u l h. absurd (omega arith) }
 
 module _ {test : ℕ → Bool} {s : ℕ} (Q : Passed test s) where
-  pub counted_on : {t : ℕ} → t ≡ s + 1 → test t ≡ false → Passed test t
+  counted_on : {t : ℕ} → t ≡ s + 1 → test t ≡ false → Passed test t
   counted_on {t} n e = record { fails = λ u l h. by_equal u t (λ z. rw z e) (λ d. Q.fails u l (omega arith)) }
 
   past : (u : ℕ) → 1 ≤ u → test u ≡ true → s < u
   past u l e = by_order s u (λ h. h) (λ h. true_or_false _ e (Q.fails u l h))
 
-  pub counted_found : {n t : ℕ} → t ≡ s + 1 → t ≤ n → test t ≡ true → First test n (Some t)
+  counted_found : {n t : ℕ} → t ≡ s + 1 → t ≤ n → test t ≡ true → First test n (Some t)
   counted_found z h e = (omega arith, h, e, λ u l i. omega (arith, past u l i))
 
-  pub counted_none : {n : ℕ} → n ≤ s → First test n None
+  counted_none : {n : ℕ} → n ≤ s → First test n None
   counted_none h u l g e = omega (arith, past u l e)
+
+-- what a search from k on finds, where the numbers before k fail, is the first that passes
+module _ (test : ℕ → Bool) (n : ℕ) where
+  unfoldable pub failing : ℕ → Bool
+  failing s = not (test s)
+
+  first_is_from : (s left : ℕ) → Passed test s → n ≡ s + left → First test n (found (first_from failing (s + 1) left))
+  unfolding first_from failing
+  first_is_from s zero Q e = counted_none Q (omega (arith, e))
+  first_is_from s (suc left) Q e = go (test (s + 1)) refl (λ y. first_is_from (s + 1) left (counted_on Q refl y) (omega (arith, e)))
+    where
+      go : (b : Bool) → test (s + 1) ≡ b → (test (s + 1) ≡ false → First test n (found (first_from failing (s + 1 + 1) left)))
+          → First test n (found (first_from failing (s + 1) (suc left)))
+      go true y later =
+          let one : s + 1 ≡ suc s = omega arith in
+          let here : first_from failing (s + 1) (suc left) ≡ suc s = rw y one in
+          rw here (counted_found Q (sym one) (omega (arith, e)) (rw (sym one) y))
+      go false y later = rw (y, ← add-one (s + 1)) (later y)
+
+  pub first_is : {r : Option ℕ} → r ≡ found (first_from failing 1 n) → First test n r
+  first_is e = rw e (first_is_from 0 n (counted_start test refl) (omega arith))
 
 module _ (b : ℕ → ℕ) (m : ℕ → Bool) (s : ℕ) where
   pub zero_yes : b s ≡ 0 → m s ≡ false → zero_at b m s ≡ true

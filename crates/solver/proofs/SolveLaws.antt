@@ -34,7 +34,8 @@ use Rattle.laws.proofs.Greedy.{reached_start, bound_phase}
 use Rattle.rules.proofs.ViewLaws.{get_d_repeated}
 use Rattle.rules.specs.Rows.{at}
 use Rattle.rules.specs.declared.rows.Entry.{Entry}
-use Rattle.solver.specs.Links.{places, Blank, Unlinked}
+use Rattle.rules.specs.Rows.{places}
+use Rattle.solver.specs.Links.{Blank, Unlinked}
 use Rattle.solver.specs.declared.links.Link.{Link}
 use Rattle.solver.specs.Bounds.{Lowered}
 use Rattle.solver.specs.Choice.{Marked, Taken}
@@ -44,15 +45,15 @@ use Rattle.solver.proofs.Demand.{call_on, output_on, demand}
 
 -- A circuit or a sheet that is refused
 
-solves_refused : (c h output : List ℕ) {number place : ℕ} → refused number place ≡ solver_call c h (length output)
+solves_refused : {c h output : List ℕ} {number place : ℕ} → refused number place ≡ solver_call c h (length output)
     → Solves c h output (refused number place) output
 unfolding solver_output
-solves_refused c h output e = record { answer = e; written = rw (← e) }
+solves_refused e = record { answer = e; written = rw (← e) }
 
-pub call_refused : (c h output : List ℕ) {number place : ℕ} → refused number place ≡ tagged_call c h → Solves c h output (refused number place) output
+pub call_refused : {c h output : List ℕ} {number place : ℕ} → refused number place ≡ tagged_call c h → Solves c h output (refused number place) output
 unfolding solver_call
-call_refused c h output e =
-    solves_refused c h output (tagged_refused c h (λ (C : Circuit) (T : Sheet). solver_on (tagged C T) T (length output)) e)
+call_refused {c} {h} {output} e =
+    solves_refused (tagged_refused c h (λ (C : Circuit) (T : Sheet). solver_on (tagged C T) T (length output)) e)
 
 -- A circuit and a sheet that aren't refused
 
@@ -64,7 +65,7 @@ pub record Taking (c h : List ℕ) (z : Sizes) : Type 0 where
 pub taking : {c h : List ℕ} {z : Sizes} → circuit_call c ≡ given z → sheet_on z h ≡ given (sheet_of h) → Taking c h z
 taking read fits = record { sized = call_sized read; sheeted = fits }
 
-module _ (c h : List ℕ) (z : Sizes) (K : Taking c h z) where
+module _ {c h : List ℕ} {z : Sizes} (K : Taking c h z) where
   abbrev C : Circuit
   C = circuit_of c
 
@@ -84,22 +85,22 @@ module _ (c h : List ℕ) (z : Sizes) (K : Taking c h z) where
   W = Z.formed
 
   -- refusal 25
-  pub room_short : (output : List ℕ) → length output < 7 + 14 * z.n
+  pub room_short : {output : List ℕ} → length output < 7 + 14 * z.n
       → Solves c h output (refused 25 0) output
-  room_short output short =
+  room_short {output} short =
       let few : leb (room_for C.n) (length output) ≡ false = lt-leb (room_for C.n) (length output) (omega (arith, Z.is_n)) in
-      solves_refused c h output (sym (call_on output U ∙ ap (λ (b : Bool). ask b 25 0 (given (solved P T))) few))
+      solves_refused (sym (call_on output U ∙ ap (λ (b : Bool). ask b 25 0 (given (solved P T))) few))
 
   -- the start
-  pub start_view : (S : Standing) → S ≡ first_view z.p z.i h → S ≡ start P
-  start_view S e = start_is c z Z h e
-
   pub start_low : {S : Standing} → S ≡ first_view z.p z.i h → (s : ℕ) → S.bound s < z.p
   start_low e s = rw e (omega (arith, first_most z.p (min z.i 256) T s, Z.is_p, W.p_least))
 
   -- after both phases
-  module _ (output output₂ : List ℕ) (S S₂ : Standing) (steps : ℕ) (begin : S ≡ start P) (L : Taken P S S₂ output output₂ steps)
+  module _ {output output₂ : List ℕ} {S S₂ : Standing} {steps : ℕ} (first : S ≡ first_view z.p z.i h) (L : Taken P S S₂ output output₂ steps)
       (roomy : 7 + 14 * z.n ≤ length output) where
+    begin : S ≡ start P
+    begin = start_is c z Z h first
+
     bounds_are : turns (best_bound P) P P.n S ≡ bound_steps P
     unfolding bound_steps
     bounds_are = rw begin refl
@@ -141,28 +142,28 @@ module _ (c h : List ℕ) (z : Sizes) (K : Taking c h z) where
     fits : leb (room_for C.n) (length output) ≡ true
     fits = le-leb (room_for C.n) (length output) (omega (arith, Z.is_n))
 
-    pub solved_output : (output₃ : List ℕ) → output₃ ≡ stored output₂ 0 (header_bytes steps) → output₃ ≡ solver_output c h output
-    unfolding own
-    solved_output output₃ e =
+    -- the answer, and what is left once the header is written too
+    pub solves : {r : Answer Solved} → r ≡ given (record { judgement = judged_by z h S₂; bytes = 7 + 7 * steps }) → {output₃ : List ℕ}
+        → output₃ ≡ stored output₂ 0 (header_bytes steps) → Solves c h output r output₃
+    unfolding own solved
+    solves e w =
         let room : 7 + 7 * length (solution P) ≤ length output = omega (arith, solution_length P, Z.is_n) in
-        e
-        ∙ ap (λ (k : ℕ). stored output₂ 0 (header_bytes k)) steps_counted
-        ∙ header_written output output₂ (solution P) both_written room
-        ∙ ap (λ (k : ℕ). encoded (solution P) ++ drop k output) (sym own_length)
-        ∙ sym (output_on output U ∙ ap (λ (b : Bool). left_by (ask b 25 0 (given (solved P T))) P output) fits)
-
-    pub solved_answer : (r : Answer Solved) → r ≡ given (record { judgement = judged_by z h S₂; bytes = 7 + 7 * steps })
-        → r ≡ solver_call c h (length output)
-    unfolding solved
-    solved_answer r e =
-        e
-        ∙ rw (judged_is c z Z h S₂, reached_view, steps_counted, sym own_length)
-        (sym (call_on output U ∙ ap (λ (b : Bool). ask b 25 0 (given (solved P T))) fits))
+        record {
+          answer =
+              e
+              ∙ rw (judged_is c z Z h S₂, reached_view, steps_counted, sym own_length)
+              (sym (call_on output U ∙ ap (λ (b : Bool). ask b 25 0 (given (solved P T))) fits));
+          written =
+              w
+              ∙ ap (λ (k : ℕ). stored output₂ 0 (header_bytes k)) steps_counted
+              ∙ header_written output output₂ (solution P) both_written room
+              ∙ ap (λ (k : ℕ). encoded (solution P) ++ drop k output) (sym own_length)
+              ∙ sym (output_on output U ∙ ap (λ (b : Bool). left_by (ask b 25 0 (given (solved P T))) P output) fits);
+        }
 
 -- DEMAND 3 of an answer that is the call's and of what it leaves
-pub demanded : (c h output : List ℕ) (r : Answer Solved) (left : List ℕ) → Solves c h output r left
-    → (r ≡ solver_call c h (length output)) × ((left ≡ solver_output c h output) × Demand c h output r left)
-demanded c h output r left A = (A.answer, (A.written, rw (A.answer, A.written) (demand c h output)))
+pub demanded : {c h output : List ℕ} {r : Answer Solved} {left : List ℕ} → Solves c h output r left → Demand c h output r left
+demanded {c} {h} {output} A = rw (A.answer, A.written) (demand c h output)
 
 -- Between the parts
 

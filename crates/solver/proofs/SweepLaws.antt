@@ -5,7 +5,7 @@ use mathlib.Core.Bool.{Bool, true, false}
 use mathlib.Core.List.{List}
 use mathlib.Core.Logic.{◌⊎◌, inl, inr, ⊎_elim}
 use native.Mathlib.Omega.{arith}
-use lib.ListN.{length, get_or, set, length-set, replicate}
+use lib.ListN.{length, get_or, set, length-set, replicate, get_or-eq_default}
 use lib.Seq.{get_or-set_same, get_or-set_other}
 use Rattle.std.specs.Prelude.{Option, None, Some}
 use Rattle.field.specs.Prime.{Prime}
@@ -13,7 +13,8 @@ use Rattle.circuit.specs.Circuit.{Circuit, Constraint, WellFormedConstraint, con
 use Rattle.circuit.specs.Reader.{constraint_in}
 use Rattle.laws.specs.Standing.{add}
 use Rattle.laws.specs.Rules.{reduced}
-use Rattle.laws.proofs.Sum.{true_or_false, by_equal}
+use Rattle.laws.specs.Step.{Digits}
+use Rattle.laws.proofs.Sum.{true_or_false, by_equal, by_order}
 use Rattle.laws.proofs.Order.{add_other}
 use Rattle.rules.proofs.ViewLaws.{get_d_repeated}
 use Rattle.circuit.specs.Offsets.{part_of}
@@ -26,14 +27,18 @@ use Rattle.rules.specs.declared.gathered.Few.{Few}
 use Rattle.rules.specs.declared.rows.Entry.{Entry}
 use Rattle.rules.proofs.RowDigits.{Tried, tried_start, tried_on, tried_found, tried_none, hopeless_none}
 use Rattle.rules.specs.View.{bound_in, mark_in}
+use Rattle.rules.specs.Promise.{kind_of}
+use Rattle.solver.specs.Kept as was
+use Rattle.solver.specs.Kept.{LookedUp}
 use Rattle.solver.specs.Links.{Prepared, Forgotten}
-use Rattle.solver.specs.Bounds.{no_key, key_in, least_of, place_of, reference_of, Narrow, AllNarrow, with_zeroth, Least}
-use Rattle.solver.specs.Marks.{MarksBy, FirstKey, ZeroStep, Loose, Known, MarkKeys, Looked, Swept}
+use Rattle.solver.specs.Bounds.{no_key, key_in, least_of, place_of, reference_of, Narrow, AllNarrow, with_zeroth}
+use Rattle.solver.specs.Marks.{MarksBy, FirstKey, ZeroStep, Loose, Known, MarkKeys, Looked, Swept, exact}
 use Rattle.solver.specs.Marks.{reference_in, found_key, found_reference, known_key, mark_keys, mark_references}
+use Rattle.solver.specs.declared.keys.Key.{Key}
 use Rattle.solver.specs.declared.keys.Choice.{Choice}
 use Rattle.solver.specs.declared.marking.Candidate.{Candidate}
 use Rattle.solver.proofs.Choice.{key_small}
-use Rattle.solver.proofs.MarkKeyLaws.{loose_none, loose_exact, known_kept}
+use Rattle.solver.proofs.MarkKeyLaws.{known_loose, loose_none, loose_exact, known_kept}
 use Rattle.solver.proofs.KeySearch.{constraint_here, row_here, zeroth, nonzeroth, zeroth_kept, least_start, least_new, least_on}
 
 -- What is kept in a list
@@ -60,22 +65,20 @@ module _ {C : Circuit} {b : ℕ → ℕ} {q : ℕ → Bool} where
             (M.each k l h))
             (G.each k l h)
 
-    -- something is known already
-    pub looked_known : (k : ℕ) → 1 ≤ k → k ≤ C.m → (found : Option Candidate) → get_or kept k None ≡ Some found → Looked C b q k found kept kept
-    looked_known k l h found e =
+    -- something was known already, or is found and stored
+    pub looked_by : {Q : Option Candidate → Type 0} (k : ℕ) → 1 ≤ k → k ≤ C.m → k < length kept → (found : Option Candidate)
+        → {after : List (Option (Option Candidate))} → LookedUp Q k found kept after
+        → (Q found → Known C.p C.n (constraint_at C k) b q (found_key found) (found_reference found)) → Looked C b q k found kept after
+    looked_by k l h room found (was.kept e) new =
         record {
           known = ⊎_elim (λ z. cc) (λ N. rw e at N) (M.each k l h);
           here = e;
           others = λ j d. refl;
           sized = refl;
         }
-
-    -- something is stored
-    pub looked_new : (k : ℕ) → k < length kept → (found : Option Candidate)
-        → Known C.p C.n (constraint_at C k) b q (found_key found) (found_reference found) → Looked C b q k found kept (set kept k (Some found))
-    looked_new k room found N =
+    looked_by k l h room found (was.sought e s) new =
         record {
-          known = N;
+          known = new s;
           here = get_or-set_same kept k (Some found) None room;
           others = λ j d. get_or-set_other kept k j (Some found) None d;
           sized = length-set kept k (Some found);
@@ -85,17 +88,19 @@ module _ {C : Circuit} {b : ℕ → ℕ} {q : ℕ → Bool} where
     looked_keys {k} L =
         record { each = λ j l h. by_equal j k (λ e. inr (rw (e, L.here) L.known)) (λ d. rw (L.others j d) (M.each j l h)) }
 
-  -- once more
+  -- once more, since what is known is in range
   pub looked_then : {k : ℕ} {found found' : Option Candidate} {kept after : List (Option (Option Candidate))} → Looked C b q k found kept after
-      → k < length kept → Known C.p C.n (constraint_at C k) b q (found_key found') (found_reference found')
-      → Looked C b q k found' kept (set after k (Some found'))
-  looked_then {k} {found} {found'} {kept} {after} L room N =
+      → Known C.p C.n (constraint_at C k) b q (found_key found') (found_reference found') → Looked C b q k found' kept (set after k (Some found'))
+  looked_then {k} {found} {found'} {kept} {after} L N =
       record {
         known = N;
-        here = get_or-set_same after k (Some found') None (omega (arith, L.sized));
+        here = get_or-set_same after k (Some found') None (by_order k (length after) (λ h. h) (λ h. absurd (some_is_none (sym L.here ∙ get_or-eq_default after None h))));
         others = λ j d. get_or-set_other after k j (Some found') None d ∙ L.others j d;
         sized = length-set after k (Some found') ∙ L.sized;
       }
+    where
+      some_is_none : {A : Type 0} {x : A} → Some x ≡ None → ⊥
+      some_is_none e = cc
 
 -- From the part of constraint k to the constraint
 module _ {c table ends : List ℕ} {rows : List Entry} {z : Sizes} (D : Prepared c table ends rows z) {k : ℕ} (first : 1 ≤ k) (last : k ≤ z.m)
@@ -159,41 +164,36 @@ module _ {p : ℕ} {row : List Entry} {bounds : List ℕ} {marks : List Bool} {f
 
 -- The walk over the constraints
 
--- how far it has come, and the lowest step so far; x is the key of the zero steps
-pub record Sweeping (C : Circuit) (b : ℕ → ℕ) (q : ℕ → Bool) (x k : ℕ) (lowest : Option Choice) (kept₀ kept : List (Option (Option Candidate))) : Type 0
-  where
-    pub few : k ≤ C.m
-    pub sized : length kept ≡ length kept₀
-    pub swept : Swept C b q x k (place_of lowest) kept
-    pub is_lowest : least_of lowest ≡ with_zeroth x (mark_keys kept) (place_of lowest)
-    pub by_one : 1 ≤ place_of lowest → reference_of lowest ≡ reference_in (mark_references kept (place_of lowest))
-    pub by_none : place_of lowest ≡ 0 → reference_of lowest ≡ 0
-    pub small : least_of lowest ≤ no_key
-    pub narrow : AllNarrow lowest
+-- the lowest step so far, of the zero steps and of the constraints up to k; x is the key of the zero steps
+pub record Sweeping (C : Circuit) (b : ℕ → ℕ) (q : ℕ → Bool) (x k : ℕ) (lowest : Option Choice) (kept : List (Option (Option Candidate))) : Type 0 where
+  pub swept : Swept C b q x k (place_of lowest) kept
+  pub is_lowest : least_of lowest ≡ with_zeroth x (mark_keys kept) (place_of lowest)
+  pub by_one : 1 ≤ place_of lowest → reference_of lowest ≡ reference_in (mark_references kept (place_of lowest))
+  pub by_none : place_of lowest ≡ 0 → reference_of lowest ≡ 0
+  pub narrow : AllNarrow lowest
 
 all_small : (lowest : Option Choice) → AllNarrow lowest → least_of lowest ≤ no_key
 all_small None N = omega arith
 all_small (Some choice) N = omega (arith, key_small N)
 
 pub sweeping_start : {C : Circuit} {b : ℕ → ℕ} {q : ℕ → Bool} {kept : List (Option (Option Candidate))} {lowest : Option Choice} → MarkKeys C b q kept
-    → ZeroStep C.n b q lowest → Sweeping C b q (least_of lowest) 0 lowest kept kept
+    → ZeroStep C.n b q lowest → Sweeping C b q (least_of lowest) 0 lowest kept
 sweeping_start {lowest = lowest} M Z =
     record {
-      few = omega arith;
-      sized = refl;
       swept = record { known = M; zeros = Z.first; least = rw Z.place (least_start _); exact = λ l. absurd (omega (arith, Z.place)) };
       is_lowest = rw Z.place (sym (zeroth _ _));
       by_one = λ l. absurd (omega (arith, Z.place));
       by_none = λ z. Z.alone;
-      small = all_small lowest Z.narrow;
       narrow = Z.narrow;
     }
 
-module _ {C : Circuit} {b : ℕ → ℕ} {q : ℕ → Bool} {x k : ℕ} {lowest : Option Choice} {kept₀ kept : List (Option (Option Candidate))}
-    (W : Sweeping C b q x k lowest kept₀ kept) where
-  -- constraint i, the next, has been looked at
-  module _ {i : ℕ} (is_i : i ≡ k + 1) (more : i ≤ C.m) {found : Option Candidate} {after : List (Option (Option Candidate))}
-      (R : Looked C b q i found kept after) where
+-- constraint i, the next, is looked at
+module _ {C : Circuit} {b : ℕ → ℕ} {q : ℕ → Bool} {x k : ℕ} {lowest : Option Choice} {kept : List (Option (Option Candidate))}
+    (W : Sweeping C b q x k lowest kept) {i : ℕ} (is_i : i ≡ k + 1) where
+  module _ {found : Option Candidate} {after : List (Option (Option Candidate))} (looks : MarkKeys C b q kept → Looked C b q i found kept after) where
+    R : Looked C b q i found kept after
+    R = looks W.swept.known
+
     earlier : (j : ℕ) → j ≤ k → get_or after j None ≡ get_or kept j None
     earlier j h = R.others j (λ (z : j ≡ i). omega arith)
 
@@ -203,58 +203,80 @@ module _ {C : Circuit} {b : ℕ → ℕ} {q : ℕ → Bool} {x k : ℕ} {lowest 
     here : with_zeroth x (mark_keys after) i ≡ found_key found
     here = nonzeroth x (mark_keys after) i (omega arith) ∙ ap known_key R.here
 
-    next : (lowest' : Option Choice) → Least (with_zeroth x (mark_keys after)) i (place_of lowest')
-        → (1 ≤ place_of lowest' → FirstKey (MarksBy C.p C.n (constraint_at C (place_of lowest')) b q) (mark_keys after (place_of lowest'))
-        (reference_in (mark_references after (place_of lowest'))))
-        → least_of lowest' ≡ with_zeroth x (mark_keys after) (place_of lowest')
-        → (1 ≤ place_of lowest' → reference_of lowest' ≡ reference_in (mark_references after (place_of lowest')))
-        → (place_of lowest' ≡ 0 → reference_of lowest' ≡ 0) → AllNarrow lowest' → Sweeping C b q x i lowest' kept₀ after
-    next lowest' L exact is_lowest by_one by_none narrow =
-        record {
-          few = more;
-          sized = R.sized ∙ W.sized;
-          swept = record { known = looked_keys W.swept.known R; zeros = W.swept.zeros; least = L; exact = exact };
-          is_lowest = is_lowest;
-          by_one = by_one;
-          by_none = by_none;
-          small = all_small lowest' narrow;
-          narrow = narrow;
-        }
-
-    pub sweeping_on : least_of lowest ≤ found_key found → Sweeping C b q x i lowest kept₀ after
+    -- it has no step that is lower
+    pub sweeping_on : least_of lowest ≤ found_key found → Sweeping C b q x i lowest after
     sweeping_on l =
         let r = place_of lowest in
         let stays = earlier r W.swept.least.within in
-        next lowest (least_on is_i W.swept.least W.is_lowest here same l) (λ h. rw stays (W.swept.exact h))
-        (W.is_lowest ∙ sym (same r W.swept.least.within)) (λ h. rw stays (W.by_one h)) W.by_none W.narrow
+        record {
+          swept =
+              record {
+                known = looked_keys W.swept.known R;
+                zeros = W.swept.zeros;
+                least = least_on is_i W.swept.least W.is_lowest here same l;
+                exact = λ h. rw stays (W.swept.exact h);
+              };
+          is_lowest = W.is_lowest ∙ sym (same r W.swept.least.within);
+          by_one = λ h. rw stays (W.by_one h);
+          by_none = W.by_none;
+          narrow = W.narrow;
+        }
 
-    pub sweeping_none : found ≡ None → Sweeping C b q x i lowest kept₀ after
-    sweeping_none e = sweeping_on (rw e W.small)
+    pub sweeping_none : found ≡ None → Sweeping C b q x i lowest after
+    sweeping_none e = sweeping_on (rw e (all_small lowest W.narrow))
 
-  -- .. and has an exact step below those before
-  pub sweeping_new : {i : ℕ} → i ≡ k + 1 → i ≤ C.m → {candidate : Candidate} {after : List (Option (Option Candidate))}
-      → Looked C b q i (Some candidate) kept after
-      → FirstKey (MarksBy C.p C.n (constraint_at C i) b q) (key_in candidate.key) (reference_in candidate.reference)
-      → key_in candidate.key < least_of lowest → Narrow candidate.key → {r : ℕ} → r ≡ reference_in candidate.reference
-      → Sweeping C b q x i (Some (record { key = candidate.key; constraint = i; reference = r })) kept₀ after
-  sweeping_new {i} is_i more {candidate} R F l narrow {r} is_r =
-      next is_i more R (Some (record { key = candidate.key; constraint = i; reference = r }))
-      (least_new is_i W.swept.least W.is_lowest (here is_i more R) (same is_i more R) l) (λ h. rw R.here F)
-      (sym (here is_i more R)) (λ h. rw R.here is_r) (λ z. absurd (omega arith)) narrow
+  module _ {candidate : Candidate} {after : List (Option (Option Candidate))} (looks : MarkKeys C b q kept → Looked C b q i (Some candidate) kept after) where
+    -- it has an exact step, which is lower
+    pub sweeping_new : FirstKey (MarksBy C.p C.n (constraint_at C i) b q) (found_key (Some candidate)) (reference_in candidate.reference) → {key : Key}
+        → key_in key ≡ found_key (Some candidate) → key_in key < least_of lowest → Narrow key → {r : ℕ} → r ≡ reference_in candidate.reference
+        → Sweeping C b q x i (Some (record { key = key; constraint = i; reference = r })) after
+    sweeping_new F e l narrow is_r =
+        let here_is = here looks in
+        record {
+          swept =
+              record {
+                known = looked_keys W.swept.known (R looks);
+                zeros = W.swept.zeros;
+                least = least_new is_i W.swept.least W.is_lowest here_is (same looks) (omega (arith, e, l));
+                exact = λ h. rw (R looks).here F;
+              };
+          is_lowest = e ∙ sym here_is;
+          by_one = λ h. rw (R looks).here is_r;
+          by_none = λ z. absurd (omega arith);
+          narrow = narrow;
+        }
 
--- A loose step made exact, by the row of its constraint
-module _ {c table ends : List ℕ} {rows : List Entry} {z : Sizes} (D : Prepared c table ends rows z) {k : ℕ} (first : 1 ≤ k) (last : k ≤ z.m)
-    {row : List Entry} (is_row : row ≡ row_of table ends rows k) {bounds : List ℕ} {marks : List Bool} {key : ℕ}
-    (L : Loose (circuit_of c).p (circuit_of c).n (constraint_at (circuit_of c) k) (mark_in marks) key) where
-  pub settled_found : {few : Few} {i : ℕ} → Searching z.p row bounds marks few i → i < entries row → {t : Bool} → Told z.p row marks few i t → t ≡ true
-      → FirstKey (MarksBy (circuit_of c).p (circuit_of c).n (constraint_at (circuit_of c) k) (bound_in z.p bounds) (mark_in marks)) key (signal_on row i)
-  settled_found T left tells t =
-      loose_exact L (first_here D first last is_row (found T left tells t)) (entry_some D first last is_row T.some left)
+-- constraint k + 1 has a loose step, which its row makes exact
+module _ {c table ends : List ℕ} {rows : List Entry} {z : Sizes} (D : Prepared c table ends rows z) (bounds : List ℕ) (marks : List Bool) {x k : ℕ}
+    {lowest : Option Choice} {kept : List (Option (Option Candidate))} (W : Sweeping (circuit_of c) (bound_in z.p bounds) (mark_in marks) x k lowest kept)
+    (more : k < z.m) {row : List Entry} (is_row : row ≡ row_of table ends rows (k + 1)) {candidate : Candidate} {after : List (Option (Option Candidate))}
+    (looks : MarkKeys (circuit_of c) (bound_in z.p bounds) (mark_in marks) kept
+    → Looked (circuit_of c) (bound_in z.p bounds) (mark_in marks) (k + 1) (Some candidate) kept after)
+    (is_loose : (kind_of candidate.kind ≡ Digits) × (candidate.reference ≡ None)) where
+  L : Loose (circuit_of c).p (circuit_of c).n (constraint_at (circuit_of c) (k + 1)) (mark_in marks) (found_key (Some candidate))
+  L = known_loose _ _ refl is_loose (looks W.swept.known).known
 
-  pub settled_none : {few : Few} {i : ℕ} → Searching z.p row bounds marks few i → entries row ≤ i
-      → FirstKey (MarksBy (circuit_of c).p (circuit_of c).n (constraint_at (circuit_of c) k) (bound_in z.p bounds) (mark_in marks)) no_key 0
-  settled_none T h = loose_none L (first_here D first last is_row (searched T h)) refl
+  none_left : ((n : ℕ) (K : Constraint) → Prime z.p → Row z.p n K row → FirstReference z.p n (reduced z.p K) (bound_in z.p bounds) (mark_in marks) 0)
+      → Sweeping (circuit_of c) (bound_in z.p bounds) (mark_in marks) x (k + 1) lowest (set after (k + 1) (Some None))
+  none_left f =
+      sweeping_none W refl {found = None}
+      (λ M. looked_then (looks M) (exact (loose_none L (first_here D (omega arith) (omega arith) is_row f) refl))) refl
 
-  pub settled_hopeless : Hopeless z.p row bounds marks
-      → FirstKey (MarksBy (circuit_of c).p (circuit_of c).n (constraint_at (circuit_of c) k) (bound_in z.p bounds) (mark_in marks)) no_key 0
-  settled_hopeless H = loose_none L (first_here D first last is_row (hopeless_none _ _ _ _ H)) refl
+  -- nothing separates its unmarked signals
+  pub loose_hopeless : Hopeless z.p row bounds marks
+      → Sweeping (circuit_of c) (bound_in z.p bounds) (mark_in marks) x (k + 1) lowest (set after (k + 1) (Some None))
+  loose_hopeless H = none_left (hopeless_none _ _ _ _ H)
+
+  module _ {few : Few} {i : ℕ} (T : Searching z.p row bounds marks few i) where
+    -- none of its references does
+    pub loose_tried : entries row ≤ i → Sweeping (circuit_of c) (bound_in z.p bounds) (mark_in marks) x (k + 1) lowest (set after (k + 1) (Some None))
+    loose_tried h = none_left (searched T h)
+
+    -- the signal of entry i does
+    pub loose_found : i < entries row → {t : Bool} → Told z.p row marks few i t → t ≡ true → {key : Key} → key_in key ≡ found_key (Some candidate)
+        → key_in key < least_of lowest → Narrow key → {r : ℕ} → r ≡ signal_on row i
+        → Sweeping (circuit_of c) (bound_in z.p bounds) (mark_in marks) x (k + 1) (Some (record { key = key; constraint = k + 1; reference = r }))
+        (set after (k + 1) (Some (Some (record { target = candidate.target; kind = candidate.kind; reference = Some r }))))
+    loose_found left tells t {key} e l narrow {r} is_r =
+        let F = loose_exact L (first_here D (omega arith) (omega arith) is_row (found T left tells t)) (entry_some D (omega arith) (omega arith) is_row T.some left) in
+        sweeping_new W refl (λ M. looked_then (looks M) (exact (rw is_r F))) (rw is_r F) e l narrow refl

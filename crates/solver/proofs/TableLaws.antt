@@ -11,7 +11,8 @@ use Rattle.circuit.specs.declared.reader.Sizes.{Sizes}
 use Rattle.laws.proofs.Sum.{by_equal}
 use Rattle.rules.specs.Rows.{at, start_of, row_size, Roomy, RowMade}
 use Rattle.rules.proofs.RoomLaws.{rows_apart, row_within, row_inside}
-use Rattle.solver.specs.Links.{places, AllRows, Owned, Linked, SameOwners, Linkable, Links, Blank, Made, Unlinked}
+use Rattle.rules.specs.Rows.{places}
+use Rattle.solver.specs.Links.{AllRows, Owned, Linked, SameOwners, Linkable, Links, Blank, Made, Unlinked}
 use Rattle.rules.specs.declared.rows.Entry.{Entry}
 use Rattle.solver.specs.declared.links.Link.{Link}
 

@@ -101,6 +101,10 @@ pub record IsKey (p n : ℕ) (K : Constraint) (b : ℕ → ℕ) (key : ℕ) : Ty
   pub only : (q : Kind) (t x : ℕ) → LowersTo p n K b q t x → key ≡ key_of x t (kind_number q)
   pub held : (key ≡ no_key) ⊎ Holder p n K b key
 
+-- that of constraint k, if it has one
+abbrev pub IsKeyOf : Circuit → (ℕ → ℕ) → ℕ → Option Key → Type 0
+IsKeyOf C b k key = IsKey C.p C.n (constraint_at C k) b (least_in key)
+
 -- the key of each constraint
 pub record Keys (C : Circuit) (b : ℕ → ℕ) (keys : List (Option (Option Key))) : Type 0 where
   pub each : (k : ℕ) → 1 ≤ k → k ≤ C.m → IsKey C.p C.n (constraint_at C k) b (key_at keys k)
@@ -109,12 +113,6 @@ pub record Keys (C : Circuit) (b : ℕ → ℕ) (keys : List (Option (Option Key
 pub record SomeKeys (C : Circuit) (b : ℕ → ℕ) (keys : List (Option (Option Key))) : Type 0 where
   pub low : (s : ℕ) → b s < C.p
   pub each : (k : ℕ) → 1 ≤ k → k ≤ C.m → (get_or keys k None ≡ None) ⊎ IsKey C.p C.n (constraint_at C k) b (key_at keys k)
-
--- k is the number of a constraint, of which something is kept
-pub record Kept {A : Type 0} (m k : ℕ) (keys : List A) : Type 0 where
-  pub first : 1 ≤ k
-  pub last : k ≤ m
-  pub room : m < length keys
 
 -- the key of constraint k is found, and the others are kept
 pub record Found (C : Circuit) (b : ℕ → ℕ) (k : ℕ) (key : Option Key) (before later : List (Option (Option Key))) : Type 0 where

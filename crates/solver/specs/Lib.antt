@@ -1,6 +1,7 @@
 pub mod Links
 pub mod Table
 pub mod Search
+pub mod Kept
 pub mod Bounds
 pub mod Marks
 pub mod Choice

@@ -1,5 +1,5 @@
 -- Links between the entries of rows that hold the same signal. How the solver runs, not what it means.
-use Rattle.std.specs.Prelude.{ℕ, ◌+◌, ◌-◌, ◌/◌, ◌≤◌, ◌<◌, ◌≡◌, false, List, ◌⊎◌, length, get_or, Option, None}
+use Rattle.std.specs.Prelude.{ℕ, ◌+◌, ◌-◌, ◌≤◌, ◌<◌, ◌≡◌, false, List, ◌⊎◌, length, get_or, Option, None}
 use Rattle.circuit.specs.Circuit.{Circuit, constraint_at}
 use Rattle.circuit.specs.Call.{circuit_of, Sized}
 use Rattle.circuit.specs.Offsets.{Offsets}
@@ -57,10 +57,6 @@ pub record Linkable (end : ℕ) (rows : List Entry) (lasts : List ℕ) (links : 
 pub record Owned (k start end : ℕ) (before after : List Link) : Type 0 where
   pub each : (i : ℕ) → start ≤ i → i < end → owner_on after i ≡ k
   pub kept : (i : ℕ) → (i < start) ⊎ (end ≤ i) → owner_on after i ≡ owner_on before i
-
--- how many places for entries the rows of so many bytes and m constraints lie in
-abbrev pub places : ℕ → ℕ → ℕ
-places bytes m = bytes / 6 + m + 1
 
 -- the entries of all rows, up to `end`, are linked, and each belongs to its constraint
 pub record Links (C : Circuit) (end : ℕ) (table ends : List ℕ) (rows : List Entry) (lasts : List ℕ) (links : List Link) : Type 0 where

@@ -3,8 +3,9 @@ use Rattle.std.specs.Prelude.{ℕ, ◌≤◌, ◌≡◌, Bool, true, false, not,
 use Rattle.circuit.specs.Circuit.{Circuit, Constraint, constraint_at}
 use Rattle.laws.specs.Rules.{linear, reduced, zero_met, product_met, digits_met}
 use Rattle.laws.specs.Step.{Kind, Zero, Product, Digits, kind_number}
+use Rattle.rules.specs.Promise.{kind_of}
 use Rattle.rules.specs.Weights.{LowestLive}
-use Rattle.solver.specs.Bounds.{key_of, no_key, key_in, least_of, place_of, reference_of, AllNarrow, with_zeroth, Least}
+use Rattle.solver.specs.Bounds.{key_of, no_key, least_of, place_of, reference_of, AllNarrow, with_zeroth, Least}
 use Rattle.solver.specs.declared.keys.Choice.{Choice}
 use Rattle.solver.specs.declared.marking.Candidate.{Candidate}
 
@@ -80,7 +81,7 @@ pub data Known (p n : ℕ) (K : Constraint) (b : ℕ → ℕ) (m : ℕ → Bool)
 
 abbrev pub found_key : Option Candidate → ℕ
 found_key None = no_key
-found_key (Some x) = key_in x.key
+found_key (Some x) = mark_key (kind_of x.kind) x.target
 
 abbrev pub found_reference : Option Candidate → Option ℕ
 found_reference None = None
@@ -100,6 +101,10 @@ mark_keys kept k = known_key (get_or kept k None)
 
 abbrev pub mark_references : List (Option (Option Candidate)) → ℕ → Option ℕ
 mark_references kept k = known_reference (get_or kept k None)
+
+-- what is found of constraint k
+abbrev pub IsKnown : Circuit → (ℕ → ℕ) → (ℕ → Bool) → ℕ → Option Candidate → Type 0
+IsKnown C b m k found = Known C.p C.n (constraint_at C k) b m (found_key found) (found_reference found)
 
 -- what is known of each constraint of which something is
 pub record MarkKeys (C : Circuit) (b : ℕ → ℕ) (m : ℕ → Bool) (kept : List (Option (Option Candidate))) : Type 0 where

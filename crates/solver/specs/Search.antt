@@ -1,13 +1,13 @@
--- What a search for an unmarked signal in a form or in a row finds.
+-- What a search for a signal in a form, or for an unmarked one in a row, finds.
 -- How the solver runs, not what it means.
 use Rattle.std.specs.Prelude.{ℕ, ◌≤◌, ◌≡◌, Bool, true, false, Option, None, Some}
 use Rattle.circuit.specs.Circuit.{Form, Constraint, names}
 use Rattle.laws.specs.Rules.{linear, product_met}
 
--- an unmarked signal of the form, or none where it has none
-abbrev pub SomeUnmarked : (ℕ → Bool) → Form → Option ℕ → Type 0
-SomeUnmarked marked f None = (s : ℕ) → 1 ≤ s → names f s ≡ true → marked s ≡ true
-SomeUnmarked marked f (Some t) = (1 ≤ t) × (names f t ≡ true) × (marked t ≡ false)
+-- a signal that the form names, or none where it names none
+abbrev pub SomeNamed : Form → Option ℕ → Type 0
+SomeNamed f None = (s : ℕ) → 1 ≤ s → names f s ≡ true → ⊥
+SomeNamed f (Some t) = (1 ≤ t) × (names f t ≡ true)
 
 -- t is the one unmarked signal that a constraint names, and C alone names it
 pub record Alone (n : ℕ) (K : Constraint) (m : ℕ → Bool) (t : ℕ) : Type 0 where

@@ -1,11 +1,12 @@
 -- What the table of a call holds. How the solver runs, not what it means.
-use Rattle.std.specs.Prelude.{ℕ, List}
+use Rattle.std.specs.Prelude.{ℕ, List, length}
 use Rattle.circuit.specs.Circuit.{Circuit}
 use Rattle.circuit.specs.Call.{circuit_of}
 use Rattle.circuit.specs.Offsets.{part_of}
 use Rattle.circuit.specs.declared.reader.Sizes.{Sizes}
 use Rattle.rules.specs.Rows.{row_of}
 use Rattle.rules.specs.declared.rows.Entry.{Entry}
+use Rattle.rules.specs.Rows.{places}
 use Rattle.solver.specs.declared.table.Table.{Table}
 
 -- the bytes of its circuit, the numbers of their header, and the circuit in them
@@ -17,6 +18,10 @@ sizes_in T = T.constraints.now.file.sizes
 
 abbrev pub circuit_in : Table → Circuit
 circuit_in T = circuit_of (bytes_in T)
+
+-- how many places for entries its rows lie in
+abbrev pub places_in : Table → ℕ
+places_in T = places (length (bytes_in T)) (sizes_in T).m
 
 -- the part and the row of constraint k
 abbrev pub part_in : Table → ℕ → List ℕ

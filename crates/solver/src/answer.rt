@@ -1,14 +1,12 @@
 // What the solver call answers.
 
-use derivation::answer::Verdict;
-use tags::answer::Shown;
+use circuit::refusal::Refusal;
+use derivation::answer::Judgement;
 
-// How many signals are marked, the verdict, what is shown of the sheet and the bytes of the derivation written.
+// What the derivation written comes to, and its bytes.
 #[derive(Clone, Copy, Debug, PartialEq, Eq)]
-pub(crate) struct Solved {
-    pub count: u32,
-    pub verdict: Verdict,
-    pub shown: Shown,
+pub struct Solved {
+    pub judgement: Judgement,
     pub bytes: usize,
 }
 
@@ -16,14 +14,24 @@ pub(crate) struct Solved {
 // Stays: the form of a call's answer, one enum whose cases carry number and place or the result.
 #[derive(Clone, Copy, Debug, PartialEq, Eq)]
 pub enum SolverAnswer {
-    Refused {
-        number: u32,
-        place: usize,
-    },
-    Solved {
-        count: u32,
-        verdict: Verdict,
-        shown: Shown,
-        bytes: usize,
-    },
+    Refused { number: u32, place: usize },
+    Solved(Solved),
+}
+
+impl From<Result<Solved, Refusal>> for SolverAnswer {
+    ghost use Rattle.std.specs.Prelude.{◌≡◌};
+    ghost use Rattle.circuit.specs.Answer.{answer_by};
+    ghost use Rattle.solver.specs.Answer.{solved_in, paper_of};
+
+    ghost from_gives = { λ solved answer. paper_of answer ≡ answer_by solved_in solved };
+
+    fn from(solved: Result<Solved, Refusal>) -> SolverAnswer {
+        match solved {
+            Ok(solved) => SolverAnswer::Solved(solved),
+            Err(refusal) => SolverAnswer::Refused {
+                number: refusal.number(),
+                place: refusal.place,
+            },
+        }
+    }
 }

@@ -3,14 +3,12 @@
 ghost use Rattle.std.specs.Prelude.{◌≡◌, ℕ, ◌+◌, ◌*◌, ◌≤◌, ◌<◌, length};
 ghost use Rattle.circuit.specs.Answer.{given, answer_by};
 ghost use Rattle.laws.specs.Problem as laws;
-ghost use Rattle.rules.specs.View.{mark_in};
+ghost use Rattle.rules.specs.Rows.{places};
 ghost use Rattle.rules.specs.Promise.{view};
-ghost use Rattle.derivation.specs.Call.{marks_from, total};
 ghost use Rattle.derivation.specs.Inner.{judged_by};
 ghost use Rattle.solver.specs.Answer.{solved_in, paper_of};
 ghost use Rattle.solver.specs.Call.{solver_call, solver_output};
 ghost use Rattle.solver.specs.Demand.{Demand};
-ghost use Rattle.solver.specs.Links.{places};
 ghost use Rattle.solver.specs.Table.{circuit_in, sizes_in};
 ghost use Rattle.solver.specs.Choice.{Taken};
 ghost use Rattle.solver.specs.Inner.{Solves};
@@ -22,39 +20,21 @@ use crate::marks::add_marks;
 use crate::table::{Table, make_table};
 use circuit::file::Constraints;
 use circuit::refusal::{Reason, Refusal};
-use derivation::marks::verdict_of;
-use derivation::sheets::{shown_of, start_with};
-use derivation::writer::put_header;
-use rules::rows::{Entry, MOST_ENTRIES};
+use derivation::marks::judgement_of;
+use derivation::sheets::start_with;
+use derivation::writer::{derivation_size, put_header};
+use rules::rows::{Entry, FEW_ENTRIES, MOST_ENTRIES, places};
 use rules::standing::Standing;
-use rules::view::mark_at;
 use tags::tagged::Tagged;
 
-// Room for the rows of a small circuit.
-const FEW_ENTRIES: usize = 512;
-
-// How many of the signals 1 to n are marked.
-fn count_marks(marks: &[bool], n: u32) -> u32
-    ensures { result ≡ total (marks_from (mark_in marks.now) 0 n) }
-{
-    let mut count = 0;
-    for s in 0..n {
-        count += u32::from(mark_at(marks, s as usize + 1));
-    }
-    count
-}
-
 // What is answered of the standing after the last of so many steps.
-fn told(tagged: &Tagged, last: Standing, steps: u32) -> Solved
+fn told(tagged: &Tagged, last: &Standing, steps: u32) -> Solved
     ensures { let z = tagged.now.file.sizes in
-        solved_in result ≡ record { judgement = judged_by z tagged.now.sheet.now (view z.p last); bytes = 7 + 7 * steps } }
+        solved_in result ≡ record { judgement = judged_by z tagged.now.sheet.now (view z.p last.now); bytes = 7 + 7 * steps } }
 {
-    let sizes = tagged.file.sizes;
     Solved {
-        count: count_marks(&last.marks, sizes.n),
-        verdict: verdict_of(&last.marks, sizes),
-        shown: shown_of(tagged.sheet, &last.bounds, sizes),
-        bytes: 7 + 7 * (steps as usize),
+        judgement: judgement_of(tagged, last),
+        bytes: derivation_size(steps),
     }
 }
 
@@ -95,7 +75,7 @@ fn solve_within<const N: usize>(tagged: &Tagged, output: &mut [u8]) -> Solved
     let last = take_phases(&table, first, output);
     let steps = last.count as u16;
     put_header(output, steps);
-    told(tagged, last.standing, last.count)
+    told(tagged, &last.standing, last.count)
 }
 
 // The refusals in their order. A small file gets small arrays, since clearing large ones takes longer than solving it.
@@ -104,38 +84,21 @@ fn solved(circuit: &[u8], sheet: &[u8], output: &mut [u8]) -> Result<Solved, Ref
 {
     let tagged = Tagged::read(circuit, sheet)?;
     let file = tagged.file;
-    if output.len() < 7 + 14 * file.sizes.n as usize {
+    if output.len() < derivation_size(2 * file.sizes.n) {
         return Err(Reason::OutputRoom.at(0));
     }
-    if file.bytes.len() / 6 + file.sizes.m as usize + 1 <= FEW_ENTRIES {
+    if places(file.bytes.len(), file.sizes.m) <= FEW_ENTRIES {
         return Ok(solve_within::<FEW_ENTRIES>(&tagged, output));
     }
     Ok(solve_within::<MOST_ENTRIES>(&tagged, output))
 }
 
 // The solver call: refusals 1 to 10, 26, 27 and 25, or the best derivation written and what it marks and shows.
+// Stays: the parameters of the C interface, here and in `solved`.
 pub fn solve(circuit: &[u8], sheet: &[u8], output: &mut [u8]) -> SolverAnswer
     ensures answer { paper_of result ≡ solver_call circuit.now sheet.now (length output.old) }
     ensures written { output.new ≡ solver_output circuit.now sheet.now output.old }
     ensures demand { Demand circuit.now sheet.now output.old (paper_of result) output.new }
 {
-    match solved(circuit, sheet, output) {
-        Ok(
-            Solved {
-                count,
-                verdict,
-                shown,
-                bytes,
-            },
-        ) => SolverAnswer::Solved {
-            count,
-            verdict,
-            shown,
-            bytes,
-        },
-        Err(refusal) => SolverAnswer::Refused {
-            number: refusal.number(),
-            place: refusal.place,
-        },
-    }
+    SolverAnswer::from(solved(circuit, sheet, output))
 }

@@ -1,16 +1,17 @@
 // Keys, by which the steps of a phase are ordered; the step that a phase chose; and the key of the one step by which a constraint lowers a bound: a
 // root, or a sum.
 
-ghost use Rattle.std.specs.Prelude.{◌≡◌, false, ℕ, ◌<◌, ◌↔◌, IsTrue};
+ghost use Rattle.std.specs.Prelude.{◌≡◌, false, ℕ, ◌<◌, ◌↔◌, IsTrue, None, length, replicate};
 ghost use Rattle.field.specs.Prime.{Prime};
 ghost use Rattle.circuit.specs.Circuit.{WellFormedConstraint};
 ghost use Rattle.circuit.specs.Reader.{constraint_in};
 ghost use Rattle.laws.specs.Rules.{linear};
 ghost use Rattle.rules.specs.View.{bound_in};
 ghost use Rattle.rules.specs.Rows.{Row};
+ghost use Rattle.solver.specs.Kept.{LookedUp};
 ghost use Rattle.solver.specs.Bounds.{least_in, IsKey};
 
-use crate::search::unmarked_in;
+use crate::search::signal_in;
 use rules::constraint::{is_linear, root_bound, root_met};
 use rules::rows::Entry;
 use rules::standing::Kind;
@@ -26,15 +27,43 @@ pub(crate) struct Key {
 }
 
 // What is kept of a constraint: None where nothing is known, Some(None) where it has no step.
-pub(crate) type Known<T> = Option<Option<T>>;
+pub(crate) type Kept<T> = Option<Option<T>>;
+
+// Nothing is known of any constraint. Apart from its callers, where the array would be cleared twice.
+pub(crate) fn nothing<T: Copy>() -> [Kept<T>; 513]
+    ensures { result ≡ replicate 513 None }
+{
+    [None; 513]
+}
+
+// What is known of constraint k: what is kept of it or, where nothing is, what is found, which is kept then. `Fn`, since of a closure that holds a
+// table the kit passes nothing on through `FnOnce`.
+pub(crate) fn known<T: Copy, F: Fn() -> Option<T>>(
+    kept: &mut [Kept<T>; 513],
+    k: u32,
+    find: F,
+) -> Option<T>
+    requires place { k < 513 }
+    requires found { F.pre find }
+    ensures { LookedUp (F.post find) k result kept.old kept.new }
+{
+    let place = k as usize;
+    if let Some(known) = kept[place] {
+        return known;
+    }
+    let found = find();
+    kept[place] = Some(found);
+    found
+}
 
 // A step that a phase takes: its key, its constraint, 0 for a zero step, and its reference, 0 where its kind has none.
-// Stays: 0 where there is none, as the step's bytes have it (rule 2.2); an Option would be opened to 0 by its one reader.
+// Stays: 0 where there is none, as the step's bytes have it (rule 2.2); an Option would be opened to 0 by its one reader. And no derivation's `Step`: what
+// finds targets gives 32 bits, so each of the four places that make a choice would cast its target and prove that it fits, and not `take` alone.
 #[derive(Clone, Copy, Debug, PartialEq, Eq)]
 pub(crate) struct Choice {
     pub key: Key,
     pub constraint: u32,
-    pub reference: u32,
+    pub reference: u16,
 }
 
 impl Key {
@@ -55,7 +84,7 @@ fn root_key(part: &[u8], bounds: &[u32], p: u32) -> Option<Key>
         → linear (constraint_in part.now) ≡ false
         → IsKey p n (constraint_in part.now) (bound_in p bounds.now) (least_in result) }
 {
-    let target = unmarked_in(part, &[false])?;
+    let target = signal_in(part)?;
     if !root_met(part, target) {
         return None;
     }
@@ -71,6 +100,7 @@ fn root_key(part: &[u8], bounds: &[u32], p: u32) -> Option<Key>
 }
 
 // The key of a constraint, by its row where it is linear.
+// Stays: parameters, since part, row and bounds are three slices of which the two ways read two each.
 pub(crate) fn key_by(part: &[u8], row: &[Entry], bounds: &[u32], p: u32) -> Option<Key>
     ensures { (n : ℕ) → Prime p → WellFormedConstraint n p (constraint_in part.now)
         → Row p n (constraint_in part.now) row.now → ((s : ℕ) → bound_in p bounds.now s < p)

@@ -15,6 +15,7 @@ pub(crate) struct Link {
 
 impl Link {
     // Of no row: what fills an array of links.
+    // Stays: no Option of a link, which would take 6 bytes for 4 too.
     pub const NONE: Link = Link {
         before: 0,
         owner: 0,
@@ -32,7 +33,7 @@ pub(crate) fn own(links: &mut [Link], start: usize, end: usize, k: u16)
 }
 
 // Links each of the first `end` entries to the last one before it with the same signal.
-// Stays: a test of the index, since of a slice after `get_mut` nothing is known.
+// Stays: a test of the index, since nothing is known of a slice's elements after its `get_mut`.
 pub(crate) fn link_entries(rows: &[Entry], lasts: &mut [u16], links: &mut [Link], end: usize)
     requires { Linkable end rows.now lasts.old links.old }
     ensures linked { Linked rows.now end lasts.new links.new }

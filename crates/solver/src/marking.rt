@@ -7,28 +7,30 @@ ghost use Rattle.circuit.specs.Reader.{constraint_in};
 ghost use Rattle.laws.specs.Problem.{given};
 ghost use Rattle.laws.specs.Standing as laws;
 ghost use Rattle.laws.specs.Solver.{first_adding};
-ghost use Rattle.rules.specs.View.{bound_in, mark_in, view_of};
+ghost use Rattle.rules.specs.View.{bound_in, mark_in};
 ghost use Rattle.rules.specs.Rows.{Row};
-ghost use Rattle.rules.specs.Promise.{kind_of};
-ghost use Rattle.solver.specs.Bounds.{Kept, key_in};
-ghost use Rattle.solver.specs.Marks.{zero_at, First, mark_key, found_key, found_reference, ZeroStep, Known, MarkKeys, Looked};
+ghost use Rattle.rules.specs.Promise.{kind_of, view};
+ghost use Rattle.solver.specs.Bounds.{key_in};
+ghost use Rattle.solver.specs.Marks.{zero_at, First, mark_key, found_key, found_reference, ZeroStep, Known, IsKnown, MarkKeys, Looked};
 ghost use Rattle.solver.specs.Choice.{choice_of};
 ghost use Rattle.solver.specs.Table.{circuit_in, sizes_in};
 
-use crate::keys::{Choice, Key, Known};
+use crate::keys::{Choice, Kept, Key, known};
 use crate::search::product_target;
 use crate::table::Table;
+use circuit::reader::Sizes;
 use rules::constraint::is_linear;
 use rules::digits::{first_live, prepare, separates_at};
 use rules::rows::Entry;
-use rules::standing::Kind;
+use rules::standing::{Kind, Standing};
 use rules::view::{bound_at, mark_at};
 
 // A step that marks, by a constraint that is known. A digits step without a reference is loose.
 #[derive(Clone, Copy, Debug, PartialEq, Eq)]
 pub(crate) struct Candidate {
-    pub key: Key,
-    pub reference: Option<u32>,
+    pub target: u32,
+    pub kind: Kind,
+    pub reference: Option<u16>,
 }
 
 impl Candidate {
@@ -36,21 +38,16 @@ impl Candidate {
     ghost use Rattle.solver.specs.Marks.{mark_key};
     ghost use Rattle.laws.specs.Step as step;
 
-    // One without a reference.
-    fn new(target: u32, kind: Kind) -> Candidate
-        ensures key { key_in result.key ≡ mark_key (kind_of kind) target }
-        ensures loose { result.reference ≡ None }
+    fn key(self) -> Key
+        ensures { key_in result ≡ mark_key (kind_of self.kind) self.target }
     {
-        Candidate {
-            key: mark_key(target, kind),
-            reference: None,
-        }
+        mark_key(self.target, self.kind)
     }
 
     fn is_loose(self) -> bool
-        ensures { IsTrue result ↔ ((kind_of self.key.kind ≡ step.Digits) × (self.reference ≡ None)) }
+        ensures { IsTrue result ↔ ((kind_of self.kind ≡ step.Digits) × (self.reference ≡ None)) }
     {
-        self.key.kind == Kind::Digits && self.reference.is_none()
+        self.kind == Kind::Digits && self.reference.is_none()
     }
 }
 
@@ -67,29 +64,25 @@ fn mark_key(target: u32, kind: Kind) -> Key
 
 // Whether s is an unmarked signal with bound 0.
 #[tactic(auto, unfolding(crate::specs::Marks::zero_at, laws::specs::Rules::zero_met))]
-fn is_zero(bounds: &[u32], marks: &[bool], p: u32, s: u32) -> bool
-    ensures { result ≡ zero_at (bound_in p bounds.now) (mark_in marks.now) s }
+fn is_zero(standing: &Standing, p: u32, s: u32) -> bool
+    ensures { result ≡ zero_at (bound_in p standing.now.bounds) (mark_in standing.now.marks) s }
 {
-    bound_at(bounds, s as usize, p) == 0 && !mark_at(marks, s as usize)
+    let s = s as usize;
+    bound_at(&standing.bounds, s, p) == 0 && !mark_at(&standing.marks, s)
 }
 
 // The lowest unmarked signal with bound 0.
-fn first_zero(bounds: &[u32], marks: &[bool], n: u32, p: u32) -> Option<u32>
-    ensures { First (zero_at (bound_in p bounds.now) (mark_in marks.now)) n result }
+fn first_zero(standing: &Standing, sizes: Sizes) -> Option<u32>
+    ensures { First (zero_at (bound_in sizes.p standing.now.bounds) (mark_in standing.now.marks)) sizes.n result }
 {
-    for s in 1..=n {
-        if is_zero(bounds, marks, p, s) {
-            return Some(s);
-        }
-    }
-    None
+    (1..=sizes.n).find(|s| is_zero(standing, sizes.p, *s))
 }
 
 // The first zero step, which names no constraint.
-fn zero_step(bounds: &[u32], marks: &[bool], n: u32, p: u32) -> Option<Choice>
-    ensures { ZeroStep n (bound_in p bounds.now) (mark_in marks.now) result }
+fn zero_step(standing: &Standing, sizes: Sizes) -> Option<Choice>
+    ensures { ZeroStep sizes.n (bound_in sizes.p standing.now.bounds) (mark_in standing.now.marks) result }
 {
-    let target = first_zero(bounds, marks, n, p)?;
+    let target = first_zero(standing, sizes)?;
     Some(Choice {
         key: mark_key(target, Kind::Zero),
         constraint: 0,
@@ -105,56 +98,64 @@ fn low_step(part: &[u8], row: &[Entry], marks: &[bool]) -> Option<Candidate>
 {
     if is_linear(part) {
         let lowest = first_live(row, marks)?;
-        return Some(Candidate::new(lowest, Kind::Digits));
+        return Some(Candidate {
+            target: lowest,
+            kind: Kind::Digits,
+            reference: None,
+        });
     }
     let target = product_target(row, marks)?;
-    Some(Candidate::new(target, Kind::Product))
+    Some(Candidate {
+        target,
+        kind: Kind::Product,
+        reference: None,
+    })
 }
 
-// What is known of constraint k, a loose step where nothing was.
+// What is known of constraint k. Where nothing was: a loose step if it is linear, else its product step, or none.
 fn look_at(
     table: &Table,
     marks: &[bool],
-    kept: &mut [Known<Candidate>],
+    kept: &mut [Kept<Candidate>; 513],
     k: u32,
 ) -> Option<Candidate>
-    requires { Kept (sizes_in table.now).m k kept.old }
+    requires { (1 ≤ k) × (k ≤ (sizes_in table.now).m) }
     ensures { (b : ℕ → ℕ) → MarkKeys (circuit_in table.now) b (mark_in marks.now) kept.old
         → Looked (circuit_in table.now) b (mark_in marks.now) k result kept.old kept.new }
 {
-    let place = k as usize;
-    if let Some(known) = kept[place] {
-        return known;
-    }
-    let found = low_step(table.part(k), table.row(k), marks);
-    kept[place] = Some(found);
-    found
+    known(
+        kept,
+        k,
+        ||
+            ensures { 1 ≤ k → k ≤ (sizes_in table.entry.now).m → (b : ℕ → ℕ) → IsKnown (circuit_in table.entry.now) b (mark_in marks.entry.now) k result }
+        { low_step(table.part(k), table.row(k), marks) },
+    )
 }
 
 // The step of the first place with the lowest key: that of a constraint, or the zero step. Where a key is loose and below those before, its references
 // are searched, up to the first whose step meets its rule.
-// Stays: nested loops over constraints and references, left by a label, and so over 40 lines, are a form of docs/DECISIONS.md.
+// Stays: nested loops over constraints and references, left by a label, and so over 40 lines, are a form of docs/DECISIONS.md; and `passed + 1`, as in
+// `least_key`.
 pub(crate) fn lowest_key(
     table: &Table,
-    bounds: &[u32],
-    marks: &[bool],
-    kept: &mut [Known<Candidate>],
+    standing: &Standing,
+    kept: &mut [Kept<Candidate>; 513],
 ) -> Option<Choice>
-    requires { MarkKeys (circuit_in table.now) (bound_in (sizes_in table.now).p bounds.now) (mark_in marks.now) kept.old
-        × ((sizes_in table.now).m < length kept.old) }
-    ensures known { MarkKeys (circuit_in table.now) (bound_in (sizes_in table.now).p bounds.now) (mark_in marks.now) kept.new }
+    requires { MarkKeys (circuit_in table.now) (bound_in (sizes_in table.now).p standing.now.bounds) (mark_in standing.now.marks) kept.old }
+    ensures known { MarkKeys (circuit_in table.now) (bound_in (sizes_in table.now).p standing.now.bounds) (mark_in standing.now.marks) kept.new }
     ensures chosen { (f : ℕ → ℕ) → choice_of result
-        ≡ first_adding laws.marks (given (circuit_in table.now) f) (view_of (sizes_in table.now).p bounds.now marks.now) }
+        ≡ first_adding laws.marks (given (circuit_in table.now) f) (view (sizes_in table.now).p standing.now) }
 {
     let sizes = table.constraints.file.sizes;
-    let mut lowest = zero_step(bounds, marks, sizes.n, sizes.p);
+    let marks = &standing.marks;
+    let mut lowest = zero_step(standing, sizes);
     'constraints: for passed in 0..sizes.m {
         let k = passed + 1;
         let place = k as usize;
         let Some(candidate) = look_at(table, marks, kept, k) else {
             continue;
         };
-        let key = candidate.key;
+        let key = candidate.key();
         if !key.is_below(lowest) {
             continue;
         }
@@ -167,16 +168,16 @@ pub(crate) fn lowest_key(
             continue;
         }
         let row = table.row(k);
-        let Some(few) = prepare(row, bounds, marks, sizes.p) else {
+        let Some(few) = prepare(row, &standing.bounds, marks, sizes.p) else {
             kept[place] = Some(None);
             continue;
         };
         for i in 1..row.len() {
             if separates_at(row, marks, &few, sizes.p, i) {
-                let reference = u32::from(row[i].signal);
+                let reference = row[i].signal;
                 kept[place] = Some(Some(Candidate {
-                    key,
                     reference: Some(reference),
+                    ..candidate
                 }));
                 lowest = Some(Choice {
                     key,

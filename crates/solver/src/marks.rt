@@ -7,10 +7,13 @@ ghost use Rattle.solver.specs.Choice.{Marked};
 ghost use Rattle.solver.specs.Table.{circuit_in, sizes_in};
 
 use crate::bounds::Phase;
+use crate::keys::nothing;
 use crate::marking::lowest_key;
 use crate::table::Table;
 
-// Marks signals until no step marks any, writes the steps after those of the phase before, and counts all.
+// Marks signals until no step marks any, writes the steps after those of the phase before, and counts all. Not inlined, so that its candidates,
+// 10 kB, aren't on the stack in the phase before.
+// Stays: a loop like that of `lower_bounds`, for the reason given there.
 #[inline(never)]
 pub(crate) fn add_marks(table: &Table, before: Phase, output: &mut [u8]) -> Phase
     requires { before.count ≤ (sizes_in table.now).n }
@@ -18,14 +21,14 @@ pub(crate) fn add_marks(table: &Table, before: Phase, output: &mut [u8]) -> Phas
         (view (sizes_in table.now).p result.standing) output.old output.new before.count result.count }
 {
     let mut standing = before.standing;
-    let mut kept = [None; 513];
+    let mut kept = nothing();
     let most = table.constraints.file.sizes.n;
     for turn in 0..most {
         let count = before.count + turn;
-        let Some(choice) = lowest_key(table, &standing.bounds, &standing.marks, &mut kept) else {
+        let Some(choice) = lowest_key(table, &standing, &mut kept) else {
             return Phase { standing, count };
         };
-        standing = table.take(standing, choice, output, count, &mut kept);
+        table.take(&mut standing, choice, output, count, &mut kept);
     }
     Phase {
         standing,

@@ -1,40 +1,27 @@
-// An unmarked signal of a form, and the one unmarked signal of a row.
+// A signal that a form names, and the one unmarked signal of a row.
 
-ghost use Rattle.std.specs.Prelude.{◌≡◌, not, ◌&&◌, ltb, leb, ℕ};
+ghost use Rattle.std.specs.Prelude.{ℕ};
 ghost use Rattle.circuit.specs.Circuit.{Constraint, WellFormedConstraint};
-ghost use Rattle.circuit.specs.Reader.{signals_most, form_in};
+ghost use Rattle.circuit.specs.Reader.{form_in};
 ghost use Rattle.rules.specs.View.{mark_in};
 ghost use Rattle.rules.specs.Rows.{Row};
-ghost use Rattle.solver.specs.Search.{SomeUnmarked, SomeAlone};
+ghost use Rattle.solver.specs.Search.{SomeNamed, SomeAlone};
 
-use circuit::bytes::{byte_at, u16_at};
+use circuit::form::{term_at, term_count};
+use circuit::reader::SIGNALS_MOST;
 use rules::rows::Entry;
-use rules::view::mark_at;
 
-// The most signals of a circuit.
-const SIGNALS_MOST: u32 = 256;
-
-// The forms of a signal that C alone names.
-const IN_C: u8 = 4;
-
-// An unmarked signal of the form at the start of the part.
-pub(crate) fn unmarked_in(part: &[u8], marks: &[bool]) -> Option<u32>
-    ensures { SomeUnmarked (mark_in marks.now) (form_in part.now) result }
+// A signal that the form at the start of the part names. Signals above 256 are passed over.
+pub(crate) fn signal_in(part: &[u8]) -> Option<u32>
+    ensures { SomeNamed (form_in part.now) result }
 {
-    for i in 0..byte_at(part, 0) as usize {
-        let signal = u16_at(part, 1 + 6 * i);
-        if is_unmarked(marks, signal) {
+    for i in 0..term_count(part) {
+        let signal = term_at(part, i).signal;
+        if 0 < signal && signal <= SIGNALS_MOST {
             return Some(signal);
         }
     }
     None
-}
-
-// Whether a term on this signal names an unmarked signal. Signals above 256 are passed over.
-fn is_unmarked(marks: &[bool], signal: u32) -> bool
-    ensures { result ≡ (ltb 0 signal && leb signal signals_most && not (mark_in marks.now signal)) }
-{
-    0 < signal && signal <= SIGNALS_MOST && !mark_at(marks, signal as usize)
 }
 
 // The one unmarked signal of a row, if C alone names it: where the constraint isn't linear, the target of its product step.
@@ -48,7 +35,7 @@ pub(crate) fn product_target(row: &[Entry], marks: &[bool]) -> Option<u32>
         if entry.is_marked(marks) {
             continue;
         }
-        if entry.forms != IN_C {
+        if entry.forms != Entry::IN_C {
             return None;
         }
         if found.is_some() {

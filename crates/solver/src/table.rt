@@ -2,7 +2,8 @@
 
 ghost use Rattle.std.specs.Prelude.{◌≡◌, ◌≤◌, ◌<◌, ◌+◌, ◌*◌, length};
 ghost use Rattle.circuit.specs.Call.{circuit_of};
-ghost use Rattle.solver.specs.Links.{places, AllRows, Links, Blank, Made, Unlinked, Forgotten};
+ghost use Rattle.rules.specs.Rows.{places};
+ghost use Rattle.solver.specs.Links.{AllRows, Links, Blank, Made, Unlinked, Forgotten};
 
 use crate::keys::Choice;
 use crate::links::{Link, link_entries, own};
@@ -10,11 +11,11 @@ use circuit::file::Constraints;
 use circuit::reader::Sizes;
 use derivation::step::{Step, part_named};
 use derivation::writer::put_step;
-use rules::rows::{Entry, make_row, row_of, start_of};
+use rules::rows::{Entry, make_row, places, row_of, start_of};
 use rules::standing::Standing;
 
 // A circuit's constraints, their rows and where those end, each signal's last entry, and the links of the entries.
-#[derive(Clone, Copy)]
+#[derive(Clone, Copy, Debug, PartialEq, Eq)]
 pub(crate) struct Table<'a> {
     pub constraints: &'a Constraints<'a>,
     pub ends: &'a [u32; 513],
@@ -52,9 +53,9 @@ impl<'a> Table<'a> {
     }
 
     // Forgets what is kept of the constraints that name the signal.
-    // Stays: `while`, since a walk along links has no range; and a test of the index, since of a slice after `get_mut` nothing is known.
+    // Stays: `while`, since a walk along links has no range; and a test of the index, since nothing is known of a slice's elements after its `get_mut`.
     pub(crate) fn forget<T: Copy>(&self, kept: &mut [Option<T>], signal: u32)
-        requires { (1 ≤ signal) × (signal ≤ (circuit_in self.now).n) × ((circuit_in self.now).m < length kept.old) }
+        requires { (1 ≤ signal) × (signal ≤ (circuit_in self.now).n) }
         ensures { Forgotten (circuit_in self.now) signal kept.old kept.new }
     {
         let mut next = usize::from(self.lasts[signal as usize]);
@@ -68,30 +69,29 @@ impl<'a> Table<'a> {
         }
     }
 
-    // Writes a step that adds as number `index`, counted from 0, takes it, and forgets what is kept of the constraints that name its target.
+    // Writes a step that adds as number `index`, counted from 0, takes it, and forgets what is kept of the constraints that name its target. It holds
+    // an Outcome, whose 1.3 kB it clears for each step: little beside the choice of the step, which looks at every constraint.
     pub(crate) fn take<T: Copy>(
         &self,
-        standing: Standing,
+        standing: &mut Standing,
         choice: Choice,
         output: &mut [u8],
         index: u32,
         kept: &mut [Option<T>],
-    ) -> Standing
-        requires { Adds (circuit_in self.now) (view (sizes_in self.now).p standing) (step_of choice) × (index ≤ 512)
-            × ((circuit_in self.now).m < length kept.old) }
+    )
+        requires { Adds (circuit_in self.now) (view (sizes_in self.now).p standing.old) (step_of choice) × (index ≤ 512) }
         ensures written { output.new ≡ stored output.old (head_size + step_size * index) (step_bytes (step_of choice)) }
-        ensures taken { TakenBy (circuit_in self.now) (view (sizes_in self.now).p standing) (step_of choice) (view (sizes_in self.now).p result) }
+        ensures taken { TakenBy (circuit_in self.now) (view (sizes_in self.now).p standing.old) (step_of choice) (view (sizes_in self.now).p standing.new) }
         ensures forgotten { Forgotten (circuit_in self.now) choice.key.target kept.old kept.new }
     {
         let key = choice.key;
         let target = key.target as u16;
         let constraint = choice.constraint as u16;
-        let reference = choice.reference as u16;
         let step = Step {
             kind: key.kind,
             target,
             constraint,
-            reference,
+            reference: choice.reference,
         };
         put_step(output, index, step);
         let constraints = self.constraints;
@@ -110,21 +110,22 @@ impl<'a> Table<'a> {
             row,
             file.sizes.p,
             key.target,
-            choice.reference,
+            u32::from(choice.reference),
         );
-        outcome.next
+        *standing = outcome.next;
     }
 }
 
 // Makes the rows of all constraints, and notes whose entries they hold.
-// Stays: constraints, ends and rows apart, since the kit proves no ghost field beside a lent slice that is written.
+// Stays: constraints, ends and rows apart, since the kit proves no ghost field beside a lent slice that is written; and `passed + 1`, as in `least_key`.
 fn make_rows(constraints: &Constraints, ends: &mut [u32], rows: &mut [Entry], links: &mut [Link])
     requires { Blank (length constraints.now.file.bytes.now) constraints.now.file.sizes.m ends.old rows.old links.old }
     ensures { Made (circuit_of constraints.now.file.bytes.now) constraints.now.offsets constraints.now.file.sizes.m ends.new rows.new links.new }
 {
-    for passed in 0..constraints.file.sizes.m {
+    let file = constraints.file;
+    for passed in 0..file.sizes.m {
         let k = passed + 1;
-        make_row(constraints, ends, rows, k);
+        make_row(file.bytes, &constraints.offsets, ends, rows, file.sizes, k);
         let start = start_of(&constraints.offsets, k);
         let end = ends[k as usize] as usize;
         own(links, start, end, k as u16);
@@ -132,6 +133,7 @@ fn make_rows(constraints: &Constraints, ends: &mut [u32], rows: &mut [Entry], li
 }
 
 // Makes the rows of all constraints and links their entries.
+// Stays: as in `make_rows`, and so are lasts and links, two more lent slices that are written.
 pub(crate) fn make_table(
     constraints: &Constraints,
     ends: &mut [u32],
@@ -148,6 +150,6 @@ pub(crate) fn make_table(
 {
     make_rows(constraints, ends, rows, links);
     let file = constraints.file;
-    let end = file.bytes.len() / 6 + file.sizes.m as usize + 1;
+    let end = places(file.bytes.len(), file.sizes.m);
     link_entries(rows, lasts, links, end);
 }

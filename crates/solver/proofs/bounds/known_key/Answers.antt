@@ -1,15 +1,14 @@
-use Rattle.std.proofs.Common.{arith}
-use Rattle.solver.proofs.InTable.{sized_in, prepared_in}
+use Rattle.std.proofs.Common.{arith, rules, length, ◌≡◌}
+use Rattle.solver.proofs.InTable.{sized_in, place_in}
 use Rattle.solver.proofs.KeySearch as laws
 use Rattle.solver.proofs.bounds.known_key.Goals as goal
 
-pub returns-in-Some : goal.returns-in-Some
-returns-in-Some c =
-    let pre = c.requires in
-    laws.found_known _ _ _ _ _ c.in-Some.is (pre.0.each _ pre.1.first (omega (arith, pre.1.last, (sized_in c.args.table.now).is_m)))
+pub known-requires : goal.known-requires
+known-requires c = (omega arith, (place_in c.args.table.now c.requires.2, tt))
 
 pub returns : goal.returns
 returns c =
     let pre = c.requires in
-    laws.found_new _ _ _ _ (omega (arith, pre.1.last, pre.1.room))
-    (laws.key_here (prepared_in c.args.table.now) pre.1.first pre.1.last c.part.ensures c.row.ensures c.key_by-key.ensures pre.0.low)
+    let T = c.args.table.now in
+    let long : length c.args.keys.now ≡ 513 = search rules in
+    laws.found_by _ _ _ _ c.known.ensures (omega (arith, long, place_in T pre.2)) (pre.0.each _ pre.1 (omega (arith, pre.2, (sized_in T).is_m))) (λ q. q pre.1 pre.2 pre.0.low)

@@ -8,46 +8,34 @@ use Rattle.solver.proofs.bounds.lower_bounds.Goals as goal
 
 pub loop-count-init : goal.loop-count-init
 loop-count-init c =
-    record {
-      sized = refl;
-      turning = laws.turning_start _ _ _ _ (no_keys _ _ 513 (λ s. omega (arith, c.requires s, (sized_in c.args.table.now).is_p)));
-    }
+    rw c.nothing-keys.ensures
+    (laws.turning_start _ _ _ _ (no_keys _ _ 513 (λ s. omega (arith, c.requires s, (sized_in c.args.table.now).is_p))))
 
 pub least_key-requires : goal.least_key-requires
 unfolding view_of
-least_key-requires c =
-    let Z = sized_in c.args.table.now in
-    let inv = c.loop-count.invariant in
-    (inv.turning.keyed, omega (arith, inv.sized, Z.is_m, Z.formed.m_most))
+least_key-requires c = c.loop-count.invariant.keyed
 
 pub returns-in_default : goal.returns-in_default
 unfolding view_of
-returns-in_default c = laws.turning_none c.loop-count.invariant.turning (λ f. sym (c.in_default.ensures.chosen f _ refl))
+returns-in_default c = laws.turning_none c.loop-count.invariant (λ f. sym (c.in_default.ensures.chosen f _ refl))
 
-pub take-standing-requires : goal.take-standing-requires
+pub take-requires : goal.take-requires
 unfolding view_of
-take-standing-requires c =
-    let Z = sized_in c.args.table.now in
-    let inv = c.loop-count.invariant in (
-      laws.lowering_adds inv.turning (step_of c.in-Some.choice) (λ f. sym (c.in-Some.ensures.chosen f _ refl)),
+take-requires c =
+    let Z = sized_in c.args.table.now in (
+      laws.lowering_adds c.loop-count.invariant (step_of c.in-Some.choice) (λ f. sym (c.in-Some.ensures.chosen f _ refl)),
       omega (arith, Z.is_n, Z.formed.n_most),
-      omega (arith, c.least_key.auto.keys, inv.sized, Z.is_m, Z.formed.m_most),
     )
 
 pub loop-count-preserved : goal.loop-count-preserved
 unfolding view_of
 loop-count-preserved c =
     let Z = sized_in c.args.table.now in
-    let inv = c.loop-count.invariant in
-    let taken = c.take-standing.ensures in
-    record {
-      sized = omega (arith, taken.forgotten.sized, c.least_key.auto.keys, inv.sized);
-      turning =
-          laws.turning_next inv.turning (step_of c.in-Some.choice) (λ f. sym (c.in-Some.ensures.chosen f _ refl)) Z.formed taken.taken (omega (arith, Z.is_n))
-          c.in-Some.ensures.known taken.written taken.forgotten;
-    }
+    let taken = c.take.ensures in
+    laws.turning_next c.loop-count.invariant (step_of c.in-Some.choice) (λ f. sym (c.in-Some.ensures.chosen f _ refl)) Z.formed taken.taken (omega (arith, Z.is_n))
+    c.in-Some.ensures.known taken.written taken.forgotten
 
 pub returns : goal.returns
 returns c =
     let all : c.loop-count.count ≡ c.args.table.now.constraints.now.file.sizes.n = omega arith in
-    rw all at (laws.turning_all c.loop-count.invariant.turning (omega (arith, (sized_in c.args.table.now).is_n)))
+    rw all at (laws.turning_all c.loop-count.invariant (omega (arith, (sized_in c.args.table.now).is_n)))

@@ -1,5 +1,4 @@
 -- The steps so far, and what is known of keys.
-use Rattle.std.proofs.Common.{◌≡◌, length}
 use Rattle.rules.specs.Promise.{view}
 use Rattle.solver.specs.Table.{circuit_in}
 use Rattle.solver.proofs.BoundsTurn.{Turning}
@@ -7,7 +6,4 @@ use Rattle.solver.proofs.bounds.lower_bounds.Given as goal
 
 abbrev pub invariant-loop-count : goal.invariant-loop-count
 invariant-loop-count l =
-    record {
-      sized : length l.keys ≡ 513;
-      turning : Turning (circuit_in l.table) (view l.table.constraints.now.file.sizes.p l.initial.standing) (view l.table.constraints.now.file.sizes.p l.standing) l.keys l.initial.output l.output l.count;
-    }
+    Turning (circuit_in l.table) (view l.table.constraints.now.file.sizes.p l.initial.standing) (view l.table.constraints.now.file.sizes.p l.standing) l.keys l.initial.output l.output l.count

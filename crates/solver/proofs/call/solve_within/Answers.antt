@@ -2,8 +2,8 @@ use Rattle.std.proofs.Common.{arith, ap, length, ◌≤◌}
 use Rattle.circuit.specs.Answer.{given}
 use Rattle.circuit.proofs.Sized.{call_sized}
 use Rattle.derivation.specs.Inner.{tagged_in}
+use Rattle.rules.specs.Rows.{places}
 use Rattle.solver.specs.Call.{Solved}
-use Rattle.solver.specs.Links.{places}
 use Rattle.solver.proofs.SolveLaws as laws
 use Rattle.solver.proofs.call.solve_within.Goals as goal
 
@@ -16,25 +16,17 @@ make_table-requires g c =
 pub take_phases-last-requires : goal.take_phases-last-requires
 take_phases-last-requires g c =
     let t = c.args.tagged.now in
-    rw c.new-constraints.ensures (laws.start_low _ _ _ (laws.taking t.file.read t.fits) c.start_with-first.ensures)
+    rw c.new-constraints.ensures (laws.start_low (laws.taking t.file.read t.fits) c.start_with-first.ensures)
 
 pub overflow_cast-steps : goal.overflow_cast-steps
 overflow_cast-steps g c =
     let t = c.args.tagged.now in
-    let T = laws.taking t.file.read t.fits in
-    let P = tagged_in t.file.bytes.now t.sheet.now in
-    let begin = laws.start_view _ _ _ T _ c.start_with-first.ensures in
-    let L = rw c.new-constraints.ensures at (c.take_phases-last.ensures P.first) in
-    record { fits = omega (arith, laws.steps_small _ _ _ T _ _ _ _ _ begin L c.requires.room) }
+    let L = rw c.new-constraints.ensures at (c.take_phases-last.ensures (tagged_in t.file.bytes.now t.sheet.now).first) in
+    record { fits = omega (arith, laws.steps_small (laws.taking t.file.read t.fits) c.start_with-first.ensures L c.requires.room) }
 
 pub returns : goal.returns
 returns g c =
     let t = c.args.tagged.now in
-    let T = laws.taking t.file.read t.fits in
-    let P = tagged_in t.file.bytes.now t.sheet.now in
-    let begin = laws.start_view _ _ _ T _ c.start_with-first.ensures in
-    let L = rw c.new-constraints.ensures at (c.take_phases-last.ensures P.first) in
-    record {
-      answer = laws.solved_answer _ _ _ T _ _ _ _ _ begin L c.requires.room _ (ap (λ (x : Solved). given x) c.told.ensures);
-      written = laws.solved_output _ _ _ T _ _ _ _ _ begin L c.requires.room _ c.put_header.ensures;
-    }
+    let L = rw c.new-constraints.ensures at (c.take_phases-last.ensures (tagged_in t.file.bytes.now t.sheet.now).first) in
+    laws.solves (laws.taking t.file.read t.fits) c.start_with-first.ensures L c.requires.room (ap (λ (x : Solved). given x) c.told.ensures)
+    c.put_header.ensures

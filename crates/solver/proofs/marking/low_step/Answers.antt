@@ -1,4 +1,4 @@
-use Rattle.std.proofs.Common.{sym, ◌∙◌}
+use Rattle.std.proofs.Common.{sym, refl, ◌∙◌}
 use Rattle.solver.proofs.MarkKeyLaws as laws
 use Rattle.solver.proofs.marking.low_step.Goals as goal
 
@@ -8,8 +8,7 @@ returns-in_err-lowest c p n b h W L =
 
 pub returns-then-is_linear : goal.returns-then-is_linear
 returns-then-is_linear c p n b h W L =
-    rw c.new.ensures.loose
-    (laws.digits_loose (sym c.is_linear.ensures ∙ c.if-is_linear.true) (c.in_ok-lowest.ensures p n _ h L) c.new.ensures.key)
+    laws.digits_loose (sym c.is_linear.ensures ∙ c.if-is_linear.true) (c.in_ok-lowest.ensures p n _ h L) refl
 
 pub returns-in_err-target : goal.returns-in_err-target
 returns-in_err-target c p n b h W L =
@@ -18,5 +17,4 @@ returns-in_err-target c p n b h W L =
 
 pub returns : goal.returns
 returns c p n b h W L =
-    rw c.new-2.ensures.loose
-    (laws.product_key (sym c.is_linear.ensures ∙ c.if-is_linear.false) (c.in_ok-target.ensures p n _ W L) c.new-2.ensures.key)
+    laws.product_key (sym c.is_linear.ensures ∙ c.if-is_linear.false) (c.in_ok-target.ensures p n _ W L) refl

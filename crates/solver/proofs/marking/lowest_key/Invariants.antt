@@ -8,12 +8,12 @@ use Rattle.solver.proofs.marking.lowest_key.Given as goal
 
 abbrev pub invariant-constraints : goal.invariant-constraints
 invariant-constraints l =
-    Sweeping (circuit_in l.table) (bound_in l.table.constraints.now.file.sizes.p l.bounds) (mark_in l.marks) (least_of l.initial.lowest) l.passed l.lowest l.initial.kept l.kept
+    Sweeping (circuit_in l.table) (bound_in l.table.constraints.now.file.sizes.p l.standing.bounds) (mark_in l.standing.marks) (least_of l.initial.lowest) l.passed l.lowest l.kept
 
 abbrev pub invariant-loop-i : goal.invariant-loop-i
 invariant-loop-i l =
     record {
-      searching : Searching l.table.constraints.now.file.sizes.p l.row l.bounds l.marks l.few l.i;
+      searching : Searching l.table.constraints.now.file.sizes.p l.row l.standing.bounds l.standing.marks l.few l.i;
       same_kept : l.kept ≡ l.initial.kept;
       same_lowest : l.lowest ≡ l.initial.lowest;
     }

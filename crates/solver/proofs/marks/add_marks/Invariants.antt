@@ -1,5 +1,4 @@
 -- The steps so far, and what is known of the constraints.
-use Rattle.std.proofs.Common.{◌≡◌, length}
 use Rattle.rules.specs.Promise.{view}
 use Rattle.solver.specs.Table.{circuit_in}
 use Rattle.solver.proofs.MarksTurn.{Turning}
@@ -7,9 +6,5 @@ use Rattle.solver.proofs.marks.add_marks.Given as goal
 
 abbrev pub invariant-loop-turn : goal.invariant-loop-turn
 invariant-loop-turn l =
-    record {
-      sized : length l.kept ≡ 513;
-      turning :
-          Turning (circuit_in l.table) (view l.table.constraints.now.file.sizes.p l.initial.standing) (view l.table.constraints.now.file.sizes.p l.standing) l.kept l.initial.output l.output
-          l.before.count l.turn;
-    }
+    Turning (circuit_in l.table) (view l.table.constraints.now.file.sizes.p l.initial.standing) (view l.table.constraints.now.file.sizes.p l.standing) l.kept l.initial.output l.output
+    l.before.count l.turn

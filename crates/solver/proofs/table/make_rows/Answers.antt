@@ -20,7 +20,7 @@ own-requires c =
     let K = c.args.constraints.now in
     let Z = call_sized K.file.read in
     let M = c.loop-passed.invariant in
-    let N = c.make_row.ensures (laws.roomy Z K.placed c.requires (omega arith) (omega arith)) (omega arith) (omega arith) M.all in
+    let N = c.make_row.ensures Z K.placed (laws.roomy Z K.placed c.requires (omega arith) (omega arith)) (omega arith) (omega arith) M.all in
     let E = laws.row_entries Z K.placed c.requires refl (omega arith) M N in
     rw c.start_of-start.ensures.0 (E.0, omega (arith, E.1))
 
@@ -30,7 +30,7 @@ loop-passed-preserved c =
     let K = c.args.constraints.now in
     let Z = call_sized K.file.read in
     let M = c.loop-passed.invariant in
-    let N = c.make_row.ensures (laws.roomy Z K.placed c.requires (omega arith) (omega arith)) (omega arith) (omega arith) M.all in
+    let N = c.make_row.ensures Z K.placed (laws.roomy Z K.placed c.requires (omega arith) (omega arith)) (omega arith) (omega arith) M.all in
     laws.made_on Z K.placed c.requires refl (omega arith) M N (rw c.start_of-start.ensures.0 at c.own.ensures)
 
 pub returns : goal.returns

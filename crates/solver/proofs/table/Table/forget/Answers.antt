@@ -13,33 +13,28 @@ bounds-self-signal g c = omega (arith, c.requires.1, (sized_in c.args.self.now).
 pub loop-next-init : goal.loop-next-init
 unfolding at
 loop-next-init g c =
-    let T = c.args.self.now in
-    laws.walked_start T.made T.linked c.requires.0 c.requires.1 c.from-next.ensures
+    laws.walked_start c.args.self.now c.requires c.from-next.ensures
 
 pub bounds-self-next : goal.bounds-self-next
 bounds-self-next g c =
-    let T = c.args.self.now in
-    laws.walked_inside T.made T.linked c.requires.0 c.requires.1 c.loop-next.invariant c.loop-next-test.true
+    laws.walked_inside c.args.self.now c.requires c.loop-next.invariant c.loop-next-test.true
 
 pub loop-next-smaller : goal.loop-next-smaller
 unfolding before_on unlinked
 loop-next-smaller g c =
-    let T = c.args.self.now in
-    laws.walked_falls T.made T.linked c.requires.0 c.requires.1 c.loop-next.invariant c.loop-next-test.true _ c.from-next-in-loop-next.ensures
+    laws.walked_falls c.args.self.now c.requires c.loop-next.invariant c.loop-next-test.true _ c.from-next-in-loop-next.ensures
 
 pub loop-next-preserved : goal.loop-next-preserved
 unfolding before_on owner_on unlinked
 loop-next-preserved g c =
-    let T = c.args.self.now in
     let forgot : c.if-owner-kept.kept ≡ set c.loop-next.kept c.from-owner.result None
     = elim c.if-owner-kept.branch [
       | then-owner-kept w ↦ w.kept-is
       | else-owner-kept w ↦ w.kept-is ∙ sym (set_out _ _ _ w.if-owner-kept.false)
     ] in
-    laws.walked_on T.made T.linked c.requires.0 c.requires.1 c.loop-next.invariant c.loop-next-test.true c.requires.2 _ c.from-owner.ensures _
+    laws.walked_on c.args.self.now c.requires c.loop-next.invariant c.loop-next-test.true _ c.from-owner.ensures _
     c.from-next-in-loop-next.ensures forgot
 
 pub returns : goal.returns
 returns g c =
-    let T = c.args.self.now in
-    laws.walked_end T.made T.linked c.requires.0 c.requires.1 c.loop-next.invariant (omega (arith, c.loop-next-test.false))
+    laws.walked_end c.args.self.now c.requires c.loop-next.invariant (omega (arith, c.loop-next-test.false))

@@ -1,5 +1,6 @@
 use Rattle.std.proofs.Common.{arith}
 use Rattle.rules.specs.View.{view_of}
+use Rattle.solver.specs.Table.{sizes_in}
 use Rattle.solver.proofs.InTable.{sized_in, prepared_in}
 use Rattle.solver.proofs.Adding.{fields}
 use Rattle.solver.proofs.Progress.{step_taken}
@@ -11,15 +12,12 @@ overflow_cast-target g c = record { fits = omega (arith, (fields (sized_in c.arg
 pub overflow_cast-constraint : goal.overflow_cast-constraint
 overflow_cast-constraint g c = record { fits = omega (arith, (fields (sized_in c.args.self.now).formed _ _ c.requires.0).constraint) }
 
-pub overflow_cast-reference : goal.overflow_cast-reference
-overflow_cast-reference g c = record { fits = omega (arith, (fields (sized_in c.args.self.now).formed _ _ c.requires.0).reference) }
-
 pub forget-requires : goal.forget-requires
 forget-requires g c =
     let x = fields (sized_in c.args.self.now).formed _ _ c.requires.0 in
-    (x.least, x.most, c.requires.2)
+    (x.least, x.most)
 
 pub returns-clause-taken : goal.returns-clause-taken
 unfolding view_of
 returns-clause-taken g c f =
-    step_taken (prepared_in c.args.self.now) _ c.part_named-part.ensures c.row-row.ensures _ f (c.requires.0 f) _ (c.step-outcome.ensures _)
+    step_taken (prepared_in c.args.self.now) _ c.part_named-part.ensures c.row-row.ensures _ f (c.requires.0 f) _ (rw c.from.ensures at (c.step-outcome.ensures (sizes_in c.args.self.now).n))
