@@ -31,6 +31,8 @@ impl Record<'_> {
         }
     }
 
+    // Makes the call.
+    // Stays: a match on the kind, since each call takes arguments of its own: closures would be five bodies all the same.
     fn call(&self, lent: &mut [u8]) -> Told {
         let Record {
             circuit,
@@ -42,6 +44,7 @@ impl Record<'_> {
         let returned = match self.kind {
             Kind::Read => exports::yolqushek_read(circuit, &mut numbers),
             Kind::Derivation => {
+                // Stays: an array of its own, since the call takes four numbers and the record compares five.
                 let mut four = [UNTOUCHED; 4];
                 let returned = exports::yolqushek_mark(circuit, sheet, hand_in, lent, &mut four);
                 numbers[..4].copy_from_slice(&four);

@@ -22,6 +22,8 @@ pub enum Kind {
 }
 
 impl Kind {
+    // All of them, in the order of their numbers.
+    // Stays: a list by hand, since Rattle derives none of an enum's cases.
     pub const ALL: [Kind; 5] = [
         Kind::Read,
         Kind::Derivation,
@@ -40,6 +42,8 @@ impl Kind {
     }
 }
 
+// The kind with a number.
+// Stays: a match, since Rattle derives no enum from its number, and a search of `ALL` would be no plainer.
 impl TryFrom<u8> for Kind {
     type Error = Unreadable;
 
@@ -55,6 +59,8 @@ impl TryFrom<u8> for Kind {
     }
 }
 
+// The word that is printed.
+// Stays: a match, since std derives no Display, and thiserror's would make an error of a kind.
 impl Display for Kind {
     fn fmt<W: fmt::Write>(&self, f: &mut Formatter<W>) -> fmt::Result {
         f.write_str(match self {
@@ -74,6 +80,7 @@ pub enum Unreadable {
     End,
 }
 
+// A refusal's number and place, as wide as the file has them.
 #[derive(Clone, Copy, Debug, PartialEq, Eq)]
 pub struct Refusal {
     pub number: u16,
@@ -94,7 +101,7 @@ pub struct Record<'a> {
 }
 
 // What is left of a file, and the circuit and the hand-in of the record before.
-#[derive(Drop)]
+#[derive(Debug, Drop, PartialEq, Eq)]
 struct Reader<'a> {
     rest: &'a [u8],
     circuit: &'a [u8],
@@ -174,14 +181,14 @@ impl<'a> Reader<'a> {
 }
 
 // The records of a file, of which so many are to come.
-#[derive(Drop)]
+#[derive(Debug, Drop, PartialEq, Eq)]
 pub struct Records<'a> {
     reader: Reader<'a>,
     left: u32,
 }
 
 impl<'a> Records<'a> {
-    // None where the file has no header.
+    // Those after the header; none are to come where the file has no whole header.
     pub(crate) fn of(file: &'a [u8]) -> Records<'a> {
         let mut reader = Reader {
             rest: file,

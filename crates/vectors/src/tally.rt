@@ -17,7 +17,7 @@ pub struct Count {
 }
 
 // The counts by kind, and the number of the first record that doesn't agree.
-#[derive(Debug, Drop)]
+#[derive(Debug, Drop, PartialEq, Eq)]
 pub struct Tally {
     counts: BTreeMap<Kind, Count>,
     differing: Option<u32>,

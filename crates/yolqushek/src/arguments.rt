@@ -1,5 +1,5 @@
-// The program's arguments: a command, then its operands. An option, `--NAME VALUE`, stands anywhere after the command: it is a line of `OPTIONS`, and each
-// command that takes it asks for its value by that word.
+// The program's arguments: a command, then its operands. An option, `--NAME VALUE`, stands anywhere after the command: it is a line of `OPTIONS`, and
+// `checked` takes its value out by that word, for whichever command it is, before it tells whether the command takes it.
 
 use crate::failure::Failure;
 use std::alloc::AllocError;
@@ -78,6 +78,8 @@ fn arguments(rt: HostRuntime) -> Result<Vec<Name>, AllocError> {
 }
 
 // Argument k, if there is one.
+// Stays: an argument longer than the room is an empty name, which no command and no file has. Linux passes no such argument, so a failure of its own
+// would be a case that never comes.
 fn argument(rt: HostRuntime, k: usize, room: &mut [u8]) -> Result<Option<Name>, AllocError> {
     match rt.arg(k, room) {
         Ok(length) => Ok(Some(room[..length].to_vec(rt.alloc())?)),
@@ -91,7 +93,7 @@ fn is_option(word: &[u8]) -> bool {
 }
 
 // The command's word, its operands, the values of the options given, and the option whose value is awaited.
-#[derive(Drop)]
+#[derive(Debug, Drop, PartialEq, Eq)]
 struct Request {
     word: Name,
     operands: Vec<Name>,

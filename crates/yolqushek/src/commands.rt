@@ -2,36 +2,42 @@
 
 use crate::arguments::Command;
 use crate::failure::Failure;
-use crate::listing::{Judged, Listing, Outcome, Pair, Refused};
+use crate::listing::{Judged, Listing, Pair, Refused, Summary};
 use crate::text::print;
 use crate::{USAGE, every_run, files};
-use derivation::answer::{DerivationAnswer, Verdict};
+use circuit::reader::{FILE_MOST, SIGNALS_MOST};
+use derivation::answer::{DerivationAnswer, Judgement};
 use derivation::call::check_derivation;
+use derivation::walk::STEPS_MOST;
+use derivation::writer::{HEAD_SIZE, STEP_SIZE};
 use pair::PairAnswer;
 use renewal::answer::RenewalAnswer;
-use solver::answer::SolverAnswer;
+use solver::answer::{Solved, SolverAnswer};
 use std::io::{IsTerminal, Write};
-use tags::answer::Shown;
+use tags::sheet::{ENTRIES_MOST, SHEET_HEADER};
+use tags::tag::ENTRY_SIZE;
 
 // One byte more than the longest circuit, the longest derivation and the longest sheet: no more is read of a file, and one that has so many is refused.
-const CIRCUIT: u64 = 60001;
+const CIRCUIT: u64 = FILE_MOST as u64 + 1;
 
-const HAND_IN: u64 = 28680;
+const HAND_IN: u64 = RENEWED as u64 + 1;
 
-const SHEET: u64 = 1800;
+const SHEET: u64 = (SHEET_HEADER + ENTRY_SIZE * ENTRIES_MOST as usize) as u64 + 1;
 
-// Room for the solver's derivation of 256 signals, 7 + 14 · 256, and for a renewed one.
-const SOLVED: usize = 3591;
+// Room for the solver's derivation, of two steps a signal at most, and for a renewed one, the longest.
+const SOLVED: usize = HEAD_SIZE + STEP_SIZE * 2 * SIGNALS_MOST as usize;
 
-const RENEWED: usize = 28680;
+const RENEWED: usize = HEAD_SIZE + STEP_SIZE * STEPS_MOST as usize;
 
 // What a pair file begins with.
+// Stays: bytes, here and in the next, as a file has them; the libraries' letters are numbers that their readers ask for.
 const PAIR: &[u8] = b"PQT";
 
 // A sheet that says nothing: its mark, the version 1 and the count 0.
 const NO_TAGS: &[u8] = b"TQT\x01\0\0\0";
 
 // Does what is asked.
+// Stays: a match on the command, since each case has operands of its own, which a table of functions would have to carry too.
 pub(crate) fn run(rt: HostRuntime, command: &Command) -> Result<(), Failure<'_>> {
     match command {
         Command::Help => print(rt, USAGE),
@@ -121,7 +127,7 @@ fn list_runs(rt: HostRuntime, circuit: &[u8]) -> Result<(), Failure<'_>> {
 }
 
 // A circuit, and the sheet that comes with it where one is given.
-#[derive(Drop)]
+#[derive(Debug, Drop, PartialEq, Eq)]
 struct Given {
     circuit: Vec<u8>,
     sheet: Option<Vec<u8>>,
@@ -160,15 +166,10 @@ impl Given {
     ) -> Result<(), Failure<'a>> {
         match answer {
             SolverAnswer::Refused { number, place } => print(rt, Refused { number, place }),
-            SolverAnswer::Solved {
-                count,
-                verdict,
-                shown,
-                bytes,
-            } => {
+            SolverAnswer::Solved(Solved { judgement, bytes }) => {
                 derivation.truncate(bytes);
-                let outcome = self.outcome(verdict, count, shown);
-                self.hand_over(rt, &derivation, outcome, output)
+                let summary = self.summary(judgement);
+                self.hand_over(rt, &derivation, summary, output)
             }
         }
     }
@@ -190,13 +191,13 @@ impl Given {
     }
 
     fn judge_derivation(&self, rt: HostRuntime, derivation: &[u8]) -> Result<(), Failure<'static>> {
-        let mut marks = [0; 256];
+        let mut marks = [0; SIGNALS_MOST as usize];
         match self.judged(derivation, &mut marks) {
             Err(refused) => print(rt, refused),
-            Ok(outcome) => print(
+            Ok(summary) => print(
                 rt,
                 Judged {
-                    outcome,
+                    summary,
                     marks: &marks,
                 },
             ),
@@ -204,14 +205,10 @@ impl Given {
     }
 
     // What a derivation comes to, and its marks.
-    fn judged(&self, derivation: &[u8], marks: &mut [u8]) -> Result<Outcome, Refused> {
+    fn judged(&self, derivation: &[u8], marks: &mut [u8]) -> Result<Summary, Refused> {
         match check_derivation(&self.circuit, self.sheet(), derivation, marks) {
             DerivationAnswer::Refused { number, place } => Err(Refused { number, place }),
-            DerivationAnswer::Accepted {
-                count,
-                verdict,
-                shown,
-            } => Ok(self.outcome(verdict, count, shown)),
+            DerivationAnswer::Accepted(judgement) => Ok(self.summary(judgement)),
         }
     }
 
@@ -239,9 +236,9 @@ impl Given {
         renewed: &[u8],
         output: &'a [u8],
     ) -> Result<(), Failure<'a>> {
-        match self.judged(renewed, &mut [0; 256]) {
+        match self.judged(renewed, &mut [0; SIGNALS_MOST as usize]) {
             Err(refused) => print(rt, refused),
-            Ok(outcome) => self.hand_over(rt, renewed, outcome, Some(output)),
+            Ok(summary) => self.hand_over(rt, renewed, summary, Some(output)),
         }
     }
 
@@ -250,7 +247,7 @@ impl Given {
         &self,
         rt: HostRuntime,
         derivation: &[u8],
-        outcome: Outcome,
+        summary: Summary,
         output: Option<&'a [u8]>,
     ) -> Result<(), Failure<'a>> {
         if let Some(output) = output {
@@ -262,17 +259,17 @@ impl Given {
             Listing {
                 circuit,
                 derivation,
-                outcome,
+                summary,
             },
         )
     }
 
     // What is told of a derivation: what it shows only where a sheet was given.
-    fn outcome(&self, verdict: Verdict, count: u32, shown: Shown) -> Outcome {
-        Outcome {
-            verdict,
-            count,
-            shown: self.sheet.is_some().then_some(shown),
+    fn summary(&self, judgement: Judgement) -> Summary {
+        Summary {
+            verdict: judgement.verdict,
+            count: judgement.count,
+            shown: self.sheet.is_some().then_some(judgement.shown),
         }
     }
 }

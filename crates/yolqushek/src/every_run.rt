@@ -5,22 +5,16 @@ use crate::listing::{Refused, Run};
 use crate::text::{Pages, print, told};
 use circuit::bytes::u16_at;
 use runs::answer::RunAnswer;
-use runs::call::{first_run, next_run};
+use runs::call::{CANDIDATES_MOST, VALUES_MOST, first_run, next_run};
 use std::io;
 use std::io::Write;
 use std::mem::swap;
-
-// Room for a run. A circuit with more signals has too many candidates, even over the prime 3.
-const VALUES: usize = 10;
-
-// A circuit whose runs are listed has no more candidates.
-const CANDIDATES: u32 = 65536;
 
 // Prints every run and how many there are, or the refusal. The call is lent as many values as the circuit has signals; where that is more than there is room
 // for, it refuses before it looks at the length.
 pub(crate) fn print_runs(rt: HostRuntime, circuit: &[u8]) -> Result<(), Failure<'static>> {
     let signals = u16_at(circuit, 9) as usize;
-    let mut run = vec![in rt.alloc(); 0; signals.min(VALUES)]?;
+    let mut run = vec![in rt.alloc(); 0; signals.min(VALUES_MOST)]?;
     let first = first_run(circuit, &mut run);
     match first {
         RunAnswer::Refused { number, place } => print(rt, Refused { number, place }),
@@ -39,7 +33,7 @@ fn print_from(
     let mut next = run.clone()?;
     let mut answer = first;
     let mut count = 0;
-    for k in 0..CANDIDATES {
+    for k in 0..CANDIDATES_MOST {
         let RunAnswer::Written = answer else { break };
         writeln!(pages, "{}", Run(&run))?;
         answer = next_run(circuit, &run, &mut next);

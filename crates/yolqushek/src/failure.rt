@@ -6,7 +6,7 @@ use std::io;
 use std::io::Write;
 use thiserror::Error;
 
-// What is wrong with a file or a stream.
+// What is wrong with a file or a stream. It can't be compared, nor can a failure, since io::Error can't.
 #[derive(Clone, Copy, Debug, Error)]
 pub enum Fault {
     #[error("is one of the files to be read")]

@@ -14,6 +14,7 @@ const PAGE: usize = 4096;
 const LINE: usize = 1024;
 
 // A writer behind a page.
+// Stays: a type of our own, since a BufWriter writes where it is full, and so would cut lines of programs that write side by side.
 #[derive(Drop)]
 pub struct Pages<W> {
     to: W,
