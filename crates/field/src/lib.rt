@@ -35,7 +35,8 @@ fn candidate_in(run: &[u32], p: u32, q: u32) -> Option<usize>
 
 // The first place from start to end whose entry times p is at most q modulo 4,294,967,296; end where there is none, from which the walk goes on.
 // Most runs have no such place, as their least product shows, which is computed of several places at a time.
-// Stays: the end is no number for none, the walk goes on from it; an Option would be opened to it by its one caller.
+// Stays: the end is no number for none, the walk goes on from it; an Option would be opened to it by its one caller. And a match: with `map_or` the reader,
+// into which this is compiled, took 1.09 times the instructions on a circuit of 512 constraints, and about 60 µs for 42.
 fn next_candidate(inverses: &[u32], p: u32, q: u32, start: usize, end: usize) -> usize
     requires { (start ≤ end) × (end ≤ length inverses.now) }
     ensures { Next inverses.now p q start end result }
