@@ -1,7 +1,7 @@
 -- Laws of searches that answer an Option: `find` over the numbers `1..=count` finds the first that fails a test, as `first_from` does, and what is
--- found, or nothing, leads out of a test of a call, or on.
+-- found, or nothing, leads out of a test of a call, or on. And which numbers such a range yields.
 use Prim.Native.Nat.{ℕ, zero, suc, ◌+◌, ◌-◌, ◌≤◌}
-use mathlib.Core.Path.{◌≡◌, refl, sym, ap, ◌∙◌}
+use mathlib.Core.Path.{◌≡◌, refl, sym, ap, ap₂, subst, ◌∙◌}
 use mathlib.Core.Bool.{Bool, true, false}
 use mathlib.Core.List.{List, [], ◌∷◌}
 use native.Mathlib.Numerals.{add-one}
@@ -19,8 +19,10 @@ use Rattle.std.specs.Range.{
   range_inclusive_steps,
 }
 use Rattle.std.specs.Iterator.{Yields, FindsItem}
-use Rattle.std.specs.List.{FoldsTo}
+use Rattle.std.specs.List.{FoldsTo, range_with_len}
 use Rattle.std.specs.Fn.{CalledAt}
+use Rattle.std.proofs.lemmas.Iterator.{YieldsList}
+use Rattle.std.proofs.lemmas.Iterator.Consumers.{YieldsList-from_shown}
 use Rattle.circuit.specs.Runs.{first_from, found}
 use Rattle.circuit.specs.Answer.{Answer, refused, ask_none}
 
@@ -35,6 +37,26 @@ left = range_inclusive_left (λ x y. y - x)
 goes_on : (a b : ℕ) (e : Bool) → 1 ≤ range_inclusive_len (λ x y. y - x) a b e → e ≡ false
 goes_on a b true h = absurd (omega arith)
 goes_on a b false h = refl
+
+-- a range yields the numbers that it has left, one after the other
+left_yields : (s : RangeInclusive ℕ) → YieldsList steps (λ x. x) s (range_with_len (range_inclusive_start s) (left s))
+left_yields =
+    YieldsList-from_shown steps (λ x. x) (λ s. range_with_len (range_inclusive_start s) (left s))
+    (λ s t e. rw e.1.0 refl)
+    (λ s x t e.
+    let more : left s ≡ suc (left t) = omega (arith, e.1.1) in
+    rw (more, e.1.0) (ap (λ l. range_inclusive_start s ∷ l) (same _ _ (left t) (λ l. e.1.2 (goes_on _ _ _ l)))))
+  where
+    same : (a b n : ℕ) → (1 ≤ n → b ≡ a) → range_with_len a n ≡ range_with_len b n
+    same a b zero h = refl
+    same a b (suc n) h = let is : b ≡ a = h (omega arith) in rw is refl
+
+-- YIELDS: what `1..=count` yields
+pub range_yields : {s : RangeInclusive ℕ} {count : ℕ} → range_inclusive_start s ≡ 1 → range_inclusive_end s ≡ count
+    → range_inclusive_exhausted s ≡ false → YieldsList steps (λ x. x) s (range_with_len 1 count)
+range_yields {s} {count} start end e =
+    let all : left s ≡ count = rw (e, start, end) (omega arith) in
+    subst (λ (l : List ℕ). YieldsList steps (λ x. x) s l) (ap₂ range_with_len start all) (left_yields s)
 
 -- the first of `suc n` numbers from k on, by the test at k
 module _ (test : ℕ → Bool) (k n : ℕ) where

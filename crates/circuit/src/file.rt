@@ -55,7 +55,7 @@ impl<'a> Constraints<'a> {
         }
     }
 
-    // The part of the circuit bytes that starts at constraint k.
+    // The part of the circuit bytes that starts at constraint k: all of them for a k of 0 or above m.
     pub fn part(&self, k: u32) -> &'a [u8]
         ensures { result.now ≡ part_of self.now.file.bytes.now self.now.offsets k }
     {

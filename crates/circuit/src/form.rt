@@ -30,7 +30,8 @@ pub fn term_count(part: &[u8]) -> u32
 }
 
 // Its term i, counted from 0.
-// Stays: five loops go over the terms by their place; an iterator would need a struct, laws and a ghost `remaining` for what is one line in each.
+// Stays: five loops go over the terms by their place, of which `check_form` needs the terms' offsets too; an iterator would need a struct, laws and a
+// ghost `remaining` for what is one line in each.
 pub fn term_at(part: &[u8], i: u32) -> Term
     ensures { (result.signal ≡ u16_at part.now (form_size i)) × (result.coefficient ≡ u32_at part.now (form_size i + 2))
         × (result.signal < 65536) }

@@ -1,5 +1,5 @@
-// Circuit files: the readers of terms, forms and constraints, the check of a whole file, and where its constraints stand. Runs: forms evaluated on
-// one, its values and what it satisfies.
+// Circuit files: the readers of terms, forms and constraints, the check of a whole file, the type of one that isn't refused, and where its constraints
+// stand. The refusals of all calls. Runs: forms evaluated on one, its values and what it satisfies.
 
 #![tactic(auto)]
 

@@ -23,8 +23,8 @@ pub fn offsets(circuit: &[u8], m: u32) -> [u32; 513]
 {
     let mut table = [0u32; 513];
     let mut at: usize = HEADER_SIZE;
-    for k in 0..m.min(CONSTRAINTS_MOST) as usize {
-        table[k + 1] = at as u32;
+    for entry in &mut table[1..=m.min(CONSTRAINTS_MOST) as usize] {
+        *entry = at as u32;
         let b = after_form_at(circuit, at);
         let c = after_form_at(circuit, b);
         at = after_form_at(circuit, c);
@@ -32,7 +32,7 @@ pub fn offsets(circuit: &[u8], m: u32) -> [u32; 513]
     table
 }
 
-// The part of the circuit bytes that starts at constraint k.
+// The part of the circuit bytes that starts at constraint k: all of them for a k of 0 or above m, since its entry is 0.
 #[tactic(auto, unfolding(crate::specs::Offsets::part_of))]
 pub fn part_of<'a>(circuit: &'a [u8], table: &[u32], k: u32) -> &'a [u8]
     ensures { result.now ≡ part_of circuit.now table.now k }

@@ -69,7 +69,7 @@ impl<'a> From<Result<CircuitFile<'a>, Refusal>> for CircuitAnswer {
 
 // The term reader: a form from its own part of the circuit bytes, the count byte and then that many terms. What reading a part finds is its size in
 // bytes, or a refusal whose place is an offset in the part.
-// Stays: n and p, here and in the next two, since a form is tested by these of the header's five numbers alone.
+// Stays: n and p, here and in `check_form_at` and `check_constraint`, since a form is tested by these of the header's five numbers alone.
 fn check_form(part: &[u8], n: u32, p: u32) -> Result<usize, Refusal>
     ensures { found_of result ≡ size_of (read_form n p part.now) }
 {

@@ -1,4 +1,5 @@
 // Forms and constraints evaluated modulo p on a run that is lent as a slice: the constant one, then the values of the signals from 1 on.
+// Stays: part, values and p as parameters, those of the public `satisfied`: a struct of values and p would be made just for two functions below it.
 
 ghost use Rattle.std.specs.Prelude.{◌≡◌, ◌≤◌, ◌<◌};
 ghost use Rattle.circuit.specs.Reader.{form_size, form_in, constraint_in};
@@ -8,7 +9,7 @@ use crate::form::{Forms, term_at, term_count};
 use crate::reader::SIGNALS_MOST;
 
 // The value of a signal, 0 past the end.
-// Stays: one function for this slice, as others have theirs: what stands past the end is another each time.
+// Stays: `get`, `copied`, `unwrap_or` stand here as in `part_of` and other readers of a slice: the library's own chain, and a name of its own is no plainer.
 #[tactic(auto, unfolding(crate::specs::Run::values_in))]
 pub fn value_of(values: &[u32], signal: u32) -> u32
     ensures { result ≡ values_in values.now signal }

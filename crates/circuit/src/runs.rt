@@ -40,7 +40,7 @@ pub fn first_large(values: &[u8], p: u32, count: u32) -> Option<u32>
 }
 
 // The first of m constraints that the values don't satisfy, each read from the part after the one before it.
-// Stays: a rest of the bytes goes along from one constraint to the next.
+// Stays: a loop and no `find`: a rest of the bytes goes along, which a closure would have to change.
 pub fn first_unsatisfied(body: &[u8], values: &[u32], p: u32, m: u32) -> Option<u32>
     ensures { result ≡ found (first_from (satisfied_by p (constraint_of body.now) (values_in values.now)) 1 m) }
 {
