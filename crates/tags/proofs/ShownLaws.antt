@@ -1,13 +1,14 @@
--- Laws of what bounds show of a sheet: one tag more, and bounds that agree where the tags are.
-use Prim.Native.Nat.{ℕ, zero, suc, ◌+◌, ◌-◌, ◌≤◌}
-use mathlib.Core.Path.{◌≡◌, refl, sym, ap, ◌∙◌}
-use mathlib.Core.Bool.{Bool, true, false, cond, ◌&&◌, beq}
+-- Laws of what bounds show of a sheet: how many of its tags, and bounds that agree where the tags are.
+use Prim.Native.Nat.{ℕ, zero, suc, ◌+◌, ◌≤◌}
+use mathlib.Core.Path.{◌≡◌, refl, ap}
+use mathlib.Core.Bool.{Bool, true, false, cond, ◌&&◌}
+use mathlib.Core.List.{List, ◌∷◌}
 use native.Mathlib.Omega.{arith}
-use borrow.Author.Rules.{rules}
+use native.Mathlib.Numerals.{add-one}
 use lib.Dec.{leb}
-use Rattle.std.specs.Prelude.{Option, Some, None}
-use Rattle.std.specs.Int.{from_bool}
-use Rattle.std.specs.Option.{option_eq, unwrap_or}
+use lib.ListN.{length}
+use Rattle.std.specs.List.{filter, range_with_len}
+use Rattle.std.specs.Option.{unwrap_or}
 use Rattle.circuit.specs.Runs.{found}
 use Rattle.circuit.proofs.SearchLaws.{first_same}
 use Rattle.laws.specs.Sum.{keep, implies}
@@ -15,28 +16,27 @@ use Rattle.tags.specs.Tag.{Tag, limit, Sheet, on_other, is_shown, shown_of, not_
 
 -- The count
 
--- the test of the count, where a tag on an input is neither shown nor missed
-counts : (a b : Bool) → option_eq beq (cond a (Some b) None) (Some true) ≡ a && b
-counts true true = refl
-counts true false = refl
-counts false b = refl
+module _ (i : ℕ) (bound : ℕ → ℕ) (tag : ℕ → Tag) where
+  abbrev pub counted : ℕ → Bool
+  counted k = on_other i (tag k) && is_shown bound (tag k)
 
--- a turn at tag k, of which o is read and x counted: the count is that of the tags before it
-pub shown_turn : (i : ℕ) (bound : ℕ → ℕ) (tag : ℕ → Tag) (k count : ℕ) {x : ℕ} {b : Bool} {o : Option Bool} → 1 ≤ k
-    → count ≡ shown_of i bound tag (k - 1) → o ≡ cond (on_other i (tag k)) (Some (is_shown bound (tag k))) None
-    → b ≡ option_eq beq o (Some true) → x ≡ from_bool b → count + x ≡ shown_of i bound tag k
-unfolding shown_of keep
-shown_turn i bound tag k count l e is tested counted =
-    let next : k ≡ suc (k - 1) = omega arith in
-    rw (counted, tested, is, counts (on_other i (tag k)) (is_shown bound (tag k)), e, ← kept (on_other i (tag k) && is_shown bound (tag k)))
-    (sym (ap (shown_of i bound tag) next ∙ rw (sym next)))
-  where
-    kept : (b : Bool) → keep b 1 ≡ from_bool b
-    kept true = refl
-    kept false = refl
+  -- those of the n tags after tag k, and those up to k
+  counted_after : (k n : ℕ) → length (filter counted (range_with_len (k + 1) n)) + shown_of i bound tag k ≡ shown_of i bound tag (k + n)
+  unfolding shown_of keep
+  counted_after k zero = let same : k ≡ k + 0 = omega arith in omega (arith, ap (shown_of i bound tag) same)
+  counted_after k (suc n) =
+      let all : k + 1 + n ≡ k + suc n = omega arith in
+      let one : shown_of i bound tag (k + 1) ≡ shown_of i bound tag k + keep (counted (k + 1)) 1 = rw add-one refl in
+      let here = first (counted (k + 1)) (k + 1) (filter counted (range_with_len (k + 1 + 1) n)) in
+      omega (arith, ap (shown_of i bound tag) all, counted_after (k + 1) n, one, here)
+    where
+      first : (b : Bool) (x : ℕ) (xs : List ℕ) → length (cond b (x ∷ xs) xs) ≡ keep b 1 + length xs
+      first true x xs = omega arith
+      first false x xs = omega arith
 
-pub one_most : (b : Bool) → from_bool b ≤ 1
-one_most b = search rules
+  pub counted_all : (n : ℕ) → length (filter counted (range_with_len 1 n)) ≡ shown_of i bound tag n
+  unfolding shown_of
+  counted_all n = let all : 0 + n ≡ n = omega arith in omega (arith, ap (shown_of i bound tag) all, counted_after 0 n)
 
 -- what is found, by number
 pub found_number : (n : ℕ) → unwrap_or (found n) 0 ≡ n

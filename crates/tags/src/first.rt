@@ -20,7 +20,7 @@ fn lower_by(sheet: &[u8], bounds: &mut [u32], i: u32, k: u32)
 {
     if let Some(tag) = Tag::read(sheet, k) {
         let s = tag.signal as usize;
-        if 1 <= tag.signal && tag.signal <= i && s < bounds.len() {
+        if (1..=i).contains(&tag.signal) && s < bounds.len() {
             bounds[s] = bounds[s].min(tag.limit());
         }
     }

@@ -1,4 +1,5 @@
 // Reading a tag sheet: refusals 26 and 27.
+// Stays: sheet and sizes as parameters, those of the public `check_sheet`: no fact joins them before it has answered.
 
 ghost use Rattle.std.specs.Prelude.{◌≡◌};
 ghost use Rattle.circuit.specs.Runs.{first_from, found};

@@ -48,11 +48,9 @@ impl<'a> Showing<'a> {
     fn count_shown(&self) -> u32
         ensures { let T = sheet_of self.now.sheet.now in result ≡ shown_of self.now.inputs (values_in self.now.bounds.now) T.tag T.count }
     {
-        let mut count = 0;
-        for k in 1..=count_of(self.sheet) {
-            count += u32::from(self.shown_at(k) == Some(true));
-        }
-        count
+        (1..=count_of(self.sheet))
+            .filter(|k| self.shown_at(*k) == Some(true))
+            .count() as u32
     }
 
     // The first of them that isn't shown.

@@ -77,7 +77,7 @@ pub(crate) struct Tag {
     pub number: u32,
 }
 
-// Where entry k starts, counted from 1.
+// Where entry k starts, counted from 1: after the header and k - 1 entries, and the header is as long as an entry.
 fn entry_start(k: u32) -> usize
     ensures { (result ≡ entry_start k) × (result < 30064771072) }
 {
@@ -100,12 +100,11 @@ impl Tag {
     }
 
     // Whether the tag doesn't meet refusal 27: its signal is 1 to n, and its number goes with its kind.
-    // Stays: two comparisons, no plainer by `within` of derivation, which lies above.
     #[tactic(auto, unfolding(laws::specs::Step::within))]
     pub(crate) fn fits(self, n: u32, p: u32) -> bool
         ensures { result ≡ within n self.signal && number_fits p (kind_in self.kind) self.number }
     {
-        1 <= self.signal && self.signal <= n && self.kind.fits(self.number, p)
+        (1..=n).contains(&self.signal) && self.kind.fits(self.number, p)
     }
 
     // The largest value that the tag allows, as far as 32 bits go.

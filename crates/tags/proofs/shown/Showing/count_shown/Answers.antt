@@ -1,26 +1,18 @@
--- One tag more at each turn.
-use Rattle.std.proofs.Common.{◌≡◌, ◌-◌, ◌+◌, arith, rules}
-use Rattle.tags.specs.Tag.{shown_of}
+-- Of the tags from 1 on those pass the filter that are shown.
+use Rattle.std.proofs.Common.{◌∙◌, sym, rules}
+use Rattle.std.proofs.lemmas.Iterator.Consumers.{count_from_yields_List, YieldsList-at, YieldsList-from_filter}
+use Rattle.circuit.specs.Run.{values_in}
+use Rattle.circuit.proofs.FindLaws.{range_yields}
 use Rattle.tags.specs.Sheet.{sheet_of}
-use Rattle.tags.proofs.ShownLaws.{shown_turn, one_most}
+use Rattle.tags.proofs.ShownLaws.{counted, counted_all}
 use Rattle.tags.proofs.shown.Showing.count_shown.Goals as goal
 
-pub loop-k-init : goal.loop-k-init
-unfolding shown_of
-loop-k-init c = (omega arith, omega arith, search rules)
-
-pub loop-k-preserved : goal.loop-k-preserved
-loop-k-preserved c =
-    let next : c.loop-k.k + 1 - 1 ≡ c.loop-k.k = omega arith in (
-      omega arith,
-      omega (arith, c.from-count.ensures, one_most c.eq.result),
-      rw next (shown_turn _ _ _ _ _ c.loop-k.auto.k c.loop-k.invariant.2 c.shown_at.ensures c.eq.ensures c.from-count.ensures),
-    )
-
 pub returns : goal.returns
-returns c = let all : c.loop-k.k - 1 ≡ (sheet_of c.args.self.now.sheet.now).count = omega arith in rw all at c.loop-k.invariant.2
-
-pub returns-2 : goal.returns-2
-returns-2 c =
-    let all : c.loop-k.k ≡ (sheet_of c.args.self.now.sheet.now).count = omega arith in
-    rw all at (shown_turn _ _ _ _ _ c.loop-k.auto.k c.loop-k.invariant.2 c.shown_at.ensures c.eq.ensures c.from-count.ensures)
+returns c =
+    let S = c.args.self.now in
+    let new = c.new.ensures in
+    rw (sym c.count_of.ensures)
+    (count_from_yields_List c.filter.result _ c.count.ensures.ran
+    (YieldsList-from_filter _ (counted S.inputs (values_in S.bounds.now) (sheet_of S.sheet.now).tag)
+    (YieldsList-at c.filter.ensures.source (range_yields new.start new.end new.exhausted)) c.filter.ensures.closure (λ x b q called. search rules))
+    ∙ counted_all _ _ _ _)
