@@ -7,7 +7,7 @@ use native.Mathlib.Decide.{ℕ_discrete}
 use native.Mathlib.Omega.{arith}
 use borrow.Author.Tests.{ne_eqb, leb-true, leb-false, ltb-true, ltb-false}
 use lib.Dec.{leb, ltb, eqb}
-use lib.ListN.{length, drop, get_or, set, replicate, length-set}
+use lib.ListN.{length, drop, get_or, set, length-set}
 use lib.Seq.{get_or-set_same, get_or-set_other}
 use Rattle.circuit.specs.Bytes.{byte_at, u16_at}
 use Rattle.circuit.specs.Circuit.{Term, Form, eval, Rises, more, WellFormedConstraint}
@@ -19,13 +19,12 @@ use Rattle.circuit.proofs.Sized.{call_sized}
 use Rattle.circuit.specs.Offsets.{Offsets, part_of}
 use Rattle.circuit.specs.declared.reader.Sizes.{Sizes}
 use Rattle.circuit.proofs.ByteLaws.{u16_drop}
-use Rattle.circuit.proofs.CopyLaws.{zeros}
 use Rattle.circuit.proofs.OffsetLaws.{sized_part}
 use Rattle.std.specs.Prelude.{All, ◌≢◌}
 use Rattle.std.specs.List.Sorted.{IsPermutation, IsNonDecreasingBy, IsPartitionPoint}
 use Rattle.std.proofs.lemmas.List.Sorted.{All-permutation, IsPermutation-sym, length_permutation}
 use Rattle.runs.specs.declared.levels.Leveled.{Leveled}
-use Rattle.runs.specs.Inner.{last_signal, level_in, level_at, IsLeveled, Ordered, Starts, held_at}
+use Rattle.runs.specs.Inner.{last_signal, level_in, level_at, IsLeveled, Ordered, held_at}
 
 -- ---- what a form's value depends on
 
@@ -169,37 +168,8 @@ order_sorted {level} {m} {i} {order} F all sorted moved rising =
 
 -- ---- where the levels begin
 
--- those below a level
-pub record Begun (level : ℕ) (order : List Leveled) (starts : List ℕ) : Type 0 where
-  pub inside : (h : ℕ) → get_or starts h 0 ≤ length order
-  pub parted : (h : ℕ) → h < level → IsPartitionPoint (λ x. x.level < h) (λ x. h ≤ x.level) order (get_or starts h 0)
-
-pub begun_start : (order : List Leveled) → Begun 0 order (replicate 11 0)
-begun_start order =
-    record {
-      inside = λ h. omega (arith, zeros 11 h);
-      parted = λ (h : ℕ) (l : h < 0). absurd (omega arith);
-    }
-
 -- the test that `partition_point` is lent
 pub parted_by : (order : List Leveled) (h i : ℕ) → IsPartitionPoint (λ x. ltb x.level h ≡ true) (λ x. ltb x.level h ≡ false) order i
     → IsPartitionPoint (λ x. x.level < h) (λ x. h ≤ x.level) order i
 parted_by order h i parted =
     (λ k d l m. ltb-true (get_or order k d).level h (parted.0 k d l m), λ k d l m. ltb-false (get_or order k d).level h (parted.1 k d l m))
-
-pub begun_more : {level : ℕ} {order : List Leveled} {starts : List ℕ} → Begun level order starts → level < length starts → {i : ℕ} → i ≤ length order
-    → IsPartitionPoint (λ x. x.level < level) (λ x. level ≤ x.level) order i → Begun (level + 1) order (set starts level i)
-begun_more {level} {order} {starts} B room {i} within parted =
-    record { inside = λ h. inside h (ℕ_discrete h level); parted = λ h l. at h l (ℕ_discrete h level) }
-  where
-    inside : (h : ℕ) → Dec (h ≡ level) → get_or (set starts level i) h 0 ≤ length order
-    inside h (yes e) = rw (e, get_or-set_same starts level i 0 room) within
-    inside h (no d) = rw (get_or-set_other starts level h i 0 d) (B.inside h)
-
-    at : (h : ℕ) → h < level + 1 → Dec (h ≡ level)
-        → IsPartitionPoint (λ (x : Leveled). x.level < h) (λ (x : Leveled). h ≤ x.level) order (get_or (set starts level i) h 0)
-    at h l (yes e) = rw (e, get_or-set_same starts level i 0 room) parted
-    at h l (no d) = rw (get_or-set_other starts level h i 0 d) (B.parted h (omega arith))
-
-pub begun_end : {level : ℕ} {order : List Leveled} {starts : List ℕ} → Begun level order starts → 11 ≤ level → Starts order starts
-begun_end B h = record { inside = B.inside; parted = λ k l. B.parted k (omega arith) }

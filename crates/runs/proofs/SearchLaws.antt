@@ -173,7 +173,7 @@ module _ (C : Circuit) {level : ℕ → ℕ} {order : List Leveled} (A : Ordered
       at : held_at C v k ≡ false → (j : ℕ) (d : Leveled) → j < length order → (get_or order j d).constraint ≡ k → Dec (j < start) → Dec (j < i) → ⊥
       at broken j d inside q (yes b) c =
           let is : (get_or order j d).level ≡ level k = (A.each j d inside).2 ∙ ap level q in
-          omega (arith, (B.parted from low).0 j d (omega arith) b)
+          omega (arith, (B.each from low).parted.0 j d (omega arith) b)
       at broken j d inside q (no b) (yes c) =
           true_or_false (held_at C v k) (ap (held_at C v) (sym q) ∙ H j d (omega arith) c) broken
       at broken j d inside q (no b) (no c) = later j d (omega arith) inside ((A.each j d inside).2 ∙ ap level q)
@@ -187,7 +187,7 @@ module _ (C : Circuit) {level : ℕ → ℕ} {order : List Leveled} (A : Ordered
       → Checked C level v from (Some (get_or order i d).level)
   checked_some i d l inside H broken =
       record {
-        least = (B.parted from low).1 i d l inside;
+        least = (B.each from low).parted.1 i d l inside;
         all = λ k x m a b. held_before i H k x m a
             (λ j e g y q. let same = ap (λ (x : Leveled). x.level) (get_or_default order i d e inside) in omega (arith, A.rising i j e g y));
         some = record {
@@ -249,7 +249,7 @@ module _ {s table : List ℕ} {z : Sizes} (Z : Sized s z) (O : Offsets s z.m tab
       → Checked (circuit_of s) (level_at s table z.n) v from None
   broken_nowhere d h =
       checked_none (circuit_of s) ordered B v from (omega arith)
-      (λ k g l m. held_to (length items) d (omega arith) h k g l (omega (arith, items_long, A.sized, B.inside from)))
+      (λ k g l m. held_to (length items) d (omega arith) h k g l (omega (arith, items_long, A.sized, (B.each from (omega arith)).inside)))
 
 -- the candidates
 module _ {s table : List ℕ} {z : Sizes} (Z : Sized s z) (O : Offsets s z.m table) (from : ℕ → ℕ) where
@@ -283,11 +283,16 @@ module _ {s table : List ℕ} {z : Sizes} (Z : Sized s z) (O : Offsets s z.m tab
     solution_candidate u X = rw (Z.is_p, Z.is_n) X.candidate
 
     pub search_ended : {w : ℕ → ℕ} → Ended z.p z.n h v w → Sought C from w false
-    search_ended E =
+    search_ended {w = w} E =
         record {
           reached = λ e. true_or_false false e refl;
           no_more = λ e u X. S.passed u X (exhausted E is_v search_low (solution_candidate u X) (differs u X));
+          zeros = λ e. (E.constant ∙ is_v.constant, λ s l. at s l (dec_le s z.n));
         }
+      where
+        at : (s : ℕ) → 1 ≤ s → Dec (s ≤ z.n) → w s ≡ 0
+        at s l (yes m) = E.zeros s l m
+        at s l (no m) = E.past s (omega arith) ∙ is_v.past s (omega arith)
 
     module _ {w : ℕ → ℕ} {j : ℕ} (R : Rose z.p z.n h v w j) where
       pub search_fewer : left_from z.p z.n w < left_from z.p z.n v
@@ -327,4 +332,5 @@ module _ {s table : List ℕ} {z : Sizes} (Z : Sized s z) (O : Offsets s z.m tab
               passed = S.passed;
             };
         no_more = λ e. true_or_false true refl e;
+        zeros = λ e. true_or_false true refl e;
       }

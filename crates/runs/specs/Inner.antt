@@ -38,10 +38,14 @@ pub record Ordered (level : ℕ → ℕ) (m : ℕ) (order : List Leveled) : Type
   pub rising : IsNonDecreasingBy (λ x. x.level) order
   pub whole : (k : ℕ) → 1 ≤ k → k ≤ m → All (λ x. x.constraint ≢ k) order → ⊥
 
--- where those of a level or a higher one begin, for the levels of at most 10 signals
+-- where those of a level or a higher one begin
+pub record IsStart (order : List Leveled) (level start : ℕ) : Type 0 where
+  pub inside : start ≤ length order
+  pub parted : IsPartitionPoint (λ x. x.level < level) (λ x. level ≤ x.level) order start
+
+-- the same for the levels of at most 10 signals
 pub record Starts (order : List Leveled) (starts : List ℕ) : Type 0 where
-  pub inside : (h : ℕ) → get_or starts h 0 ≤ length order
-  pub parted : (h : ℕ) → h ≤ 10 → IsPartitionPoint (λ x. x.level < h) (λ x. h ≤ x.level) order (get_or starts h 0)
+  pub each : (h : ℕ) → h ≤ 10 → IsStart order h (get_or starts h 0)
 
 -- n values below p after the constant one, 0 past the end
 pub record Candidate (p n : ℕ) (v : ℕ → ℕ) : Type 0 where
@@ -103,10 +107,11 @@ pub record Reached (C : Circuit) (from v : ℕ → ℕ) : Type 0 where
   pub onward : (u : ℕ → ℕ) → Before u from → Before u v
   pub passed : (u : ℕ → ℕ) → Solution C u → Before u v → Before u from
 
--- what a search finds
+-- what a search finds; where it finds nothing, it leaves the candidate of zeros
 pub record Sought (C : Circuit) (from v : ℕ → ℕ) (found : Bool) : Type 0 where
   pub reached : found ≡ true → Reached C from v
   pub no_more : found ≡ false → (u : ℕ → ℕ) → Solution C u → Before u from
+  pub zeros : found ≡ false → (v 0 ≡ 1) × ((s : ℕ) → 1 ≤ s → v s ≡ 0)
 
 -- refusals 30 and 31 for the buffer for the answer, which both calls ask
 unfoldable pub roomy : Sizes → ℕ → Answer Unit

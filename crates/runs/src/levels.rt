@@ -2,11 +2,12 @@
 
 ghost use Rattle.std.specs.Prelude.{◌≡◌, ◌≤◌, take, length};
 ghost use Rattle.std.specs.List.Sorted.{IsNonDecreasingBy};
-ghost use Rattle.runs.specs.Inner.{last_signal, level_in, level_at, Ordered, Starts};
+ghost use Rattle.runs.specs.Inner.{last_signal, level_in, level_at, Ordered, IsStart, Starts};
 
 use crate::call::VALUES_MOST;
 use circuit::file::Constraints;
 use circuit::form::{Forms, term_at, term_count};
+use std::array;
 
 // The numbers of the constant one, 0, and of at most 10 signals, which are their levels too.
 pub(crate) const SIGNAL_NUMBERS: usize = VALUES_MOST + 1;
@@ -19,6 +20,7 @@ pub(crate) struct Leveled {
 }
 
 impl Leveled {
+    // Stays: a constant for the value that an array is filled with; a derived `Default` would give the same zeros under a name that says less.
     pub(crate) const NONE: Leveled = Leveled {
         level: 0,
         constraint: 0,
@@ -58,10 +60,10 @@ pub(crate) fn by_level(constraints: &Constraints, order: &mut [Leveled])
         Ordered (level_at file.bytes.now constraints.now.offsets file.sizes.n) file.sizes.m order.new }
 {
     let sizes = constraints.file.sizes;
-    for i in 0..sizes.m {
-        let k = sizes.m - i;
+    for (i, leveled) in order.iter_mut().enumerate() {
+        let k = sizes.m - i as u32;
         let level = level_of(constraints.part(k), sizes.n);
-        order[i as usize] = Leveled {
+        *leveled = Leveled {
             level: level as u16,
             constraint: k as u16,
         };
@@ -69,14 +71,18 @@ pub(crate) fn by_level(constraints: &Constraints, order: &mut [Leveled])
     order.sort_unstable_by_key(|leveled| leveled.level);
 }
 
+// Where the constraints of a level begin.
+fn start(order: &[Leveled], level: usize) -> usize
+    requires { IsNonDecreasingBy (λ x. x.level) order.now }
+    ensures { IsStart order.now level result }
+{
+    order.partition_point(|leveled| (leveled.level as usize) < level)
+}
+
 // Where the constraints of each level begin.
 pub(crate) fn starts(order: &[Leveled]) -> [usize; SIGNAL_NUMBERS]
     requires { IsNonDecreasingBy (λ x. x.level) order.now }
     ensures { Starts order.now result }
 {
-    let mut starts = [0; SIGNAL_NUMBERS];
-    for level in 0..SIGNAL_NUMBERS {
-        starts[level] = order.partition_point(|leveled| (leveled.level as usize) < level);
-    }
-    starts
+    array::from_fn(|level| start(order, level))
 }

@@ -1,4 +1,6 @@
 // The search for a run: candidates in rising order, those passed over as a whole whose first signals already break a constraint.
+// Stays: n <= 10 is a ghost field of `Levels`; before it, `seek` asks it of the file and `by_level` of the constraints: one more struct would serve just one.
+// A struct for the values, a candidate, would hold p and n too and give its fact anew at each store of `advance`; they are lent as a slice.
 
 ghost use Rattle.std.specs.Prelude.{◌≡◌, ◌≤◌, ◌<◌, length};
 ghost use Rattle.circuit.specs.Run.{values_in};

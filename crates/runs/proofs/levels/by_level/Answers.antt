@@ -10,10 +10,10 @@ loop-i-init c = laws.fill_start _ _ _ c.requires.1
 
 pub loop-i-preserved : goal.loop-i-preserved
 loop-i-preserved c =
-    laws.fill_more c.loop-i.invariant c.loop-i-test.true (laws.level_is _ _ _ _ c.part.ensures c.level_of-level.ensures)
+    laws.fill_more c.loop-i.invariant (rw c.requires.1 at c.loop-i-test.true) (laws.level_is _ _ _ _ c.part.ensures c.level_of-level.ensures)
 
-pub overflow_cast-order : goal.overflow_cast-order
-overflow_cast-order c =
+pub overflow_cast-leveled : goal.overflow_cast-leveled
+overflow_cast-leveled c =
     let C = c.args.constraints.now in
     omega (
       arith,
@@ -22,11 +22,14 @@ overflow_cast-order c =
       c.requires.0,
     )
 
-pub overflow_cast-order-in-loop-i : goal.overflow_cast-order-in-loop-i
-overflow_cast-order-in-loop-i c = omega (arith, laws.constraints_few _ _ c.args.constraints.now.file.read)
+pub overflow_cast-k : goal.overflow_cast-k
+overflow_cast-k c = omega (arith, laws.constraints_few _ _ c.args.constraints.now.file.read, c.requires.1)
+
+pub overflow_cast-leveled-in-loop-i : goal.overflow_cast-leveled-in-loop-i
+overflow_cast-leveled-in-loop-i c = omega (arith, laws.constraints_few _ _ c.args.constraints.now.file.read)
 
 pub returns : goal.returns
 returns c =
     let sort = c.sort_unstable_by_key.ensures in
-    laws.order_sorted c.loop-i.invariant c.loop-i-test.false _ sort.permutation
+    laws.order_sorted c.loop-i.invariant (rw c.requires.1 at c.loop-i-test.false) _ sort.permutation
     (IsNonDecreasingBy-from_sort_by_key (λ (x : Leveled). x.level) _ sort.sorted (λ a r q h. search rules))

@@ -1,24 +1,26 @@
--- `runs::levels::starts`: each level begins at the partition point of the test "below this level".
-use Rattle.std.proofs.Common.{◌<◌, length, refl, arith, rules, nat_lt, length-set, ◌∙◌}
-use Rattle.std.proofs.lemmas.List.Sorted.{IsPartitionPoint-from_clause, IsPartitionedBy-ltb}
-use Rattle.runs.specs.declared.levels.Leveled.{Leveled}
-use Rattle.runs.proofs.LevelLaws as laws
+-- `runs::levels::starts`: the call at each level gave where it begins.
+use mathlib.Core.Path.{subst}
+use native.Mathlib.Decide.{ℕ_discrete}
+use Rattle.std.proofs.Common.{◌≡◌, ◌≤◌, ◌<◌, ℕ, zero, suc, ◌+◌, List, get_or, arith, rules}
+use Rattle.std.specs.Fn.{Mut, Called}
+use Rattle.std.specs.Array.{IsFromFnResultFrom}
+use Rattle.runs.specs.Inner.{IsStart}
 use Rattle.runs.proofs.levels.starts.Goals as goal
 
-pub loop-level-init : goal.loop-level-init
-loop-level-init c = (refl, laws.begun_start c.args.order.now)
+-- what holds of each call that leaves the closure as it was holds of each element
+each_from : {F B : Type 0} (g : Mut F (ℕ × Unit {0}) B) (P : ℕ → B → Type 0) (f : F) → ((i : ℕ) (y : B) (q : F) → Called g f (i, tt) y q → P i y × (q ≡ f))
+    → (ys : List B) (i n : ℕ) → IsFromFnResultFrom g f ys i n → (j : ℕ) (d : B) → i ≤ j → j < i + n → P j (get_or ys j d)
+each_from g P f step ys i zero E j d l h = absurd (omega arith)
+each_from {F} {B} g P f step ys i (suc n) E j d l h = at (each_from g P f step ys (i + 1) n) (ℕ_discrete j i)
+  where
+    one : P i E.1 × (E.0 ≡ f)
+    one = step i E.1 E.0 E.3
 
-pub loop-level-preserved : goal.loop-level-preserved
-loop-level-preserved c =
-    let l = c.loop-level in
-    let at = λ (x : Leveled). nat_lt x.level l.level-counter in
-    let clause = c.partition_point.ensures.partitioned in
-    let sorted = IsPartitionedBy-ltb (λ (x : Leveled). x.level) c.args.order.now l.level-counter c.requires in
-    let parted =
-    laws.parted_by c.args.order.now l.level-counter c.partition_point.result
-    (IsPartitionPoint-from_clause at c.args.order.now c.partition_point.result clause sorted (λ a r q h. search rules)) in
-    let room : l.level-counter < length l.starts = omega (arith, l.invariant.0, c.loop-level-test.true) in
-    (length-set _ _ _ ∙ l.invariant.0, laws.begun_more l.invariant.1 room c.partition_point.ensures.bound parted)
+    at : (IsFromFnResultFrom g f ys (i + 1) n → (j : ℕ) (d : B) → i + 1 ≤ j → j < i + 1 + n → P j (get_or ys j d)) → Dec (j ≡ i) → P j (get_or ys j d)
+    at rest (yes e) = rw (e, E.2.1 d) one.0
+    at rest (no e) = rest (subst (λ q. IsFromFnResultFrom g q ys (i + 1) n) one.1 E.4) j d (omega arith) (omega arith)
 
 pub returns : goal.returns
-returns c = laws.begun_end c.loop-level.invariant.1 c.loop-level-test.false
+returns c =
+    let at = each_from _ (λ h y. IsStart c.args.order.now h y) _ (λ i y q k. search rules) c.from_fn.result 0 11 c.from_fn.ensures.items.each in
+    record { each = λ h l. at h 0 (omega arith) (omega arith) }
