@@ -3,9 +3,9 @@ use Prim.Native.Nat.{ℕ, suc, ◌+◌, ◌*◌, ◌%◌, ◌≤◌, ◌<◌}
 use mathlib.Core.Path.{◌≡◌, refl, sym, ap, ◌∙◌}
 use mathlib.Core.Bool.{Bool, true, false, not, and-false}
 use mathlib.Core.List.{List}
-use Rattle.std.specs.Prelude.{Option, None, Some}
+use Rattle.std.specs.Prelude.{Option, None, Some, MatchOption}
 use Rattle.std.specs.List.{list_all, find, position_or_len}
-use Rattle.std.specs.Option.{option_map}
+use Rattle.std.specs.Option.{option_map, option_map_or}
 use Rattle.std.proofs.lemmas.List.Folds.{find_at}
 use Rattle.std.proofs.lemmas.List.Sums.{fails_before_first, passes_at_first}
 use Rattle.std.proofs.lemmas.Option.{slice_get-get_or, slice_get_past}
@@ -13,7 +13,7 @@ use native.Mathlib.Nat.{mod-lt}
 use native.Mathlib.Omega.{arith}
 use lib.Dec.{eqb}
 use borrow.Author.Count.{below_more}
-use borrow.Author.Tests.{eq-eqb}
+use borrow.Author.Tests.{eq-eqb, eqb-true}
 use Rattle.field.specs.Prime.{Prime}
 use Rattle.field.specs.Inverse.{inverse}
 use Rattle.circuit.specs.Circuit.{Constraint}
@@ -231,13 +231,25 @@ module _ {p n : ℕ} {K : Constraint} {row : List Entry} (L : Row p n K row) whe
 
   -- Coefficients
 
-  pub coef_found : (s i : ℕ) → i < entries row → signal_on row i ≡ s → coef_on row i ≡ reduced p K s
+  coef_found : (s i : ℕ) → i < entries row → signal_on row i ≡ s → coef_on row i ≡ reduced p K s
   coef_found s i h e = (row_entry L i h).coef ∙ ap (reduced p K) e
 
-  pub coef_missed : (s : ℕ) → 0 < p → s ≤ n → ((i : ℕ) → i < entries row → signal_on row i ≡ s → ⊥) → 0 ≡ reduced p K s
+  coef_missed : (s : ℕ) → 0 < p → s ≤ n → ((i : ℕ) → i < entries row → signal_on row i ≡ s → ⊥) → 0 ≡ reduced p K s
   coef_missed s pos h none =
       row_all (λ (u : ℕ). u ≡ s → 0 ≡ reduced p K s) (λ u g e. sym (uninvolved p K s pos (ap (stands K) (sym e) ∙ g))) s (λ j a e. absurd (none j a e))
       h refl
+
+  -- what a search of the row for signal s reads
+  pub coef_read : (s : ℕ) → 0 < p → s ≤ n → (x : ℕ) → x ≡ option_map_or (λ e. e.coefficient) (find (λ e. eqb e.signal s) row) 0 → x ≡ reduced p K s
+  unfolding signal_on coef_on entry_at nothing
+  coef_read s pos h x is =
+      let on_s = λ (e : Entry). eqb e.signal s in
+      let first = position_or_len on_s row in
+      let read = λ (o : Option Entry). option_map_or (λ (e : Entry). e.coefficient) o 0 in
+      by_order first (entries row)
+      (λ l. is ∙ ap read (find_at on_s row ∙ slice_get-get_or row first nothing l) ∙ coef_found s first l (eqb-true _ s (passes_at_first on_s row nothing l)))
+      (λ a. is ∙ ap read (find_at on_s row ∙ slice_get_past row first a)
+      ∙ coef_missed s pos h (λ i l e. true_or_false _ (eq-eqb _ s e) (fails_before_first on_s row i nothing (omega arith))))
 
 -- References
 
@@ -308,6 +320,15 @@ module _ (p : ℕ) (row : List Entry) (bounds : List ℕ) (marks : List Bool) wh
       tells_by some x x-is n K P L =
           let here = true_by _ (λ z. some (c-is ∙ (row_entry L i h).coef ∙ occurs_no p K (signal_on row i) z)) in
           x-is n K _ P L (c-is ∙ (row_entry L i h).coef) here ∙ sym (rw here)
+
+-- x is what is told of the reference by what is gathered
+pub digits_told : {p n : ℕ} {K : Constraint} {row : List Entry} → Prime p → Row p n K row → (bounds : List ℕ) (marks : List Bool) (r coef : ℕ)
+    → coef ≡ reduced p K r → occurs (reduced p K) r ≡ true → (few : Option Few) → Prepared p row bounds marks few → (x : Bool)
+    → MatchOption few (x ≡ false) (λ few. (bounds : List ℕ) (n : ℕ) (K : Constraint) (r : ℕ) → Prime p → Row p n K row → Ready p row bounds marks few
+    → coef ≡ reduced p K r → occurs (reduced p K) r ≡ true → x ≡ separated p n (reduced p K) (bound_in p bounds) (mark_in marks) r)
+    → x ≡ separated p n (reduced p K) (bound_in p bounds) (mark_in marks) r
+digits_told P L bounds marks r coef is er None hopeless x none = none ∙ sym (hopeless.fails _ _ P L _ er)
+digits_told P L bounds marks r coef is er (Some few) ready x some = some _ _ _ _ P L ready is er
 
 -- The whole rule
 

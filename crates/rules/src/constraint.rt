@@ -28,7 +28,7 @@ fn stays_out(part: &[u8], marks: &[bool], t: u32) -> bool
     names_beside(part, marks, t) == Some(false)
 }
 
-// Whether the form names no signal: where none is marked, all others than the constant are.
+// Whether the form names no signal: with no marks, all its signals other than the constant are marked exactly if it names none.
 #[tactic(auto, using(crate::proofs::FormTests::unmarked_none))]
 fn names_none(part: &[u8]) -> bool
     ensures { result ≡ names_none (form_in part.now) }
@@ -53,7 +53,8 @@ fn names_just(part: &[u8], t: u32) -> bool
 }
 
 // Rule 4.1: whether A or B names no signal.
-// Stays: B by `after_form`, here and in `root_bound`, since `Forms` would find the third form too, which isn't looked at.
+// Stays: B by `after_form`, here and in `root_bound`: `Forms` finds the third form too, which isn't looked at, and with it solving took up to 1.04 times the
+// instructions.
 #[tactic(auto, unfolding(laws::specs::Rules::linear, circuit::specs::Reader::constraint_in))]
 pub fn is_linear(part: &[u8]) -> bool
     ensures { result ≡ linear (constraint_in part.now) }

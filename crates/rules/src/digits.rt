@@ -3,7 +3,7 @@
 // a bound above 0, of which a row that passes has fewer than 32, since 2 to their number is at most p.
 // Stays: that a row is one of a constraint (`Row`) is a premise of promises, here and for sums, and no type: the functions take any slice.
 
-ghost use Rattle.std.specs.Prelude.{◌≡◌, true, false, List, ℕ, ◌≤◌, ◌<◌};
+ghost use Rattle.std.specs.Prelude.{◌≡◌, true, false, List, ℕ, ◌≤◌, ◌<◌, nat_eq};
 ghost use Rattle.std.specs.List.{list_any, find};
 ghost use Rattle.std.specs.Option.{option_copied};
 ghost use Rattle.field.specs.Prime.{Prime};
@@ -21,12 +21,12 @@ use crate::arith::product;
 use crate::constraint::is_linear;
 use crate::gathered::{DIGITS_MOST, Digit, Few, Weighed, weight_of};
 use crate::rows::Entry;
-use crate::sums::place_in;
 use crate::view::{bound_at, mark_at};
 use field::modular::inverse;
 
 // Whether an entry is an unmarked signal with a coefficient. The mark first: a row of marked signals then takes 0.7 of the time.
-// Stays: by `is_marked` here and `bound` in `live_bound` solving bits behind decoys took 1.19 times as long, by `bound` alone 1.03 times.
+// Stays: with `is_marked` here and `bound` in `live_bound` solving bits behind decoys took 1.19 times as long, with `bound` alone 1.03 times; what is
+// slower on the rows of the digits test isn't taken.
 #[tactic(auto, unfolding(crate::specs::Live::is_live))]
 pub(crate) fn is_live(entry: &Entry, marks: &[bool]) -> bool
     ensures { result ≡ is_live marks.now entry.now }
@@ -75,7 +75,7 @@ struct Digits<'a> {
 
 impl<'a> Digits<'a> {
     // The bound of an entry if it is an unmarked signal with a coefficient, else 0.
-    // Stays: not by the entry's `bound`, as above.
+    // Stays: not by the entry's `bound`: 1.03 times, as above.
     fn live_bound(self, entry: &Entry) -> u32
         ensures { result ≡ live_bound self.entry.p self.entry.bounds.now self.entry.marks.now entry.now }
     {
@@ -229,14 +229,18 @@ pub fn separates_at(row: &[Entry], marks: &[bool], few: &Few, p: u32, i: usize) 
     ensures { (bounds : List ℕ) → Ready p row.now bounds marks.now few.now → i < entries row.now
         → Tells p row.now bounds marks.now i result }
 {
-    if p == 0 || row.len() <= i {
-        return false;
-    }
-    let coef = row[i].coefficient;
-    if coef == 0 {
+    let coef = row.get(i).map_or(0, |entry| entry.coefficient);
+    if p == 0 || coef == 0 {
         return false;
     }
     separates(row, marks, few, p, coef)
+}
+
+// The entry of signal s.
+fn entry_on<'a>(row: &'a [Entry], s: u32) -> Option<&'a Entry>
+    ensures { option_copied result ≡ find (λ x. nat_eq x.signal s) row.now }
+{
+    row.iter().find(|entry| u32::from(entry.signal) == s)
 }
 
 // The coefficient of signal s in the reduced form.
@@ -244,10 +248,7 @@ pub fn separates_at(row: &[Entry], marks: &[bool], few: &Few, p: u32, i: usize) 
 fn coef_of(row: &[Entry], s: u32) -> u32
     ensures { (p n : ℕ) (K : Constraint) → 0 < p → Row p n K row.now → 1 ≤ s → s ≤ n → result ≡ reduced p K s }
 {
-    match place_in(row, s) {
-        None => 0,
-        Some(i) => row[i].coefficient,
-    }
+    entry_on(row, s).map_or(0, |entry| entry.coefficient)
 }
 
 // Rule 4.7 by a row: whether the digits rule is met for target t with reference r.
@@ -280,8 +281,7 @@ pub(crate) fn digits_met(
         marks,
         p,
     };
-    match digits.gather_differing() {
-        None => false,
-        Some(few) => separates(row, marks, &few, p, coef),
-    }
+    digits
+        .gather_differing()
+        .is_some_and(|few| separates(row, marks, &few, p, coef))
 }

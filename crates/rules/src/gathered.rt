@@ -19,7 +19,8 @@ pub struct Digit {
 }
 
 // The unmarked entries with a bound above 0, where they are fewer than 32.
-// Stays: an array with a count, since there is no heap.
+// Stays: an array with a count: there is no heap, so no `Vec`, and the kit's `ArrayVec` would be one more library under all crates above, for this one
+// place.
 #[derive(Clone, Copy, Debug, PartialEq, Eq)]
 pub struct Few {
     pub digits: [Digit; DIGITS_MOST],
@@ -72,11 +73,9 @@ impl<'a> Weighed<'a> {
     fn smaller_sum(&self, w: u32) -> u32
         ensures { result ≡ sum (length self.entry.now.weights.now) (smaller_at (coef_in self.entry.now.weights.now) (coef_in self.entry.now.products.now) w) }
     {
-        let weights = self.weights;
-        let products = self.products;
         let mut below: u32 = 0;
-        for j in 0..weights.len() {
-            below += Weighed::smaller(weights[j], products[j], w);
+        for (weight, product) in self.weights.iter().zip(self.products) {
+            below += Weighed::smaller(*weight, *product, w);
         }
         below
     }

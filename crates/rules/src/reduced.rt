@@ -10,6 +10,7 @@ use crate::rows::Entry;
 use circuit::form::{Forms, term_at, term_count};
 
 // The forms with this bit, the highest so far.
+// Stays: not by `|`: the definitions add the bits, so each proof would need that a sum of bits is their or.
 fn with_bit(forms: u8, bit: u8) -> u8
     requires { bit ≤ 4 }
     ensures { (forms < bit → result ≡ forms + bit) × (bit ≤ forms → result ≡ forms) }
@@ -36,10 +37,11 @@ fn add_form(reduced: &mut [Entry], part: &[u8], factor: u32, bit: u8, p: u32)
 }
 
 // Rule 4.2: a0·B + b0·A - a0·b0 - C modulo p by signal, into entries that hold nothing yet, and still nothing where p is 0 or 1. No entry gets its
-// signal here. The array is lent, since one that is handed out is copied twice.
+// signal here.
+// Stays: the array is lent and not handed out: with no heap it is the caller's fixed memory, which this fills in place.
 pub(crate) fn reduced_form(reduced: &mut [Entry; 257], part: &[u8], p: u32)
     requires { reduced.old ≡ replicate 257 nothing }
-    ensures { 1 < p → Reduces p (constraint_in part.now) reduced.new }
+    ensures { (1 < p → Reduces p (constraint_in part.now) reduced.new) × (p ≤ 1 → reduced.new ≡ reduced.old) }
 {
     if 1 < p {
         let Forms { b, c, .. } = Forms::of(part);

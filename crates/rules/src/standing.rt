@@ -36,11 +36,22 @@ pub struct Outcome {
 // Rule 2.2: the kinds of steps, in the order of their numbers.
 #[derive(Clone, Copy, Debug, PartialEq, Eq, PartialOrd, Ord)]
 pub enum Kind {
-    Root,
+    Root = 1,
     Sum,
     Zero,
     Product,
     Digits,
+}
+
+impl Kind {
+    ghost use Rattle.laws.specs.Step.{kind_number};
+
+    // Stays: the cast of the discriminant is the conversion; a From would say it again.
+    pub fn number(self) -> u8
+        ensures { result ≡ kind_number (kind_of self) }
+    {
+        self as u8
+    }
 }
 
 // Stays: written by hand, since std derives no Display.

@@ -35,10 +35,10 @@ impl<'a> Sums<'a> {
     fn scale(self, e: usize) -> Option<u32>
         ensures { Scaled self.entry.p (coef_on self.entry.row.now) (entries self.entry.row.now) e result }
     {
-        if self.p == 0 || e == 0 || self.row.len() <= e {
+        if self.p == 0 || e == 0 {
             return None;
         }
-        let coefficient = self.row[e].coefficient;
+        let coefficient = self.row.get(e)?.coefficient;
         if coefficient == 0 {
             return None;
         }

@@ -1,15 +1,11 @@
--- `rules::digits::coef_of`: the coefficient at the signal's place, 0 where it has none.
-use Rattle.std.proofs.Common.{sym}
-use Rattle.rules.specs.Rows.{coef_on, entry_at, nothing}
-use Rattle.rules.proofs.SumPlaces.{place_none, place_some}
+-- `rules::digits::coef_of`: the coefficient of the signal's entry, 0 where it has none.
+use Rattle.std.proofs.Common.{rules, ◌≡◌, ap, ◌∙◌, option_copied}
+use Rattle.std.specs.Option.{option_map_or}
+use Rattle.rules.specs.declared.rows.Entry.{Entry}
 use Rattle.rules.proofs.RowDigits as laws
 use Rattle.rules.proofs.digits.coef_of.Goals as goal
 
-pub returns-in-None : goal.returns-in-None
-returns-in-None c p n K pos L least most = laws.coef_missed L _ pos most (place_none _ _ (sym c.in-None.ensures))
-
-pub returns-in-Some : goal.returns-in-Some
-unfolding coef_on entry_at nothing
-returns-in-Some c p n K pos L least most =
-    let there = place_some _ _ _ (sym c.in-Some.ensures) in
-    laws.coef_found L _ _ there.0 there.1
+pub returns : goal.returns
+returns c p n K pos L least most =
+    let is : c.map_or.result ≡ option_map_or (λ (x : Entry). x.coefficient) (option_copied c.entry_on.result) 0 = search rules in
+    laws.coef_read L _ pos most _ (is ∙ ap (λ o. option_map_or (λ (x : Entry). x.coefficient) o 0) c.entry_on.ensures)

@@ -17,11 +17,11 @@ loop-signal-preserved c =
     elim c.if-has_entry.branch [
       | then-has_entry w ↦
           rw (w.rows-is, w.end-is, w.put-end.ensures.0, w.put-end.ensures.1)
-          (laws.puts_entry c.requires.0 c.reduced_form.ensures c.loop-signal.invariant (omega arith)
+          (laws.puts_entry c.requires.0 c.reduced_form.ensures.0 c.loop-signal.invariant (omega arith)
           (sym c.has_entry.ensures ∙ w.if-has_entry.true) _ refl)
       | else-has_entry w ↦
           rw (w.rows-is, w.end-is)
-          (laws.puts_on c.requires.0 c.reduced_form.ensures c.loop-signal.invariant (omega arith)
+          (laws.puts_on c.requires.0 c.reduced_form.ensures.0 c.loop-signal.invariant (omega arith)
           (sym c.has_entry.ensures ∙ w.if-has_entry.false))
     ]
 
@@ -32,10 +32,10 @@ returns-after-has_entry c =
     elim c.if-has_entry.branch [
       | then-has_entry w ↦
           rw (w.rows-is, w.end-is, w.put-end.ensures.0, w.put-end.ensures.1)
-          (laws.puts_all (omega arith) (laws.puts_entry c.requires.0 c.reduced_form.ensures c.loop-signal.invariant (omega arith)
+          (laws.puts_all (omega arith) (laws.puts_entry c.requires.0 c.reduced_form.ensures.0 c.loop-signal.invariant (omega arith)
           (sym c.has_entry.ensures ∙ w.if-has_entry.true) _ refl))
       | else-has_entry w ↦
           rw (w.rows-is, w.end-is)
-          (laws.puts_all (omega arith) (laws.puts_on c.requires.0 c.reduced_form.ensures c.loop-signal.invariant (omega arith)
+          (laws.puts_all (omega arith) (laws.puts_on c.requires.0 c.reduced_form.ensures.0 c.loop-signal.invariant (omega arith)
           (sym c.has_entry.ensures ∙ w.if-has_entry.false)))
     ]
