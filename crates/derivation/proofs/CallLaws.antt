@@ -23,8 +23,9 @@ use Rattle.derivation.specs.Steps.{walk_from, walked, steps_of}
 use Rattle.derivation.specs.Call as call
 use Rattle.derivation.specs.Call.{Judgement, judged, framed, roomy, derivation_on, derivation_call, derivation_marks}
 use Rattle.derivation.specs.Exact.{Framed, ExactCall, SoundCall}
-use Rattle.derivation.specs.Inner.{tagged_in, judged_by, Noted, Walks, Answers, first_view}
+use Rattle.derivation.specs.Inner.{tagged_in, judged_by, notes_of, Noted, Walks, Answers, first_view}
 use Rattle.derivation.proofs.Walks.{walk_passed}
+use Rattle.derivation.proofs.Notes.{notes_told}
 use Rattle.derivation.proofs.Exact.{framed_is, exact_call}
 use Rattle.derivation.proofs.Sound.{sound_call}
 
@@ -51,12 +52,19 @@ module _ (c : List ℕ) (z : Sizes) (Z : Sized c z) where
 
 -- the walk from the start that a sheet gives, in a circuit that isn't refused
 module _ (c h : List ℕ) {z : Sizes} (read : circuit_call c ≡ given z) {S : Standing} (starts : S ≡ first_view z.p z.i h) where
-  module _ {A : Type 0} {padded : Bool} {d : List ℕ} {room : ℕ} {r : Answer A} {S' : Standing} {notes : List Bool} (W : Walks padded c d S room r S' notes) where
-    pub walk_way : and_then r (λ (done : A). given S') ≡ walked padded (tagged_in c h) d
-    walk_way = W.way (tagged_in c h).first ∙ ap (walk_from padded (tagged_in c h) d 0 (u16_at d 5)) (start_is c z (call_sized read) h starts)
+  module _ {A : Type 0} {padded : Bool} {d : List ℕ} {before notes : List Bool} {r : Answer A} {S' : Standing}
+      (W : Walks padded c d S before r S' notes) where
+    from_start : S ≡ start (tagged_in c h)
+    from_start = start_is c z (call_sized read) h starts
 
-    pub walk_noted : (done : A) → r ≡ given done → Noted (tagged_in c h) (start (tagged_in c h)) d room notes
-    walk_noted done e = rw (start_is c z (call_sized read) h starts) at (W.noted (tagged_in c h).first done e)
+    pub walk_way : and_then r (λ (done : A). given S') ≡ walked padded (tagged_in c h) d
+    walk_way = W.way (tagged_in c h).first ∙ ap (walk_from padded (tagged_in c h) d 0 (u16_at d 5)) from_start
+
+    pub walk_left : notes ≡ notes_of padded c h d before
+    walk_left = W.noted (tagged_in c h).first ∙ rw (read, from_start)
+
+    pub walk_noted : (done : A) → r ≡ given done → Noted (tagged_in c h) (start (tagged_in c h)) d (length before) notes
+    walk_noted done e = rw (walk_left, read) (notes_told padded (tagged_in c h) d _ S' before (sym walk_way ∙ rw e))
 
     pub walk_answered : and_then r (λ (done : A). given S') ≡ on_circuit (read_circuit c) (λ C. walked padded (tagged C (sheet_of h)) d)
     walk_answered = walk_way ∙ sym (on_sized (λ (C : Circuit). walked padded (tagged C (sheet_of h)) d) (call_sized read))

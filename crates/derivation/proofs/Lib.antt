@@ -5,6 +5,7 @@ pub mod Encoding
 pub mod Written
 pub mod MarkLaws
 pub mod StepBytes
+pub mod Notes
 pub mod StepLaws
 pub mod CallLaws
 pub mod SheetViews

@@ -1,18 +1,17 @@
 -- Laws of the marks written one after the other, of their count, and of the verdict.
-use Prim.Native.Nat.{ℕ, zero, suc, ◌+◌, ◌-◌, ◌≤◌, ◌<◌}
+use Prim.Native.Nat.{ℕ, zero, suc, ◌+◌, ◌<◌}
 use mathlib.Core.Path.{◌≡◌, refl, sym, ap, ◌∙◌}
-use mathlib.Core.Bool.{Bool, true, false}
+use mathlib.Core.Bool.{Bool, true, false, cond}
 use mathlib.Core.List.{List, [], ◌∷◌, ◌++◌}
-use Rattle.std.specs.Prelude.{None, Some}
+use Rattle.std.specs.List.{list_all, filter, range_with_len}
 use native.Mathlib.Numerals.{add-one}
 use native.Mathlib.Omega.{arith}
-use lib.ListN.{length, drop, set}
-use lib.Seq.{drop-cons, append_snoc, set_at}
-use Rattle.circuit.specs.Runs.{first_from, found}
-use Rattle.circuit.proofs.SearchLaws.{passed, none}
+use lib.ListN.{length, drop, take, get_or, set}
+use lib.Seq.{drop-cons, append_snoc, set_at, take-nil}
+use Rattle.std.proofs.lemmas.Grind.{get_or_after_one}
 use Rattle.laws.specs.Sum.{all}
-use Rattle.laws.proofs.Sum.{all_at, all_from, false_by}
-use Rattle.derivation.specs.Call.{Fixed, Open, bit, marks_from, total, output_marked, verdict_by}
+use Rattle.rules.specs.View.{mark_in}
+use Rattle.derivation.specs.Call.{bit, marks_from, total, output_marked}
 use Rattle.derivation.proofs.Sound.{marks_length}
 
 marks_more : (m : ℕ → Bool) (s left : ℕ) → marks_from m s (suc left) ≡ marks_from m s left ++ (bit (m (suc (s + left))) ∷ [])
@@ -21,11 +20,6 @@ marks_more m s zero = ap (λ (t : ℕ). bit (m (suc t)) ∷ []) (omega arith)
 marks_more m s (suc left) =
     ap (λ (l : List ℕ). bit (m (suc s)) ∷ l)
     (marks_more m (suc s) left ∙ ap (λ (t : ℕ). marks_from m (suc s) left ++ (bit (m (suc t)) ∷ [])) (omega arith))
-
-total_more : (xs : List ℕ) (x : ℕ) → total (xs ++ (x ∷ [])) ≡ total xs + x
-unfolding total
-total_more [] x = omega arith
-total_more (y ∷ xs) x = omega (arith, total_more xs x)
 
 module _ (m : ℕ → Bool) (s : ℕ) where
   next_mark : marks_from m 0 (s + 1) ≡ marks_from m 0 s ++ (bit (m (s + 1)) ∷ [])
@@ -39,46 +33,42 @@ module _ (m : ℕ → Bool) (s : ℕ) where
       ∙ set_at (marks_from m 0 s) _ _ x s (marks_length m 0 s)
       ∙ rw (is, next_mark, add-one s, append_snoc)
 
-  pub marks_counted : (count x : ℕ) → count ≡ total (marks_from m 0 s) → x ≡ bit (m (s + 1)) → count + x ≡ total (marks_from m 0 (s + 1))
-  marks_counted count x e is =
-      rw (e, is) (sym (ap total next_mark ∙ total_more (marks_from m 0 s) (bit (m (s + 1)))))
-
 pub none_written : (m : ℕ → Bool) (first : List ℕ) → first ≡ marks_from m 0 0 ++ drop 0 first
 unfolding marks_from
 none_written m first = refl
 
-pub none_counted : (m : ℕ → Bool) → 0 ≡ total (marks_from m 0 0)
+-- the marks of the `left` signals after s, of an array of which xs is what follows s
+counted_from : (m : ℕ → Bool) (xs : List Bool) (s left : ℕ) → ((k : ℕ) → get_or xs k false ≡ m (suc (s + k)))
+    → length (filter (λ b. b) (take left xs)) ≡ total (marks_from m s left)
 unfolding marks_from total
-none_counted m = refl
+counted_from m xs s zero h = refl
+counted_from m [] s (suc left) h =
+    let here : m (suc s) ≡ false = (let z : s ≡ s + 0 = omega arith in ap (λ (t : ℕ). m (suc t)) z) ∙ sym (h 0) in
+    let rest = counted_from m [] (suc s) left (λ k. h (suc k) ∙ (let z : s + suc k ≡ suc s + k = omega arith in ap (λ (t : ℕ). m (suc t)) z)) in
+    rw here (omega (arith, rw (take-nil {A = Bool} left) at rest))
+counted_from m (x ∷ xs) s (suc left) h =
+    let here : x ≡ m (suc s) = h 0 ∙ (let z : s + 0 ≡ s = omega arith in ap (λ (t : ℕ). m (suc t)) z) in
+    let rest = counted_from m xs (suc s) left (λ k. h (suc k) ∙ (let z : s + suc k ≡ suc s + k = omega arith in ap (λ (t : ℕ). m (suc t)) z)) in
+    rw (← here) (one x (filter (λ b. b) (take left xs)) rest)
+  where
+    one : (b : Bool) (bs : List Bool) {n : ℕ} → length bs ≡ n → length (cond b (b ∷ bs) bs) ≡ bit b + n
+    one true bs e = omega (arith, e)
+    one false bs e = omega (arith, e)
 
-pub bit_most : (b : Bool) → bit b ≤ 1
-bit_most true = omega arith
-bit_most false = omega arith
+pub marks_counted : (marks : List Bool) (n : ℕ) → length (filter (λ b. b) (take n (drop 1 marks))) ≡ total (marks_from (mark_in marks) 0 n)
+unfolding mark_in
+marks_counted marks n =
+    counted_from (mark_in marks) (drop 1 marks) 0 n
+    (λ k. get_or_after_one marks k false ∙ (let z : 1 + k ≡ suc (0 + k) = omega arith in ap (λ (t : ℕ). get_or marks t false) z))
 
-found_nothing : (n : ℕ) → None ≡ found n → n ≡ 0
-found_nothing zero e = refl
-found_nothing (suc n) e = let z : ◌≡◌ {A = ℕ} 0 1 = cc in absurd (omega arith)
+-- a range of outputs, each tested
+range_all : (q r : ℕ → Bool) (a n : ℕ) → ((s : ℕ) → q (a + s) ≡ r s) → list_all q (range_with_len a n) ≡ all n r
+unfolding all
+range_all q r a zero h = refl
+range_all q r a (suc n) h =
+    let here : q a ≡ r 0 = (let z : a ≡ a + 0 = omega arith in ap q z) ∙ h 0 in
+    rw (here, range_all q (λ s. r (suc s)) (a + 1) n (λ s. (let z : a + 1 + s ≡ a + suc s = omega arith in ap q z) ∙ h (suc s)))
 
-found_something : (n : ℕ) {k : ℕ} → Some k ≡ found n → n ≡ 0 → ⊥
-found_something zero e z = let z : ◌≡◌ {A = ℕ} 0 1 = cc in omega arith
-found_something (suc n) e z = omega (arith, z)
-
-module _ (m : ℕ → Bool) (i o : ℕ) where
-  -- the outputs counted from 1, as they are searched
-  abbrev pub output_at : ℕ → Bool
-  output_at j = m (i + j)
-
-  -- none is found that isn't marked ..
-  pub outputs_fixed : None ≡ found (first_from output_at 1 o) → Fixed ≡ verdict_by (all o (output_marked m i))
-  unfolding output_marked
-  outputs_fixed e =
-      let each = passed output_at o (found_nothing (first_from output_at 1 o) e) in
-      rw (all_from o (output_marked m i) (λ (j : ℕ) (h : j < o). let is : i + suc j ≡ suc (i + j) = omega arith in rw is at (each (suc j) (omega arith) (omega arith))))
-
-  -- .. or one is
-  pub output_open : {j : ℕ} → Some j ≡ found (first_from output_at 1 o) → Open ≡ verdict_by (all o (output_marked m i))
-  unfolding output_marked
-  output_open e =
-      let each = λ (t : all o (output_marked m i) ≡ true) (j : ℕ) (l : 1 ≤ j) (h : j ≤ o).
-      let is : suc (i + (j - 1)) ≡ i + j = omega arith in rw is at (all_at o (output_marked m i) t (j - 1) (omega arith)) in
-      rw (false_by _ (λ (t : all o (output_marked m i) ≡ true). found_something (first_from output_at 1 o) e (none output_at o (each t))))
+pub outputs_marked : (m : ℕ → Bool) (i o : ℕ) → list_all (λ j. m (i + j + 1)) (range_with_len 0 o) ≡ all o (output_marked m i)
+unfolding output_marked
+outputs_marked m i o = range_all _ _ 0 o (λ s. let z : i + (0 + s) + 1 ≡ suc (i + s) = omega arith in ap m z)

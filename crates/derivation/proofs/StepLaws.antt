@@ -1,40 +1,44 @@
 -- Laws of the walk in the code's terms: a step read from its bytes, its rule over the part that it names, and the turns of the loop.
-use Prim.Native.Nat.{ℕ, zero, suc, ◌+◌, ◌-◌, ◌/◌, ◌≤◌, ◌<◌}
-use mathlib.Core.Path.{◌≡◌, refl, sym, ap, ◌∙◌}
+use Prim.Native.Nat.{ℕ, suc, ◌+◌, ◌-◌, ◌/◌, ◌≤◌, ◌<◌}
+use mathlib.Core.Path.{◌≡◌, refl, sym, ◌∙◌}
 use mathlib.Core.Bool.{Bool, true, false, not, ◌&&◌, ◌||◌}
-use mathlib.Core.List.{List, [], ◌++◌, append_assoc, append-nil}
+use mathlib.Core.List.{List, []}
 use mathlib.Core.Logic.{inl, ⊎_elim}
-use mathlib.Core.Option.{some}
 use native.Mathlib.Numerals.{add-one}
 use native.Mathlib.Omega.{arith}
 use borrow.Author.Tests.{not-true}
-use lib.ListN.{length, length-set, drop, take, get_or, set}
-use lib.Seq.{drop-length, get_or-set_same, get_or-set_other}
-use Rattle.std.specs.Prelude.{Ok, Err}
+use lib.ListN.{length, drop, take, get_or, set}
+use lib.Seq.{drop-length}
+use Rattle.std.specs.Prelude as prelude
+use Rattle.std.specs.Prelude.{Some, None, Ok, Err}
+use Rattle.std.specs.Option.{ok_or}
 use Rattle.circuit.specs.Bytes.{byte_at, u16_at}
 use Rattle.circuit.specs.Circuit.{no_constraint, constraint_at}
 use Rattle.circuit.specs.Reader.{after_form, terms_in, form_in, constraint_in}
-use Rattle.circuit.specs.Answer.{refused, given, ask, and_then, number_of}
+use Rattle.circuit.specs.Answer.{Answer, refused, given, ask, and_then, number_of}
 use Rattle.circuit.specs.Offsets.{Offsets}
 use Rattle.circuit.specs.declared.reader.Sizes.{Sizes}
-use Rattle.circuit.specs.declared.refusal.Reason.{Reason}
+use Rattle.circuit.specs.declared.refusal.Refusal.{Refusal}
+use Rattle.circuit.specs.declared.file.CircuitFile.{CircuitFile}
+use Rattle.circuit.specs.declared.file.Constraints.{Constraints}
 use Rattle.circuit.specs.Call.{circuit_of, Sized}
 use Rattle.circuit.proofs.ReaderLaws.{part_drop}
 use Rattle.circuit.proofs.OffsetLaws.{sized_part}
+use Rattle.circuit.proofs.Sized.{call_sized}
 use Rattle.laws.specs.Problem.{Problem, Names, nothing, a_constraint, equation_at}
 use Rattle.laws.specs.Standing.{Standing}
 use Rattle.laws.specs.Step.{Kind, names_of, Step, within, inside, named, constraints, references}
-use Rattle.laws.specs.Step.{in_range, rule, rule_of, met, change, is_idle, after, unless, less_idle}
+use Rattle.laws.specs.Step.{in_range, rule, rule_of, met, change, is_idle, after}
 use Rattle.laws.proofs.Sum.{and_left, and_right, true_or_false}
 use Rattle.laws.proofs.Sound.{within_least, within_most}
+use Rattle.rules.specs.Promise as promise
 use Rattle.rules.specs.Promise.{subject_in, reduces, Taken, Gives, Asked}
 use Rattle.rules.specs.Rows.{at, Row, row_of, RowMade}
 use Rattle.rules.specs.declared.rows.Entry.{Entry}
 use Rattle.rules.specs.declared.standing.Outcome.{Outcome}
-use Rattle.derivation.specs.Steps.{read_step, tried, walk_from, steps_from, steps_of}
-use Rattle.derivation.specs.Inner.{problem_of, step_in, unnoted, unflagged, Noted, Reads, Kept, Ready, part_named, rule_in, Walks}
+use Rattle.derivation.specs.Steps.{read_step, tried, walk_from}
+use Rattle.derivation.specs.Inner.{problem_of, step_in, given_or, idle_in, notes_from, Reads, Kept, Ready, part_named, rule_in, Walks}
 use Rattle.derivation.specs.declared.step.Step as code
-use Rattle.derivation.proofs.Walks.{steps_known}
 
 -- What a step looks at
 
@@ -95,6 +99,15 @@ module _ {c : List ℕ} {z : Sizes} {table : List ℕ} (Z : Sized c z) (O : Offs
           by_row = λ e f. rw (Z.is_p, Z.is_n, equation_is (names_of x.kind) x.constraint fields.constraint, e) (known e f);
         }
 
+-- whether it is idle, by what became of an `Option` of that
+pub idle_none : (o : prelude.Option Bool) (r : Refusal) {q : Refusal} → ok_or o r ≡ Err q → (o ≡ None) × (q ≡ r)
+idle_none None r e = (refl, cc)
+idle_none (Some b) r e = let z : ◌≡◌ {A = ℕ} 0 1 = cc in absurd (omega arith)
+
+pub idle_some : (o : prelude.Option Bool) (r : Refusal) {b : Bool} → ok_or o r ≡ Ok b → o ≡ Some b
+idle_some None r e = let z : ◌≡◌ {A = ℕ} 0 1 = cc in absurd (omega arith)
+idle_some (Some x) r e = cc
+
 -- Rows that are made
 
 -- no row is made yet
@@ -126,77 +139,75 @@ module _ {q : Kind} {k : ℕ} {c : List ℕ} {z : Sizes} {table ends : List ℕ}
   row_idle i = record { kept = K; row = λ e f. true_or_false (reduces q) f i }
 
 -- a step that was read, its row kept, the part and the row that its rule is asked by, and what it gives
-pub step_taken : {c : List ℕ} {z : Sizes} {table ends ends' part : List ℕ} {rows rows' row : List Entry} (Z : Sized c z) (O : Offsets c z.m table) (first : ℕ → ℕ)
-    (x : code.Step) → in_range (problem_of c first) (step_in x) ≡ true → Kept c z table ends rows
-    → (Kept c z table ends rows → (names_of (step_in x).kind ≡ a_constraint → (1 ≤ x.constraint) × (x.constraint ≤ z.m))
-    → Ready (step_in x).kind x.constraint c z table ends' rows')
-    → part ≡ part_named (names_of (step_in x).kind) c table x.constraint → row ≡ row_of table ends' rows' x.constraint
+pub step_taken : {t : CircuitFile} (C : Constraints) → C.file ≡ t → (first : ℕ → ℕ) (d : List ℕ) (k : ℕ) (x : code.Step)
+    → ((P : Problem) → P.n ≡ t.sizes.n → P.m ≡ t.sizes.m → Reads P d k (Ok x))
+    → {ends ends' part : List ℕ} {rows rows' row : List Entry} {t' c' r' : ℕ} → Kept t.bytes.now t.sizes C.offsets ends rows
+    → t' ≡ x.target → c' ≡ x.constraint → r' ≡ x.reference
+    → (Kept C.file.bytes.now C.file.sizes C.offsets ends rows
+    → (names_of (promise.kind_of x.kind) ≡ a_constraint → (1 ≤ c') × (c' ≤ C.file.sizes.m))
+    → Ready (promise.kind_of x.kind) c' C.file.bytes.now C.file.sizes C.offsets ends' rows')
+    → part ≡ part_named (names_of (promise.kind_of x.kind)) t.bytes.now C.offsets c' → row ≡ row_of C.offsets ends' rows' c'
     → (S : Standing) (o : Outcome)
-    → ((n : ℕ) → Asked (step_in x).kind z.p n part row x.target x.reference
-    → Gives z.p o S x.target (rule (step_in x).kind (subject_in z.p n part) S x.target x.reference))
-    → Kept c z table ends' rows' × Gives z.p o S x.target (rule_of (problem_of c first) S (step_in x))
+    → ((n : ℕ) → Asked (promise.kind_of x.kind) t.sizes.p n part row t' r'
+    → Gives t.sizes.p o S t' (rule (promise.kind_of x.kind) (subject_in t.sizes.p n part) S t' r'))
+    → Kept t.bytes.now t.sizes C.offsets ends' rows' × Gives t.sizes.p o S x.target (rule_of (problem_of t.bytes.now first) S (step_in x))
 unfolding rule_in
-step_taken {c} {z} {table} Z O first x ranged K keeps is-part is_row S o gives =
-    let ready = keeps K (constraint_named Z O first (step_in x) ranged) in
+step_taken {t} C is first d k x reads K target constraint reference keeps is-part is-row S o gives =
+    let Z = call_sized t.read in
+    let P = problem_of t.bytes.now first in
+    let O = rw is at C.placed in
+    let ranged = (reads P (sym Z.is_n) (sym Z.is_m)).1 in
+    let ready = (rw (is, constraint) at keeps) K (constraint_named Z O first (step_in x) ranged) in
     let asked = step_asked Z O first (step_in x) ranged ready.row in
-    let same = rule_is Z O first (step_in x) ranged S in
-    (ready.kept, rw (← same) ((rw is-part at (rw is_row at (gives z.n))) asked))
+    let given = rw (target, reference, rw constraint at is-part, rw constraint at is-row) at (gives t.sizes.n) in
+    (ready.kept, rw (← (rule_is Z O first (step_in x) ranged S)) (given asked))
 
 let-pass : (same padded : Bool) → (same && not padded) ≡ false → (padded || not same) ≡ true
 let-pass same true e = refl
 let-pass true false e = sym e
 let-pass false false e = refl
 
--- Notes
-
-unflagged_kept : (notes : List Bool) (d : List ℕ) (k j : ℕ) (b : Bool) → j ≤ k → unflagged (set notes k b) d j ≡ unflagged notes d j
-unfolding unflagged
-unflagged_kept notes d k zero b h = refl
-unflagged_kept notes d k (suc j) b h =
-    rw (unflagged_kept notes d k j b (omega arith), get_or-set_other notes k j b false (λ (e : j ≡ k). omega arith))
-
--- one note more
-unflagged_more : (notes : List Bool) (d : List ℕ) (k : ℕ) (b : Bool) → k < length notes
-    → unflagged (set notes k b) d (suc k) ≡ unflagged notes d k ++ unnoted b (read_step d k)
-unfolding unflagged
-unflagged_more notes d k b h = rw (unflagged_kept notes d k k b (omega arith), get_or-set_same notes k b false h)
-
-unless_noted : (b : Bool) (x : Step) (rest : List Step) → unless b x rest ≡ unnoted b (some x) ++ rest
-unless_noted true x rest = refl
-unless_noted false x rest = refl
-
 -- The turns of the loop
 
--- before step k: the whole walk from S₀ is what is left of it from S, and of each step before it is noted whether it is idle
-pub record Walking (padded : Bool) (P : Problem) (d : List ℕ) (S₀ : Standing) (notes : List Bool) (k : ℕ) (S : Standing) : Type 0 where
+-- before step k: the whole walk from S₀ is what is left of it from S, and so are its notes, which held `before`
+pub record Walking (padded : Bool) (P : Problem) (d : List ℕ) (S₀ : Standing) (before notes : List Bool) (k : ℕ) (S : Standing) : Type 0 where
   pub left : walk_from padded P d 0 (u16_at d 5) S₀ ≡ walk_from padded P d k (u16_at d 5 - k) S
-  pub noted : u16_at d 5 ≤ length notes
-      → less_idle P S₀ (steps_of d) ≡ unflagged notes d k ++ less_idle P S (steps_from d k (u16_at d 5 - k))
+  pub noted : notes_from padded P d 0 (u16_at d 5) S₀ before ≡ notes_from padded P d k (u16_at d 5 - k) S notes
 
-pub walk_starts : {padded : Bool} {P : Problem} {d : List ℕ} {notes : List Bool} {S : Standing} → Walking padded P d S notes 0 S
-unfolding unflagged steps_of
+-- what the whole walk answers, and its notes
+abbrev pub Ends : Bool → Problem → List ℕ → Standing → List Bool → Answer Standing → List Bool → Type 0
+Ends padded P d S₀ before r notes = (r ≡ walk_from padded P d 0 (u16_at d 5) S₀) × (notes ≡ notes_from padded P d 0 (u16_at d 5) S₀ before)
+
+pub walk_starts : {padded : Bool} {P : Problem} {d : List ℕ} {notes : List Bool} {S : Standing} → Walking padded P d S notes notes 0 S
 walk_starts {d = d} =
     let all : u16_at d 5 - 0 ≡ u16_at d 5 = omega arith in
-    record { left = rw all; noted = λ h. rw all }
+    record { left = rw all; noted = rw all }
 
-module _ {padded : Bool} {P : Problem} {d : List ℕ} {S₀ : Standing} {notes : List Bool} {k : ℕ} {S : Standing} (W : Walking padded P d S₀ notes k S) where
-  pub walk_ended : u16_at d 5 ≤ k → given S ≡ walk_from padded P d 0 (u16_at d 5) S₀
-  unfolding walk_from
-  walk_ended h = sym (W.left ∙ (let z : u16_at d 5 - k ≡ 0 = omega arith in rw z))
-
-  pub notes_ended : k ≡ u16_at d 5 → {room : ℕ} → room ≡ length notes → Noted P S₀ d room notes
-  unfolding less_idle steps_from
-  notes_ended last e =
+module _ {padded : Bool} {P : Problem} {d : List ℕ} {S₀ : Standing} {before notes : List Bool} {k : ℕ} {S : Standing}
+    (W : Walking padded P d S₀ before notes k S) where
+  pub walk_ended : u16_at d 5 ≤ k → Ends padded P d S₀ before (given S) notes
+  unfolding walk_from notes_from
+  walk_ended h =
       let z : u16_at d 5 - k ≡ 0 = omega arith in
-      record { tells = λ g. sym (W.noted (omega arith) ∙ rw z (append-nil (unflagged notes d k)) ∙ ap (unflagged notes d) last) }
+      (sym (W.left ∙ rw z), sym (W.noted ∙ rw z))
 
   module _ (some_left : k < u16_at d 5) where
     turn : walk_from padded P d 0 (u16_at d 5) S₀ ≡ and_then (tried padded P S (read_step d k) (suc k)) (walk_from padded P d (k + 1) (u16_at d 5 - (k + 1)))
     unfolding walk_from
     turn = W.left ∙ (let z : u16_at d 5 - k ≡ suc (u16_at d 5 - (k + 1)) = omega arith in rw (z, add-one k))
 
-    pub walk_refused : (reason : Reason) → Reads P d k (Err reason) → refused (number_of reason) (k + 1) ≡ walk_from padded P d 0 (u16_at d 5) S₀
-    walk_refused reason R = sym (turn ∙ rw (R padded S, add-one k))
+    turn_noted : notes_from padded P d 0 (u16_at d 5) S₀ before
+        ≡ given_or (tried padded P S (read_step d k) (suc k))
+        (λ S'. notes_from padded P d (k + 1) (u16_at d 5 - (k + 1)) S' (set notes k (idle_in P S (read_step d k)))) notes
+    unfolding notes_from
+    turn_noted = W.noted ∙ (let z : u16_at d 5 - k ≡ suc (u16_at d 5 - (k + 1)) = omega arith in rw (z, add-one k))
+
+    -- step k is refused
+    stopped : {number place : ℕ} → tried padded P S (read_step d k) (suc k) ≡ refused number place → Ends padded P d S₀ before (refused number place) notes
+    stopped e = (sym (turn ∙ rw e), sym (turn_noted ∙ rw e))
+
+    pub walk_refused : (r : Refusal) → Reads P d k (Err r) → Ends padded P d S₀ before (refused (number_of r.reason) r.place) notes
+    walk_refused r R = stopped (R padded S)
 
     -- step k, by whether it is met and idle
     module _ (x : code.Step) (R : Reads P d k (Ok x)) where
@@ -206,8 +217,8 @@ module _ {padded : Bool} {P : Problem} {d : List ℕ} {S₀ : Standing} {notes :
       unfolding met
       tried_is = rw (R.0, R.1)
 
-      pub walk_unmet : (rule_of P S (step_in x)).met ≡ false → refused 17 (k + 1) ≡ walk_from padded P d 0 (u16_at d 5) S₀
-      walk_unmet e = sym (turn ∙ rw (tried_is, e, add-one k))
+      pub walk_unmet : (rule_of P S (step_in x)).met ≡ false → Ends padded P d S₀ before (refused 17 (k + 1)) notes
+      walk_unmet e = stopped (rw (tried_is, e, add-one k))
 
       module _ {idle : Bool} {next : Standing} (T : Taken idle next S x.target (rule_of P S (step_in x))) where
         next_is : next ≡ after P S (step_in x)
@@ -218,37 +229,32 @@ module _ {padded : Bool} {P : Problem} {d : List ℕ} {S₀ : Standing} {notes :
         unfolding change
         idle_is = T.idle
 
-        pub walk_idle : (idle && not padded) ≡ true → refused 29 (k + 1) ≡ walk_from padded P d 0 (u16_at d 5) S₀
+        pub walk_idle : (idle && not padded) ≡ true → Ends padded P d S₀ before (refused 29 (k + 1)) notes
         walk_idle e =
             let same : is_idle P S (step_in x) ≡ true = sym idle_is ∙ and_left idle (not padded) e in
-            sym (turn ∙ rw (tried_is, T.met, same, not-true padded (and_right idle (not padded) e), add-one k))
+            stopped (rw (tried_is, T.met, same, not-true padded (and_right idle (not padded) e), add-one k))
 
         pub walk_on : (idle && not padded) ≡ false → {later : List Bool} → later ≡ set notes k idle
-            → Walking padded P d S₀ later (k + 1) next
-        unfolding less_idle
+            → Walking padded P d S₀ before later (k + 1) next
         walk_on pass {later} is =
-            record {
-              left = turn ∙ rw (tried_is, T.met, ← idle_is, let-pass idle padded pass, ← next_is);
-              noted = λ room.
-                  let rest : u16_at d 5 - k ≡ suc (u16_at d 5 - (k + 1)) = omega arith in
-                  let here : k < length notes = omega (arith, length-set notes k idle, ap length is) in
-                  W.noted (omega (arith, length-set notes k idle, ap length is))
-                  ∙ rw (rest, steps_known d k (u16_at d 5 - (k + 1)) R.0, ← idle_is, ← next_is, ← add-one k)
-                  (ap (λ (l : List Step). unflagged notes d k ++ l) (unless_noted idle (step_in x) _)
-                  ∙ sym (append_assoc (unflagged notes d k) (unnoted idle (some (step_in x))) _)
-                  ∙ sym (rw (is, add-one k, unflagged_more notes d k idle here, R.0)));
-            }
+            let goes : tried padded P S (read_step d k) (suc k) ≡ given next = rw (tried_is, T.met, ← idle_is, let-pass idle padded pass, ← next_is) in
+            record { left = turn ∙ rw goes; noted = turn_noted ∙ rw (goes, is, R.0, ← idle_is) }
 
 -- The walk
 
 -- it is refused ..
-pub walks_refused : {A : Type 0} {padded : Bool} {c d : List ℕ} {S : Standing} {room : ℕ} {S' : Standing} {notes : List Bool} {number place : ℕ}
-    → ((first : ℕ → ℕ) → refused number place ≡ walk_from padded (problem_of c first) d 0 (u16_at d 5) S)
-    → Walks {A = A} padded c d S room (refused number place) S' notes
-walks_refused e = record { way = e; noted = λ first done f. let z : ◌≡◌ {A = ℕ} 0 1 = cc in absurd (omega arith) }
+pub walks_refused : {A : Type 0} {padded : Bool} {c d : List ℕ} {S : Standing} {before notes : List Bool} {number place : ℕ}
+    → ((first : ℕ → ℕ) → Ends padded (problem_of c first) d S before (refused number place) notes)
+    → Walks {A = A} padded c d S before (refused number place) S notes
+walks_refused E = record { way = λ first. (E first).0; kept = λ number place e. refl; noted = λ first. (E first).1 }
 
 -- .. or comes to its end
-pub walks_ended : {A : Type 0} {done : A} {padded : Bool} {c d : List ℕ} {S : Standing} {room k : ℕ} {S' : Standing} {notes : List Bool}
-    → ((first : ℕ → ℕ) → Walking padded (problem_of c first) d S notes k S') → k ≡ u16_at d 5 → room ≡ length notes
-    → Walks padded c d S room (given done) S' notes
-walks_ended W last e = record { way = λ first. walk_ended (W first) (omega (arith, last)); noted = λ first done f. notes_ended (W first) last e }
+pub walks_ended : {A : Type 0} {done : A} {padded : Bool} {c d : List ℕ} {S : Standing} {before notes : List Bool} {k : ℕ} {S' : Standing}
+    → ((first : ℕ → ℕ) → Walking padded (problem_of c first) d S before notes k S') → u16_at d 5 ≤ k
+    → Walks padded c d S before (given done) S' notes
+walks_ended W last =
+    record {
+      way = λ first. (walk_ended (W first) last).0;
+      kept = λ number place e. let z : ◌≡◌ {A = ℕ} 0 1 = cc in absurd (omega arith);
+      noted = λ first. (walk_ended (W first) last).1;
+    }

@@ -25,17 +25,17 @@ passes true = fits
 passes false = adds
 
 -- a step that isn't refused
-record Taken (padded : Bool) (P : Problem) (S : Standing) (o : Option Step) (S' : Standing) : Type 0 where
-  step : Step
-  known : o ≡ some step
-  fit : passes padded P S step ≡ true
-  gives : after P S step ≡ S'
+pub record Taken (padded : Bool) (P : Problem) (S : Standing) (o : Option Step) (S' : Standing) : Type 0 where
+  pub step : Step
+  pub known : o ≡ some step
+  pub fit : passes padded P S step ≡ true
+  pub gives : after P S step ≡ S'
 
 passes_holds : (padded : Bool) (P : Problem) (S : Standing) (x : Step) → fits P S x ≡ true → (padded || not (is_idle P S x)) ≡ true → passes padded P S x ≡ true
 passes_holds true P S x f n = f
 passes_holds false P S x f n = adds_holds P S x f (not-true _ n)
 
-tried_given : (padded : Bool) (P : Problem) (S : Standing) (o : Option Step) (place : ℕ) {S' : Standing} → tried padded P S o place ≡ given S'
+pub tried_given : (padded : Bool) (P : Problem) (S : Standing) (o : Option Step) (place : ℕ) {S' : Standing} → tried padded P S o place ≡ given S'
     → Taken padded P S o S'
 tried_given padded P S none place e = let z : ◌≡◌ {A = ℕ} 0 1 = cc in absurd (omega arith)
 tried_given padded P S (some x) place e =

@@ -1,13 +1,13 @@
 -- How the functions inside the call run: what they promise one another, not what the call means.
 use Rattle.std.specs.Prelude as prelude
-use Rattle.std.specs.Prelude.{ℕ, zero, suc, ◌≤◌, min, ◌≡◌, Bool, true, false, List, [], ◌∷◌, ◌++◌, length, get_or, Some, None, Result, Ok, Err}
+use Rattle.std.specs.Prelude.{ℕ, zero, suc, ◌≤◌, min, ◌≡◌, Bool, true, false, List, [], ◌∷◌, ◌++◌, length, get_or, set, Some, None, Result, Ok, Err}
 use Rattle.std.proofs.Math.Option.{Option, none, some}
 use Rattle.circuit.specs.Answer.{Answer, refused, given, and_then, number_of}
-use Rattle.circuit.specs.declared.refusal.Reason.{Reason}
+use Rattle.circuit.specs.declared.refusal.Refusal.{Refusal}
 use Rattle.circuit.specs.Bytes.{u16_at}
 use Rattle.circuit.specs.Reader.{signals_most}
 use Rattle.circuit.specs.Circuit.{constraint_at}
-use Rattle.circuit.specs.Call.{circuit_of}
+use Rattle.circuit.specs.Call.{circuit_call, circuit_of}
 use Rattle.circuit.specs.declared.reader.Sizes.{Sizes}
 use Rattle.circuit.specs.Offsets.{part_of}
 use Rattle.laws.specs.Sum.{all}
@@ -44,7 +44,6 @@ names_in true = laws.a_constraint
 
 -- a kind's row of the table
 pub record EntryOf (kind : Kind) (e : Entry) : Type 0 where
-  pub number : e.number ≡ step.kind_number (kind_of kind)
   pub names : names_in e.names ≡ step.names_of (kind_of kind)
   pub refers : e.refers ≡ step.refers (kind_of kind)
 
@@ -61,9 +60,9 @@ step_found (Some x) = some (step_in x)
 step_found None = none
 
 -- step k, counted from 0, is known and in range; or it is refused, whatever the standing is
-abbrev pub Reads : Problem → List ℕ → ℕ → Result Step Reason → Type 0
+abbrev pub Reads : Problem → List ℕ → ℕ → Result Step Refusal → Type 0
 Reads P d k (Ok x) = (read_step d k ≡ some (step_in x)) × (step.in_range P (step_in x) ≡ true)
-Reads P d k (Err reason) = (padded : Bool) (S : standing.Standing) → tried padded P S (read_step d k) (suc k) ≡ refused (number_of reason) (suc k)
+Reads P d k (Err r) = (padded : Bool) (S : standing.Standing) → tried padded P S (read_step d k) (suc k) ≡ refused (number_of r.reason) r.place
 
 -- whether idle steps are let pass
 abbrev pub padded_by : IdleSteps → Bool
@@ -89,12 +88,36 @@ unflagged idle d (suc k) = unflagged idle d k ++ unnoted (get_or idle k false) (
 pub record Noted (P : Problem) (S : standing.Standing) (d : List ℕ) (room : ℕ) (idle : List Bool) : Type 0 where
   pub tells : u16_at d 5 ≤ room → unflagged idle d (u16_at d 5) ≡ step.less_idle P S (steps_of d)
 
--- All steps of d taken on S in the circuit c, whatever its first bounds: they are refused as r says, or lead to S', with the notes of them in an array
--- with this much room.
-pub record Walks {A : Type 0} (padded : Bool) (c d : List ℕ) (S : standing.Standing) (room : ℕ) (r : Answer A) (S' : standing.Standing) (notes : List Bool)
-    : Type 0 where
+-- what follows from what was given, or what stands where it was refused
+abbrev pub given_or : {A B : Type 0} → Answer A → (A → B) → B → B
+given_or (refused number place) f x = x
+given_or (given y) f x = f y
+
+-- whether a step is idle; one that wasn't read isn't
+abbrev pub idle_in : Problem → standing.Standing → Option step.Step → Bool
+idle_in P S none = false
+idle_in P S (some x) = step.is_idle P S x
+
+-- What the notes hold after the steps from k (counted from 0) on, `left` of them: of each step taken, whether it is idle where it stands, as far as there is
+-- room. The step that is refused isn't noted, nor those after it.
+unfoldable pub notes_from : Bool → Problem → List ℕ → ℕ → ℕ → standing.Standing → List Bool → List Bool
+notes_from padded P d k zero S notes = notes
+notes_from padded P d k (suc left) S notes =
+    given_or (tried padded P S (read_step d k) (suc k))
+    (λ S'. notes_from padded P d (suc k) left S' (set notes k (idle_in P S (read_step d k)))) notes
+
+-- the notes of all steps from the start that a sheet gives; a circuit that is refused leaves them as they are
+abbrev pub notes_of : Bool → List ℕ → List ℕ → List ℕ → List Bool → List Bool
+notes_of padded c h d notes =
+    given_or (circuit_call c) (λ z. notes_from padded (tagged_in c h) d 0 (u16_at d 5) (standing.start (tagged_in c h)) notes) notes
+
+-- All steps of d taken on S in the circuit c, whatever its first bounds: they are refused as r says, and the standing stays, or they lead to S'; and what
+-- the notes hold then, which held `before`.
+pub record Walks {A : Type 0} (padded : Bool) (c d : List ℕ) (S : standing.Standing) (before : List Bool) (r : Answer A) (S' : standing.Standing)
+    (notes : List Bool) : Type 0 where
   pub way : (first : ℕ → ℕ) → and_then r (λ done. given S') ≡ walk_from padded (problem_of c first) d 0 (u16_at d 5) S
-  pub noted : (first : ℕ → ℕ) (done : A) → r ≡ given done → Noted (problem_of c first) S d room notes
+  pub kept : (number place : ℕ) → r ≡ refused number place → S' ≡ S
+  pub noted : (first : ℕ → ℕ) → notes ≡ notes_from padded (problem_of c first) d 0 (u16_at d 5) S before
 
 -- the call's answer, and what it leaves in the buffer that held `marks`
 pub record Answers (c h d marks : List ℕ) (r : Answer Judgement) (left : List ℕ) : Type 0 where

@@ -1,4 +1,4 @@
-// The table of kinds: their numbers, and what the fields of a step may be.
+// The table of kinds: which number is of which, and what the fields of a step may be.
 
 ghost use Rattle.std.specs.Prelude.{◌≡◌};
 ghost use Rattle.laws.specs.Step as laws;
@@ -8,7 +8,7 @@ ghost use Rattle.derivation.specs.Inner.{kind_found, range_of, EntryOf};
 use rules::standing::Kind;
 
 // The kinds, in the order of their numbers.
-// Stays: a list to search beside the match of `entry_of`, which alone has the numbers; Rattle derives no list of an enum's cases.
+// Stays: a list to search, since Rattle derives none of an enum's cases.
 const KINDS: [Kind; 5] = [
     Kind::Root,
     Kind::Sum,
@@ -17,11 +17,10 @@ const KINDS: [Kind; 5] = [
     Kind::Digits,
 ];
 
-// What the table says of a kind: its number, and whether the constraint field names a constraint and the reference field a signal.
+// What the table says of a kind: whether the constraint field names a constraint, and the reference field a signal.
 // Stays: two flags, since both are handed to `field_within`, which asks of either field the same.
 #[derive(Clone, Copy, Debug, PartialEq, Eq)]
 pub(crate) struct Entry {
-    pub number: u8,
     pub names: bool,
     pub refers: bool,
 }
@@ -29,18 +28,12 @@ pub(crate) struct Entry {
 pub(crate) fn entry_of(kind: Kind) -> Entry
     ensures { EntryOf kind result }
 {
-    let (number, names, refers) = match kind {
-        Kind::Root => (1, true, false),
-        Kind::Sum => (2, true, false),
-        Kind::Zero => (3, false, false),
-        Kind::Product => (4, true, false),
-        Kind::Digits => (5, true, true),
+    let (names, refers) = match kind {
+        Kind::Root | Kind::Sum | Kind::Product => (true, false),
+        Kind::Zero => (false, false),
+        Kind::Digits => (true, true),
     };
-    Entry {
-        number,
-        names,
-        refers,
-    }
+    Entry { names, refers }
 }
 
 // The kind with a number.
@@ -48,10 +41,7 @@ pub(crate) fn entry_of(kind: Kind) -> Entry
 pub fn kind_of(number: u8) -> Option<Kind>
     ensures { kind_found result ≡ kind_of number }
 {
-    KINDS
-        .iter()
-        .copied()
-        .find(|kind| number == entry_of(*kind).number)
+    KINDS.iter().copied().find(|kind| number == kind.number())
 }
 
 // Whether s is from 1 to n.

@@ -1,4 +1,4 @@
-// What an accepted derivation hands over: the marks, written and counted, and the verdict.
+// What an accepted derivation hands over: the marks, written and counted, the verdict, and what is shown of the sheet.
 
 ghost use Rattle.std.specs.Prelude.{◌≡◌, ◌++◌, ◌≤◌, ◌<◌, length, drop};
 ghost use Rattle.laws.specs.Sum.{all};
@@ -16,6 +16,7 @@ use rules::view::mark_at;
 use tags::tagged::Tagged;
 
 // Writes one byte for each of the n signals, 1 for marked and 0 for not.
+// Stays: an index for both; with `enumerate` over the bytes the marks would be indexed all the same, and nothing is known of the bytes after a `zip`.
 fn write_marks(out: &mut [u8], marks: &[bool], n: u32)
     requires { (n < length marks.now) × (n ≤ length out.old) }
     ensures { out.new ≡ marks_from (mark_in marks.now) 0 n ++ drop n out.old }
@@ -29,22 +30,25 @@ fn write_marks(out: &mut [u8], marks: &[bool], n: u32)
 pub fn count_marks(marks: &[bool], n: u32) -> u32
     ensures { result ≡ total (marks_from (mark_in marks.now) 0 n) }
 {
-    let mut count = 0;
-    for s in 0..n {
-        count += u32::from(mark_at(marks, s as usize + 1));
-    }
-    count
+    let marked = marks.iter().skip(1).take(n as usize).filter(|mark| **mark);
+    marked.count() as u32
+}
+
+// Whether the o signals after signal i are marked.
+fn all_marked(marks: &[bool], i: u32, o: u32) -> bool
+    ensures { result ≡ all o (output_marked (mark_in marks.now) i) }
+{
+    (0..o).all(|j| mark_at(marks, i as usize + j as usize + 1))
 }
 
 // Whether every output is marked.
 pub fn verdict_of(marks: &[bool], sizes: Sizes) -> Verdict
     ensures { verdict_in result ≡ verdict_by (all sizes.o (output_marked (mark_in marks.now) sizes.i)) }
 {
-    let inputs = sizes.i as usize;
-    let unmarked = (1..=sizes.o).find(|j| !mark_at(marks, inputs + *j as usize));
-    match unmarked {
-        Some(_) => Verdict::Open,
-        None => Verdict::Fixed,
+    if all_marked(marks, sizes.i, sizes.o) {
+        Verdict::Fixed
+    } else {
+        Verdict::Open
     }
 }
 

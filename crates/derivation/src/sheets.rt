@@ -1,6 +1,7 @@
 // What a sheet gives the standing at the start, and what the standing shows of it.
 
 ghost use Rattle.std.specs.Prelude.{◌≡◌, ◌<◌, length};
+ghost use Rattle.circuit.specs.Run.{values_in};
 ghost use Rattle.tags.specs.Tag.{shown_by};
 ghost use Rattle.tags.specs.Sheet.{sheet_of, Fitting};
 ghost use Rattle.tags.specs.Answer.{shown_in};
@@ -23,9 +24,10 @@ pub fn start_with(sheet: &[u8], p: u32, i: u32) -> Standing
     start
 }
 
-// Rule 6.10: what bounds show of a sheet whose signals are among them.
+// Rule 6.10: what bounds show of a sheet; where its signals are among them, they are those of a standing.
 pub fn shown_of(sheet: &[u8], bounds: &[u32], sizes: Sizes) -> Shown
-    ensures { Fitting sizes.n sizes.p (sheet_of sheet.now) → sizes.n < length bounds.now
+    ensures all { shown_in result ≡ shown_by sizes.i (sheet_of sheet.now) (values_in bounds.now) }
+    ensures fitting { Fitting sizes.n sizes.p (sheet_of sheet.now) → sizes.n < length bounds.now
         → shown_in result ≡ shown_by sizes.i (sheet_of sheet.now) (bound_in sizes.p bounds.now) }
 {
     show(sheet, bounds, sizes.i)

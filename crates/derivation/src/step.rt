@@ -14,7 +14,7 @@ use circuit::bytes::{byte_at, u16_at};
 use circuit::file::Constraints;
 use circuit::offsets::part_of;
 use circuit::reader::Sizes;
-use circuit::refusal::Reason;
+use circuit::refusal::{Reason, Refusal};
 use rules::rows::{Entry, make_row};
 use rules::standing::{Kind, reads_row};
 use std::fmt;
@@ -33,7 +33,7 @@ impl Step {
     pub fn to_bytes(self) -> [u8; 7]
         ensures { result ≡ step_bytes (step_in self) }
     {
-        let number = entry_of(self.kind).number;
+        let number = self.kind.number();
         let [target_low, target_high] = self.target.to_le_bytes();
         let [constraint_low, constraint_high] = self.constraint.to_le_bytes();
         let [reference_low, reference_high] = self.reference.to_le_bytes();
@@ -62,15 +62,14 @@ impl Step {
         })
     }
 
-    // The same with its fields in range: refusals 15 and 16 in this order.
-    pub(crate) fn read(derivation: &[u8], k: u32, sizes: Sizes) -> Result<Step, Reason>
+    // The same with its fields in range: refusals 15 and 16 in this order, at the step's place.
+    pub(crate) fn read(derivation: &[u8], k: u32, sizes: Sizes) -> Result<Step, Refusal>
         ensures { (P : Problem) → P.n ≡ sizes.n → P.m ≡ sizes.m → Reads P derivation.now k result }
     {
-        let Some(step) = Step::at(derivation, k) else {
-            return Err(Reason::StepKind);
-        };
+        let place = k as usize + 1;
+        let step = Step::at(derivation, k).ok_or(Reason::StepKind.at(place))?;
         if !step.is_in_range(sizes) {
-            return Err(Reason::StepField);
+            return Err(Reason::StepField.at(place));
         }
         Ok(step)
     }
@@ -108,7 +107,7 @@ pub fn part_named<'a>(kind: Kind, circuit: &'a [u8], table: &[u32], k: u32) -> &
     if entry_of(kind).names {
         part_of(circuit, table, k)
     } else {
-        &circuit[circuit.len()..]
+        &[]
     }
 }
 

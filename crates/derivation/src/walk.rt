@@ -11,7 +11,7 @@ ghost use Rattle.tags.specs.Tag.{tagged};
 ghost use Rattle.tags.specs.Sheet.{sheet_of};
 ghost use Rattle.derivation.specs.Steps.{walked};
 ghost use Rattle.derivation.specs.Call.{framed};
-ghost use Rattle.derivation.specs.Inner.{padded_by, tagged_in, Noted, Walks};
+ghost use Rattle.derivation.specs.Inner.{padded_by, tagged_in, notes_of, Noted, Walks};
 
 use crate::file::steps_told;
 use crate::sheets::start_with;
@@ -72,10 +72,10 @@ fn note(notes: &mut [bool], k: usize, idle: bool)
     }
 }
 
-// All steps, from the standing that is lent on, which is then the one that they lead to; which of them are idle is noted. Rows are made when a step looks
-// at them. The step is called here, since a function that hands an `Outcome` on clears and copies it once more.
-// Stays: notes, idle steps and the standing as parameters, here and in the two below. The standing is lent, since each function that handed it on by value
-// would clear and copy its 1.3 kB. And a match of what is read: by `map_err` the closure would need a clause that says the same.
+// All steps, from the standing that is lent on, which is then the one that they lead to, or stays if one is refused; of those before it is noted which are
+// idle. Rows are made when a step looks at them. The step is called here, since a function that hands an `Outcome` on clears and copies it once more.
+// Stays: notes and idle steps as parameters, here and in `walk_sized`, as at `walk_file`. And the standing, which is lent, since each function that handed
+// it on by value would clear and copy its 1.3 kB.
 fn walk(
     file: &CircuitFile,
     derivation: &[u8],
@@ -86,7 +86,7 @@ fn walk(
 ) -> Result<(), Refusal>
     requires { places (length file.now.bytes.now) file.now.sizes.m ≤ length rows.old }
     ensures { let p = file.now.sizes.p in Walks (padded_by idle_steps) file.now.bytes.now derivation.now
-        (view p standing.old) (length notes.old) (answer_of result) (view p standing.new) notes.new }
+        (view p standing.old) notes.old (answer_of result) (view p standing.new) notes.new }
 {
     let sizes = file.sizes;
     let constraints = Constraints::new(*file);
@@ -98,10 +98,7 @@ fn walk(
     let count = steps_told(derivation);
     for k in 0..count {
         let place = k as usize + 1;
-        let step = match Step::read(derivation, k, sizes) {
-            Ok(step) => step,
-            Err(reason) => return Err(reason.at(place)),
-        };
+        let step = Step::read(derivation, k, sizes)?;
         let target = u32::from(step.target);
         let named = u32::from(step.constraint);
         let reference = u32::from(step.reference);
@@ -111,11 +108,8 @@ fn walk(
         outcome = outcome
             .next
             .step(step.kind, part, row, sizes.p, target, reference);
-        let Some(idle) = outcome.idle else {
-            return Err(Reason::RuleUnmet.at(place));
-        };
-        let refused = idle_steps.refuse(idle);
-        if refused {
+        let idle = outcome.idle.ok_or(Reason::RuleUnmet.at(place))?;
+        if idle_steps.refuse(idle) {
             return Err(Reason::IdleStep.at(place));
         }
         note(notes, k as usize, idle);
@@ -134,14 +128,14 @@ fn walk_sized<const N: usize>(
 ) -> Result<(), Refusal>
     requires { (places (length file.now.bytes.now) file.now.sizes.m ≤ N) × (N ≤ MOST_ENTRIES) }
     ensures { let p = file.now.sizes.p in Walks (padded_by idle_steps) file.now.bytes.now derivation.now
-        (view p standing.old) (length notes.old) (answer_of result) (view p standing.new) notes.new }
+        (view p standing.old) notes.old (answer_of result) (view p standing.new) notes.new }
 {
     let mut rows = [Entry::NONE; N];
     walk(file, derivation, &mut rows, notes, idle_steps, standing)
 }
 
-// All steps, from the standing that is lent on, which is then the one that they lead to. A small file gets a small array for its rows, since clearing a
-// large one takes longer than a few steps. The derivation is lent as bytes, since `walk_all` serves any.
+// All steps, from the standing that is lent on, which is then the one that they lead to, or stays if one is refused. A small file gets a small array for its
+// rows, since clearing a large one takes longer than a few steps. The derivation is lent as bytes, since `walk_all` serves any.
 // Stays: notes, which the marker lends none of, and `IdleSteps` for one walk of marker and renewal; a closure in place of both would carry its promise
 // through three functions, and so is no plainer.
 pub fn walk_file(
@@ -152,7 +146,7 @@ pub fn walk_file(
     standing: &mut Standing,
 ) -> Result<(), Refusal>
     ensures { let p = file.now.sizes.p in Walks (padded_by idle_steps) file.now.bytes.now derivation.now
-        (view p standing.old) (length notes.old) (answer_of result) (view p standing.new) notes.new }
+        (view p standing.old) notes.old (answer_of result) (view p standing.new) notes.new }
 {
     if places(file.bytes.len(), file.sizes.m) <= FEW_ENTRIES {
         walk_sized::<FEW_ENTRIES>(file, derivation, notes, idle_steps, standing)
@@ -173,6 +167,7 @@ pub fn walk_all(
         ≡ on_circuit (read_circuit circuit.now) (λ C. walked (padded_by idle_steps) (tagged C (sheet_of sheet.now)) derivation.now) }
     ensures noted { let P = tagged_in circuit.now sheet.now in
         OnOk result (Noted P (laws.start P) derivation.now (length notes.old) notes.new) }
+    ensures written { notes.new ≡ notes_of (padded_by idle_steps) circuit.now sheet.now derivation.now notes.old }
 {
     let file = CircuitFile::read(circuit)?;
     let mut standing = start_with(sheet, file.sizes.p, file.sizes.i);

@@ -9,7 +9,7 @@ use crate::step::Step;
 use circuit::reader::VERSION;
 
 // A derivation's mark, its letter and then Q and T.
-// Stays: the bytes as they are written; the reader asks for the letter as a number (`has_mark`).
+// Stays: bytes, as they are written, though the letter stands in `walk` too: the public `has_mark` takes it as `byte_at` gives it, a number of 32 bits.
 const MARK: [u8; 3] = *b"DQT";
 
 // The bytes of a header, and those of a step.

@@ -1,22 +1,17 @@
--- `derivation::marks::count_marks`: the marks of the signals before s are counted.
-use Rattle.std.proofs.Common.{arith, rules, ◌≡◌, ◌+◌}
-use Rattle.rules.specs.View.{mark_in}
-use Rattle.derivation.specs.Call.{bit}
-use Rattle.derivation.proofs.MarkLaws as laws
+-- `derivation::marks::count_marks`: what the chain lets through, counted.
+use Rattle.std.proofs.Common.{rules, refl, ◌∙◌}
+use Rattle.std.proofs.lemmas.Iterator.{YieldsList-from_slice, YieldsList-from_take}
+use Rattle.std.proofs.lemmas.Iterator.Adapters.{YieldsList-from_skip}
+use Rattle.std.proofs.lemmas.Iterator.Consumers.{YieldsList-from_filter, count_from_yields_List}
+use Rattle.derivation.proofs.MarkLaws.{marks_counted}
 use Rattle.derivation.proofs.marks.count_marks.Goals as goal
 
-pub loop-s-init : goal.loop-s-init
-loop-s-init c = record { near = omega arith; few = omega arith; counted = laws.none_counted _ }
-
-pub loop-s-preserved : goal.loop-s-preserved
-loop-s-preserved c =
-    let inv = c.loop-s.invariant in
-    let marked : c.from-count.result ≡ bit (mark_in c.args.marks.now (c.loop-s.s + 1)) = search rules in
-    record {
-      near = omega arith;
-      few = omega (arith, inv.few, laws.bit_most (mark_in c.args.marks.now (c.loop-s.s + 1)), marked);
-      counted = laws.marks_counted _ _ _ _ inv.counted marked;
-    }
-
 pub returns : goal.returns
-returns c = let all : c.loop-s.s ≡ c.args.n = omega (arith, c.loop-s.invariant.near) in rw all at c.loop-s.invariant.counted
+returns c =
+    let M = c.args.marks.now in
+    let F = c.filter-marked.result in
+    let first = YieldsList-from_slice {s = F.iter.iter.iter} M (search rules) in
+    let skipped = YieldsList-from_skip {s = F.iter.iter} 1 first (search rules) in
+    let taken = YieldsList-from_take {s = F.iter} c.args.n skipped (search rules) in
+    count_from_yields_List _ _ c.count.ensures.ran (YieldsList-from_filter {s = F} _ (λ b. b) taken refl (λ x b q k. search rules))
+    ∙ marks_counted M c.args.n

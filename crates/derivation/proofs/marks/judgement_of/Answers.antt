@@ -11,4 +11,4 @@ unfolding view_of
 returns c =
     let t = c.args.tagged.now in
     let long : length c.args.last.now.bounds ≡ 257 = search rules in
-    rw (c.count_marks.ensures, c.verdict_of.ensures, c.shown_of.ensures (sheet_fitting t.file.sizes t.sheet.now _ t.fits) (omega (arith, few_signals _ _ (call_sized c.args.tagged.now.file.read))))
+    rw (c.count_marks.ensures, c.verdict_of.ensures, c.shown_of.ensures.fitting (sheet_fitting t.file.sizes t.sheet.now _ t.fits) (omega (arith, few_signals _ _ (call_sized c.args.tagged.now.file.read))))

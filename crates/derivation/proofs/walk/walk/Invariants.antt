@@ -9,5 +9,5 @@ abbrev pub invariant-loop-k : goal.invariant-loop-k
 invariant-loop-k l =
     let file = l.file in
     Kept file.bytes.now file.sizes l.constraints.offsets l.ends l.rows
-    × ((first : ℕ → ℕ) → Walking (padded_by l.idle_steps) (problem_of file.bytes.now first) l.derivation (view file.sizes.p l.fn.standing) l.notes l.k
+    × ((first : ℕ → ℕ) → Walking (padded_by l.idle_steps) (problem_of file.bytes.now first) l.derivation (view file.sizes.p l.fn.standing) l.fn.notes l.notes l.k
     (view file.sizes.p l.outcome.next))

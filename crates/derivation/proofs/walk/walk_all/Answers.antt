@@ -22,6 +22,19 @@ returns-clause-way c =
     let e = laws.walk_answered _ _ file.read c.start_with-standing.ensures c.in_ok-walk_file.ensures in
     rw (← c.in_ok-file.ensures.same, ← (call_sized file.read).is_p) e
 
+pub returns-in_err-file-clause-written : goal.returns-in_err-file-clause-written
+returns-in_err-file-clause-written c = rw (← c.in_err-file.ensures.answer) refl
+
+pub returns-in_err-walk_file-clause-written : goal.returns-in_err-walk_file-clause-written
+returns-in_err-walk_file-clause-written c =
+    let file = c.in_ok-file.file in
+    rw (← c.in_ok-file.ensures.same) (laws.walk_left _ _ file.read c.start_with-standing.ensures c.in_err-walk_file.ensures)
+
+pub returns-clause-written : goal.returns-clause-written
+returns-clause-written c =
+    let file = c.in_ok-file.file in
+    rw (← c.in_ok-file.ensures.same) (laws.walk_left _ _ file.read c.start_with-standing.ensures c.in_ok-walk_file.ensures)
+
 pub returns-clause-noted : goal.returns-clause-noted
 returns-clause-noted c =
     let file = c.in_ok-file.file in

@@ -10,7 +10,7 @@ pub returns : goal.returns
 unfolding step_bytes
 returns c =
     let x = c.args.self in
-    let n = c.entry_of-number.ensures.number in
+    let n = c.number-number.ensures in
     let t : x.target / 256 % 256 ≡ x.target / 256 = omega arith in
     let k : x.constraint / 256 % 256 ≡ x.constraint / 256 = omega arith in
     let r : x.reference / 256 % 256 ≡ x.reference / 256 = omega arith in
