@@ -1,4 +1,4 @@
-// The renewal call: the frame of the file, its steps by the former rule, then those that aren't idle.
+// The renewal call: the frame of the file, its steps, idle ones let pass, then those that aren't idle.
 
 ghost use Rattle.std.specs.Prelude.{◌≡◌, length};
 ghost use Rattle.circuit.specs.Answer.{answer_of};

@@ -35,9 +35,9 @@ pub(crate) fn copy_steps(derivation: DerivationFile, idle: &[bool], output: &mut
         Bytes d → length (steps_of d) ≡ u16_at d 5 → Copied (unflagged idle.now d (u16_at d 5)) output.old output.new result }
 {
     let mut index = 0;
+    // Stays: a test in the loop; `filter` and `enumerate` would give the places too, and how many there are, the answer, would still be counted here.
     for k in 0..derivation.count() {
-        let kept = is_kept(idle, k as usize);
-        if kept {
+        if is_kept(idle, k as usize) {
             copy_step(derivation.bytes, k, output, index);
             index += 1;
         }
