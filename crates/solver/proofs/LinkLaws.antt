@@ -5,6 +5,9 @@ use mathlib.Core.Bool.{true, false}
 use mathlib.Core.List.{List}
 use mathlib.Core.Logic.{◌⊎◌, inl, inr, ⊎_elim}
 use native.Mathlib.Omega.{arith}
+use Rattle.std.proofs.Common.{rules}
+use Rattle.std.proofs.lemmas.List.{places}
+use borrow.Rule.Slice.PartMut.{put_mid}
 use lib.ListN.{length, get_or, set, take, drop, length-take, length-set, get_or-eq_default}
 use lib.Seq.{get_or-take, get_or-drop, get_or-set_same, get_or-set_other}
 use Rattle.std.specs.Prelude.{Option, None}
@@ -45,19 +48,29 @@ module _ (links : List Link) (i : ℕ) (x : Link) where
 
 -- Noting rows
 
-pub owned_start : (k start : ℕ) (links : List Link) → Owned k start start links links
-owned_start k start links = record { each = λ i a b. absurd (omega arith); kept = λ i g. refl }
+-- a part that has been written
+module _ {A : Type 0} (start n : ℕ) (all part : List A) (fits : start + n ≤ length all) (sized : length part ≡ n) (i : ℕ) (d : A) where
+  part_in : start ≤ i → i < start + n → get_or (put_mid start n all part) i d ≡ get_or part (i - start) d
+  part_in l h = search (rules, places)
 
-pub owned_on : {k start i : ℕ} {before after : List Link} → Owned k start i before after → start ≤ i → i < length after → (x : ℕ)
-    → Owned k start (i + 1) before (set after i (record { before = x; owner = k }))
-owned_on {k} {start} {i} {before} {after} P begun room x =
+  part_below : i < start → get_or (put_mid start n all part) i d ≡ get_or all i d
+  part_below h = search (rules, places)
+
+  part_above : start + n ≤ i → get_or (put_mid start n all part) i d ≡ get_or all i d
+  part_above h = search (rules, places)
+
+pub owned_part : {k start end : ℕ} {links : List Link} (part : List Link) → start ≤ end → end ≤ length links → length part ≡ end - start
+    → ((i : ℕ) → i < end - start → owner_on part i ≡ k) → Owned k start end links (put_mid start (end - start) links part)
+unfolding owner_on
+owned_part {k} {start} {end} {links} part l h sized noted =
+    let fits : start + (end - start) ≤ length links = omega arith in
+    let owner : Link → ℕ = λ (x : Link). x.owner in
     record {
-      each = λ j a b.
-          by_equal j i (λ z. rw z (owner_same after i (record { before = x; owner = k }) room))
-          (λ d. owner_other after i (record { before = x; owner = k }) j d ∙ P.each j a (omega arith));
-      kept = λ j g.
-          owner_other after i (record { before = x; owner = k }) j (λ (z : j ≡ i). ⊎_elim (λ w. omega arith) (λ w. omega arith) g)
-          ∙ P.kept j (⊎_elim inl (λ w. inr (omega arith)) g);
+      each = λ i a b. ap owner (part_in start (end - start) links part fits sized i unlinked a (omega arith)) ∙ noted (i - start) (omega arith);
+      kept = λ i g.
+          ap owner
+          (⊎_elim (part_below start (end - start) links part fits sized i unlinked)
+          (λ b. part_above start (end - start) links part fits sized i unlinked (omega arith)) g);
     }
 
 -- Linking

@@ -11,7 +11,7 @@ pub struct Solved {
 }
 
 // A refusal's number and place, or what was solved.
-// Stays: the form of a call's answer, one enum whose cases carry number and place or the result.
+// Stays: an enum for the call, whose cases carry number and place or the result, is a form of docs/DECISIONS.md.
 #[derive(Clone, Copy, Debug, PartialEq, Eq)]
 pub enum SolverAnswer {
     Refused { number: u32, place: usize },

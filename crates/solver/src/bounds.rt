@@ -1,4 +1,5 @@
 // The bounds phase: of all steps that lower some bound the one with the smallest new bound, until none is left.
+// Stays: that every bound is below p is a premise of contracts, here, in `keys`, in `call` and in `rules::sums`, and no type: p stands in the circuit.
 
 ghost use Rattle.std.specs.Prelude.{◌≡◌, ℕ, ◌≤◌, ◌<◌};
 ghost use Rattle.laws.specs.Problem.{given};

@@ -27,20 +27,20 @@ pub(crate) fn own(links: &mut [Link], start: usize, end: usize, k: u16)
     requires { (start ≤ end) × (end ≤ length links.old) }
     ensures { Owned k start end links.old links.new }
 {
-    for i in start..end {
-        links[i].owner = k;
+    for link in &mut links[start..end] {
+        link.owner = k;
     }
 }
 
 // Links each of the first `end` entries to the last one before it with the same signal.
-// Stays: a test of the index, since nothing is known of a slice's elements after its `get_mut`.
+// Stays: links and lasts by index, since nothing is known of a slice's elements after its `get_mut`, or after its `iter_mut` in a `zip`.
 pub(crate) fn link_entries(rows: &[Entry], lasts: &mut [u16], links: &mut [Link], end: usize)
     requires { Linkable end rows.now lasts.old links.old }
     ensures linked { Linked rows.now end lasts.new links.new }
     ensures owned { SameOwners links.old links.new }
 {
-    for e in 0..end {
-        let signal = usize::from(rows[e].signal);
+    for (e, entry) in rows[..end].iter().enumerate() {
+        let signal = usize::from(entry.signal);
         links[e].before = lasts.get(signal).copied().unwrap_or(0);
         if signal < lasts.len() {
             lasts[signal] = e as u16 + 1;

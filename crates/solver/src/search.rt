@@ -15,13 +15,9 @@ use rules::rows::Entry;
 pub(crate) fn signal_in(part: &[u8]) -> Option<u32>
     ensures { SomeNamed (form_in part.now) result }
 {
-    for i in 0..term_count(part) {
-        let signal = term_at(part, i).signal;
-        if 0 < signal && signal <= SIGNALS_MOST {
-            return Some(signal);
-        }
-    }
-    None
+    (0..term_count(part))
+        .map(|i| term_at(part, i).signal)
+        .find(|signal| (1..=SIGNALS_MOST).contains(signal))
 }
 
 // The one unmarked signal of a row, if C alone names it: where the constraint isn't linear, the target of its product step.
@@ -30,8 +26,7 @@ pub(crate) fn product_target(row: &[Entry], marks: &[bool]) -> Option<u32>
         → SomeAlone n K (mark_in marks.now) result }
 {
     let mut found: Option<u32> = None;
-    for i in 1..row.len() {
-        let entry = row[i];
+    for entry in row.iter().skip(1) {
         if entry.is_marked(marks) {
             continue;
         }

@@ -117,14 +117,13 @@ impl<'a> Table<'a> {
 }
 
 // Makes the rows of all constraints, and notes whose entries they hold.
-// Stays: constraints, ends and rows apart, since the kit proves no ghost field beside a lent slice that is written; and `passed + 1`, as in `least_key`.
+// Stays: constraints, ends and rows apart, since the kit proves no ghost field beside a lent slice that is written.
 fn make_rows(constraints: &Constraints, ends: &mut [u32], rows: &mut [Entry], links: &mut [Link])
     requires { Blank (length constraints.now.file.bytes.now) constraints.now.file.sizes.m ends.old rows.old links.old }
     ensures { Made (circuit_of constraints.now.file.bytes.now) constraints.now.offsets constraints.now.file.sizes.m ends.new rows.new links.new }
 {
     let file = constraints.file;
-    for passed in 0..file.sizes.m {
-        let k = passed + 1;
+    for k in 1..=file.sizes.m {
         make_row(file.bytes, &constraints.offsets, ends, rows, file.sizes, k);
         let start = start_of(&constraints.offsets, k);
         let end = ends[k as usize] as usize;

@@ -1,5 +1,7 @@
-use Rattle.std.proofs.Common.{arith, rules, ◌≡◌, ◌+◌, ◌∙◌, sym, set, get_or}
+use Rattle.std.proofs.Common.{arith, rules, ◌≡◌, ◌<◌, ◌+◌, ◌∙◌, sym, ap, set, get_or}
 use lib.Seq.{set_out}
+use Rattle.std.proofs.lemmas.List.{get_or-take, length-take-le}
+use Rattle.rules.specs.declared.rows.Entry.{Entry}
 use Rattle.rules.specs.Rows.{at, nothing, entry_at, signal_on}
 use Rattle.solver.specs.Links.{unlinked, owner_on}
 use Rattle.solver.proofs.LinkLaws as laws
@@ -20,8 +22,12 @@ loop-e-preserved c =
       | else-signal-lasts w ↦ w.lasts-is ∙ sym (set_out _ _ _ w.if-signal-lasts.false)
     ] in
     let inv = c.loop-e.invariant in
-    rw found
-    (laws.linked_on c.requires inv.0 inv.1 (omega arith) signal c.from-signal.ensures noted, laws.owners_on c.requires inv.0 inv.1 (omega arith) signal c.from-signal.ensures)
+    let more : c.loop-e.e < c.args.end = omega (arith, length-take-le c.args.end c.args.rows.now c.requires.inside) in
+    let is : signal ≡ signal_on c.args.rows.now c.loop-e.e
+    = c.from-signal.ensures ∙ ap (λ (x : Entry). x.signal) (get_or-take c.args.end c.args.rows.now c.loop-e.e nothing more) in
+    rw found (laws.linked_on c.requires inv.0 inv.1 more signal is noted, laws.owners_on c.requires inv.0 inv.1 more signal is)
 
 pub returns-clause-linked : goal.returns-clause-linked
-returns-clause-linked c = let all : c.loop-e.e ≡ c.args.end = omega arith in rw all at c.loop-e.invariant.0
+returns-clause-linked c =
+    let all : c.loop-e.e ≡ c.args.end = omega (arith, length-take-le c.args.end c.args.rows.now c.requires.inside) in
+    rw all at c.loop-e.invariant.0

@@ -1,6 +1,7 @@
--- The entries from start to i are noted.
-use Rattle.solver.specs.Links.{Owned}
+-- The links passed are noted.
+use Rattle.std.proofs.Common.{ℕ, ◌≡◌, ◌<◌}
+use Rattle.solver.specs.Links.{owner_on}
 use Rattle.solver.proofs.links.own.Given as goal
 
-abbrev pub invariant-loop-i : goal.invariant-loop-i
-invariant-loop-i l = Owned l.k l.start l.i l.initial.links l.links
+abbrev pub invariant-loop-link : goal.invariant-loop-link
+invariant-loop-link l = (i : ℕ) → i < l.link-index → owner_on l.link-items i ≡ l.k

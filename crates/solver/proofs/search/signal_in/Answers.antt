@@ -1,25 +1,14 @@
-use Rattle.std.proofs.Common.{arith}
+-- The first of the terms' signals that lies within.
+use Rattle.std.proofs.Common.{rules, arith}
+use Rattle.std.proofs.lemmas.Iterator.{YieldsList-from_range, YieldsList-from_map, first_from_find}
 use Rattle.solver.proofs.SearchLaws as laws
+use Rattle.solver.proofs.SearchLaws.{signal_at}
 use Rattle.solver.proofs.search.signal_in.Goals as goal
-use Rattle.solver.proofs.search.signal_in.Goals.{
-  else-signal-gt0-via-then-signal-gt0+else-signal-le-SIGNALS_MOST,
-  else-signal-gt0-via-else-signal-gt0,
-}
-
-pub loop-i-init : goal.loop-i-init
-loop-i-init c = laws.unfound_start _ _ (omega (arith, c.term_count-i-end.ensures.0))
-
-pub returns-then-signal-le-SIGNALS_MOST : goal.returns-then-signal-le-SIGNALS_MOST
-returns-then-signal-le-SIGNALS_MOST c =
-    laws.signal_found _ _ _ _ c.loop-i.invariant (omega arith) _ c.term_at-signal.ensures.0 c.if-signal-gt0.true c.if-signal-le-SIGNALS_MOST.true
-
-pub loop-i-preserved : goal.loop-i-preserved
-loop-i-preserved c =
-    laws.signal_on _ _ _ _ c.loop-i.invariant (omega arith) _ c.term_at-signal.ensures.0 (omega arith) (omega arith)
-    (elim c.else-signal-gt0.branch [
-      | else-signal-gt0-via-then-signal-gt0+else-signal-le-SIGNALS_MOST w ↦ λ l h. omega (arith, h, w.if-signal-le-SIGNALS_MOST.false)
-      | else-signal-gt0-via-else-signal-gt0 w ↦ λ l h. omega (arith, l, w.if-signal-gt0.false)
-    ])
 
 pub returns : goal.returns
-returns c = laws.signal_none _ _ _ _ c.loop-i.invariant (omega arith)
+unfolding signal_at
+returns c =
+    laws.signal_first _ _ c.term_count.ensures.0 _
+    (first_from_find _ _ _ laws.Inside laws.Outside c.find.ensures.ran
+    (YieldsList-from_map _ (signal_at _) (YieldsList-from_range 0 c.term_count.result _ (search rules) (omega arith)) c.map.ensures.closure (λ x r q called. search rules))
+    (λ x q called. search rules) (λ x q called. search rules))
