@@ -3,10 +3,10 @@
 use crate::record::{Kind, Record, Refusal};
 use std::array;
 
-// What buffers and lent numbers are filled with before a call.
+// What each byte of buffers and of lent numbers is before a call, and what such a number is.
 const FILLING: u8 = 165;
 
-const UNTOUCHED: u64 = 11936128518282651045;
+const UNTOUCHED: u64 = FILLING as u64 * 0x0101_0101_0101_0101;
 
 // What a call returned, and the lent numbers after it, with the filling in place of those that aren't lent.
 #[derive(Clone, Copy, Debug, PartialEq, Eq)]
@@ -25,14 +25,13 @@ impl Record<'_> {
         if self.call(lent) != self.told() {
             return false;
         }
-        match buffer.strip_prefix(self.written) {
-            Some(rest) => rest.iter().all(|byte| *byte == FILLING),
-            None => false,
-        }
+        buffer
+            .strip_prefix(self.written)
+            .is_some_and(|rest| rest.iter().all(|byte| *byte == FILLING))
     }
 
     // Makes the call.
-    // Stays: a match on the kind, since each call takes arguments of its own: closures would be five bodies all the same.
+    // Stays: a match on the kind, since each call takes arguments of its own: closures would be five bodies anyway.
     fn call(&self, lent: &mut [u8]) -> Told {
         let Record {
             circuit,
@@ -44,7 +43,7 @@ impl Record<'_> {
         let returned = match self.kind {
             Kind::Read => exports::yolqushek_read(circuit, &mut numbers),
             Kind::Derivation => {
-                // Stays: an array of its own, since the call takes four numbers and the record compares five.
+                // Stays: an array of its own: `first_chunk_mut` lends four of the five, but by an Option, never None here, which is no plainer.
                 let mut four = [UNTOUCHED; 4];
                 let returned = exports::yolqushek_mark(circuit, sheet, hand_in, lent, &mut four);
                 numbers[..4].copy_from_slice(&four);

@@ -48,7 +48,7 @@ impl Tally {
     }
 
     fn add(&mut self, kind: Kind, agrees: bool) -> Result<(), AllocError> {
-        let count = self.counts.entry(kind)?.or_insert(Count::default());
+        let count = self.counts.entry(kind)?.or_default();
         count.calls = count.calls.saturating_add(1);
         count.agreeing = count.agreeing.saturating_add(u32::from(agrees));
         Ok(())

@@ -20,26 +20,30 @@ const OPTIONS: [&str; 1] = [TAGS];
 // A file's name as it was given, which need not be UTF-8.
 pub type Name = Vec<u8>;
 
-// What is asked. `tags` names the sheet, where one is given.
+// The names of a circuit and of the sheet that comes with it, where one is given.
+#[derive(Debug, Drop, PartialEq, Eq)]
+pub struct Sources {
+    pub(crate) circuit: Name,
+    pub(crate) tags: Option<Name>,
+}
+
+// What is asked.
 #[derive(Debug, Drop, PartialEq, Eq)]
 pub enum Command {
     Help,
     SolveInput,
     Solve {
-        circuit: Name,
+        sources: Sources,
         output: Name,
-        tags: Option<Name>,
     },
     Mark {
-        circuit: Name,
+        sources: Sources,
         hand_in: Name,
-        tags: Option<Name>,
     },
     Renew {
-        circuit: Name,
+        sources: Sources,
         derivation: Name,
         output: Name,
-        tags: Option<Name>,
     },
     Runs {
         circuit: Name,
@@ -66,25 +70,20 @@ pub(crate) fn asked(rt: HostRuntime) -> Result<Command, Failure<'static>> {
 
 // The arguments after the program's own name.
 fn arguments(rt: HostRuntime) -> Result<Vec<Name>, AllocError> {
-    let mut all = Vec::new(rt.alloc());
     let mut room = vec![in rt.alloc(); 0; ARGUMENT]?;
-    for k in 1..usize::MAX {
-        let Some(argument) = argument(rt, k, &mut room)? else {
-            break;
-        };
-        all.push(argument)?;
-    }
-    Ok(all)
+    (1..usize::MAX)
+        .map_while(|k| argument(rt, k, &mut room))
+        .try_collect(rt.alloc())
 }
 
 // Argument k, if there is one.
 // Stays: an argument longer than the room is an empty name, which no command and no file has. Linux passes no such argument, so a failure of its own
 // would be a case that never comes.
-fn argument(rt: HostRuntime, k: usize, room: &mut [u8]) -> Result<Option<Name>, AllocError> {
+fn argument(rt: HostRuntime, k: usize, room: &mut [u8]) -> Option<Result<Name, AllocError>> {
     match rt.arg(k, room) {
-        Ok(length) => Ok(Some(room[..length].to_vec(rt.alloc())?)),
-        Err(FillError::TooLong) => Ok(Some(Vec::new(rt.alloc()))),
-        Err(FillError::NotPresent) => Ok(None),
+        Ok(length) => Some(room[..length].to_vec(rt.alloc())),
+        Err(FillError::TooLong) => Some(Ok(Vec::new(rt.alloc()))),
+        Err(FillError::NotPresent) => None,
     }
 }
 
@@ -136,27 +135,21 @@ impl Request {
         let command = match word.as_slice() {
             b"solve" => {
                 let [circuit, output] = <[Name; 2]>::try_from(operands).ok()?;
-                Command::Solve {
-                    circuit,
-                    output,
-                    tags,
-                }
+                let sources = Sources { circuit, tags };
+                Command::Solve { sources, output }
             }
             b"mark" => {
                 let [circuit, hand_in] = <[Name; 2]>::try_from(operands).ok()?;
-                Command::Mark {
-                    circuit,
-                    hand_in,
-                    tags,
-                }
+                let sources = Sources { circuit, tags };
+                Command::Mark { sources, hand_in }
             }
             b"renew" => {
                 let [circuit, derivation, output] = <[Name; 3]>::try_from(operands).ok()?;
+                let sources = Sources { circuit, tags };
                 Command::Renew {
-                    circuit,
+                    sources,
                     derivation,
                     output,
-                    tags,
                 }
             }
             b"runs" if tags.is_none() => {

@@ -1,6 +1,6 @@
 // The program's commands: each reads its operands and what its options name, calls the libraries and prints the answer.
 
-use crate::arguments::Command;
+use crate::arguments::{Command, Sources};
 use crate::failure::Failure;
 use crate::listing::{Judged, Listing, Pair, Refused, Summary};
 use crate::text::print;
@@ -42,22 +42,13 @@ pub(crate) fn run(rt: HostRuntime, command: &Command) -> Result<(), Failure<'_>>
     match command {
         Command::Help => print(rt, USAGE),
         Command::SolveInput => solve_input(rt),
-        Command::Solve {
-            circuit,
-            output,
-            tags,
-        } => solve(rt, circuit, output, tags.as_deref()),
-        Command::Mark {
-            circuit,
-            hand_in,
-            tags,
-        } => mark(rt, circuit, hand_in, tags.as_deref()),
+        Command::Solve { sources, output } => solve(rt, sources, output),
+        Command::Mark { sources, hand_in } => mark(rt, sources, hand_in),
         Command::Renew {
-            circuit,
+            sources,
             derivation,
             output,
-            tags,
-        } => renew(rt, circuit, derivation, output, tags.as_deref()),
+        } => renew(rt, sources, derivation, output),
         Command::Runs { circuit } => list_runs(rt, circuit),
     }
 }
@@ -83,26 +74,16 @@ fn solve_input(rt: HostRuntime) -> Result<(), Failure<'static>> {
 }
 
 // solve CIRCUIT OUT: the same for a file, and the derivation into another, which is not touched where the circuit or the sheet is refused.
-fn solve<'a>(
-    rt: HostRuntime,
-    circuit: &'a [u8],
-    output: &'a [u8],
-    tags: Option<&'a [u8]>,
-) -> Result<(), Failure<'a>> {
-    let given = Given::read(rt, circuit, tags, Some(output))?;
+fn solve<'a>(rt: HostRuntime, sources: &'a Sources, output: &'a [u8]) -> Result<(), Failure<'a>> {
+    let given = Given::read(rt, sources, Some(output))?;
     let mut derivation = vec![in rt.alloc(); 0; SOLVED]?;
     let answer = solver::call::solve(&given.circuit, given.sheet(), &mut derivation);
     given.take_answer(rt, answer, derivation, Some(output))
 }
 
 // mark CIRCUIT HANDIN
-fn mark<'a>(
-    rt: HostRuntime,
-    circuit: &'a [u8],
-    hand_in: &'a [u8],
-    tags: Option<&'a [u8]>,
-) -> Result<(), Failure<'a>> {
-    let given = Given::read(rt, circuit, tags, None)?;
+fn mark<'a>(rt: HostRuntime, sources: &'a Sources, hand_in: &'a [u8]) -> Result<(), Failure<'a>> {
+    let given = Given::read(rt, sources, None)?;
     let hand_in = files::read(rt, hand_in, None, HAND_IN)?;
     given.judge(rt, &hand_in)
 }
@@ -110,12 +91,11 @@ fn mark<'a>(
 // renew CIRCUIT DERIVATION OUT: OUT is not touched where anything is refused.
 fn renew<'a>(
     rt: HostRuntime,
-    circuit: &'a [u8],
+    sources: &'a Sources,
     derivation: &'a [u8],
     output: &'a [u8],
-    tags: Option<&'a [u8]>,
 ) -> Result<(), Failure<'a>> {
-    let given = Given::read(rt, circuit, tags, Some(output))?;
+    let given = Given::read(rt, sources, Some(output))?;
     let derivation = files::read(rt, derivation, Some(output), HAND_IN)?;
     given.renew(rt, &derivation, output)
 }
@@ -134,15 +114,15 @@ struct Given {
 }
 
 impl Given {
-    // The files by their names, in this order. Neither may be the output.
+    // The files by their names, the circuit first. Neither may be the output.
     fn read<'a>(
         rt: HostRuntime,
-        circuit: &'a [u8],
-        tags: Option<&'a [u8]>,
+        sources: &'a Sources,
         output: Option<&'a [u8]>,
     ) -> Result<Given, Failure<'a>> {
-        let circuit = files::read(rt, circuit, output, CIRCUIT)?;
-        let sheet = match tags {
+        let circuit = files::read(rt, &sources.circuit, output, CIRCUIT)?;
+        // Stays: by `map` and `transpose` the closure isn't covered: in its result the lifetimes of both names meet, and a closure names none.
+        let sheet = match &sources.tags {
             Some(tags) => Some(files::read(rt, tags, output, SHEET)?),
             None => None,
         };
@@ -150,10 +130,7 @@ impl Given {
     }
 
     fn sheet(&self) -> &[u8] {
-        match &self.sheet {
-            Some(sheet) => sheet,
-            None => NO_TAGS,
-        }
+        self.sheet.as_deref().unwrap_or(NO_TAGS)
     }
 
     // Prints what the solver answers, with the bytes that it wrote.

@@ -3,18 +3,18 @@
 use crate::failure::Failure;
 use crate::listing::{Refused, Run};
 use crate::text::{Pages, print, told};
-use circuit::bytes::u16_at;
+use circuit::file::CircuitFile;
 use runs::answer::RunAnswer;
-use runs::call::{CANDIDATES_MOST, VALUES_MOST, first_run, next_run};
+use runs::call::{CANDIDATES_MOST, first_run, next_run};
 use std::io;
 use std::io::Write;
 use std::mem::swap;
 
-// Prints every run and how many there are, or the refusal. The call is lent as many values as the circuit has signals; where that is more than there is room
-// for, it refuses before it looks at the length.
+// Prints every run and how many there are, or the refusal. The call is lent as many values as the circuit has signals, and none where it is no circuit: that
+// it refuses before it looks at the length.
 pub(crate) fn print_runs(rt: HostRuntime, circuit: &[u8]) -> Result<(), Failure<'static>> {
-    let signals = u16_at(circuit, 9) as usize;
-    let mut run = vec![in rt.alloc(); 0; signals.min(VALUES_MOST)]?;
+    let signals = CircuitFile::read(circuit).map_or(0, |file| file.sizes.n as usize);
+    let mut run = vec![in rt.alloc(); 0; signals]?;
     let first = first_run(circuit, &mut run);
     match first {
         RunAnswer::Refused { number, place } => print(rt, Refused { number, place }),
@@ -33,6 +33,7 @@ fn print_from(
     let mut next = run.clone()?;
     let mut answer = first;
     let mut count = 0;
+    // Stays: a range that breaks, since that the runs end is shown by their number; a `while let` would need the order of runs for it, and count by hand.
     for k in 0..CANDIDATES_MOST {
         let RunAnswer::Written = answer else { break };
         writeln!(pages, "{}", Run(&run))?;

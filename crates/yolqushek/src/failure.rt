@@ -70,8 +70,6 @@ fn tell_fault(rt: HostRuntime, name: &[u8], fault: Fault) -> io::Result<()> {
 
 // The system's words for what failed, without the number that std puts after them.
 fn without_number(told: &str) -> &str {
-    match told.rsplit_once(" (os error ") {
-        Some((words, _)) => words,
-        None => told,
-    }
+    told.rsplit_once(" (os error ")
+        .map_or(told, |(words, _)| words)
 }

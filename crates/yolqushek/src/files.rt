@@ -52,10 +52,7 @@ fn open_update(rt: HostRuntime, name: &[u8]) -> Result<File, Fault> {
 
 // Whether an open file is the one with a name.
 fn is_file_of(rt: HostRuntime, file: &File, name: &[u8]) -> bool {
-    match open_update(rt, name) {
-        Ok(other) => are_same(rt, file, &other),
-        Err(_) => false,
-    }
+    open_update(rt, name).is_ok_and(|other| are_same(rt, file, &other))
 }
 
 // Whether two open files have one name, by what the system calls them. Where std can't tell either name, they are told apart by the system's numbers for them;
@@ -113,10 +110,8 @@ fn is_link(rt: HostRuntime, path: &str) -> bool {
 
 // Only a regular file has an end to go to and takes a length; the one that it has leaves it as it is.
 fn is_regular(mut file: &File) -> bool {
-    match file.seek(SeekFrom::End(0)) {
-        Ok(end) => file.set_len(end).is_ok(),
-        Err(_) => false,
-    }
+    file.seek(SeekFrom::End(0))
+        .is_ok_and(|end| file.set_len(end).is_ok())
 }
 
 // The path of a new file in the folder of a path: `.yolqushek-` and 16 random digits.
