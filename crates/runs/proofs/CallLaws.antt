@@ -18,12 +18,12 @@ use Rattle.circuit.proofs.AnswerLaws.{ask_given}
 use Rattle.circuit.proofs.SearchLaws.{passed}
 use Rattle.circuit.proofs.Sized.{call_sized, on_sized, on_refused}
 use Rattle.runs.specs.Call.{Found, first_run, next_run, few, fits, first_on, next_on, first_call, next_call}
-use Rattle.runs.specs.Listed.{EachBelow, IsLeast, Later, FirstAnswer, NextAnswer}
+use Rattle.runs.specs.Listed.{EachBelow, IsLeast, Later, FirstAnswer, NextAnswer, ListedAnswer}
 use Rattle.runs.specs.Answer.{paper_of, run_answer}
 use Rattle.runs.specs.Inner.{Candidate, Rose, Ended, roomy, Seeks, Answers}
 use Rattle.runs.proofs.CountLaws.{few_signals}
 use Rattle.runs.proofs.SearchLaws.{rose_candidate}
-use Rattle.runs.proofs.Listed.{first_least, next_least, first_answer, next_answer}
+use Rattle.runs.proofs.Listed.{first_least, next_least, first_answer, next_answer, listed_answer}
 use Rattle.runs.proofs.SeekLaws as seek
 use Rattle.runs.proofs.SeekLaws.{answers_by}
 
@@ -178,3 +178,6 @@ first_says s room e = rw e (first_answer s room)
 
 pub next_says : (s run : List ℕ) (room : ℕ) {r : Answer Found} → r ≡ next_call s run room → NextAnswer s run room r
 next_says s run room e = rw e (next_answer s run room)
+
+pub first_lists : (s : List ℕ) (room : ℕ) {r : Answer Found} → r ≡ first_call s room → ListedAnswer s room r
+first_lists s room e = rw e (listed_answer s room)

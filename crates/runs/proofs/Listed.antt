@@ -22,7 +22,7 @@ use Rattle.circuit.proofs.WellFormed.{read_well_formed}
 use Rattle.laws.proofs.Sum.{false_by}
 use Rattle.runs.specs.Order.{Before, precedes, passing, first_of, satisfies, runs_of}
 use Rattle.runs.specs.Call.{Found, first_run, next_run, few, fits, first_on, next_on, first_call, next_call}
-use Rattle.runs.specs.Listed.{Least, IsLeast, Later, EachBelow, First, Next, FirstAnswer, NextAnswer, Listed}
+use Rattle.runs.specs.Listed.{Least, IsLeast, Later, EachBelow, First, Next, FirstAnswer, NextAnswer, Listed, ListedAnswer}
 use Rattle.runs.specs.Listed.{Gives, over, more, In, Rising, no_runs, rises}
 use Rattle.runs.proofs.Orders.{before_irreflexive, before_not, compare, precedes_before, before_precedes}
 use Rattle.runs.proofs.CandidateLaws.{candidate_run, run_candidate, candidates_rising, in_passing, passing_in, passing_rising, passing_no, passing_all}
@@ -195,7 +195,7 @@ pub next_answer : (s run : List ℕ) (room : ℕ) → NextAnswer s run room (nex
 next_answer s run room C size read = rw (next_read s C size read run room) (next_on_lem C (positive s C size read) run room)
 
 -- LISTED
-pub listed : (s : List ℕ) (C : Circuit) (size : ℕ) → read_circuit s ≡ whole C size → C.p ^ C.n ≤ 65536 → Listed s C (runs_of C)
+pub listed : (s : List ℕ) (C : Circuit) (size : ℕ) → read_circuit s ≡ whole C size → C.p ^ C.n ≤ 65536 → Listed s C (first_call s C.n) (runs_of C)
 listed s C size read h =
     record {
       gives = gives s C size read h;
@@ -203,3 +203,6 @@ listed s C size read h =
       all = λ run. satisfying_in C (positive s C size read);
       only = λ run. runs_satisfying C;
     }
+
+pub listed_answer : (s : List ℕ) (room : ℕ) → ListedAnswer s room (first_call s room)
+listed_answer s room C size read h e = rw e (runs_of C, listed s C size read h)

@@ -8,7 +8,7 @@ use Rattle.circuit.specs.Reading.{whole}
 use Rattle.circuit.specs.Reader.{read_circuit}
 use Rattle.circuit.specs.Answer.{Answer, given}
 use Rattle.runs.specs.Order.{Before}
-use Rattle.runs.specs.Call.{Found, first_call, next_call}
+use Rattle.runs.specs.Call.{Found, next_call}
 
 -- the least of the runs with a property, or none if there is no such run
 pub record Least (P : List ℕ → Type 0) (run : List ℕ) : Type 0 where
@@ -60,9 +60,14 @@ pub data Rising : List (List ℕ) → Type 0 where
   rises : {run : List ℕ} {runs : List (List ℕ)} → ((other : List ℕ) → In other runs → Before (value_of run) (value_of other)) → Rising runs
       → Rising (run ∷ runs)
 
--- LISTED: the runs that the calls give on the bytes of a circuit C, from the first by the next to the end
-pub record Listed (s : List ℕ) (C : Circuit) (runs : List (List ℕ)) : Type 0 where
-  pub gives : Gives s C.n (first_call s C.n) runs
+-- LISTED: the runs that the calls give on the bytes s of a circuit C, from the answer r of the first-run call by the next-run call to the end
+pub record Listed (s : List ℕ) (C : Circuit) (r : Answer Found) (runs : List (List ℕ)) : Type 0 where
+  pub gives : Gives s C.n r runs
   pub rising : Rising runs
   pub all : (run : List ℕ) → Satisfying C run → In run runs
   pub only : (run : List ℕ) → In run runs → Satisfying C run
+
+-- for every circuit that isn't refused and isn't too large
+abbrev pub ListedAnswer : List ℕ → ℕ → Answer Found → Type 0
+ListedAnswer s room r =
+    (C : Circuit) (size : ℕ) → read_circuit s ≡ whole C size → C.p ^ C.n ≤ 65536 → room ≡ C.n → (runs : List (List ℕ)) × Listed s C r runs

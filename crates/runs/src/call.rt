@@ -6,7 +6,7 @@ ghost use Rattle.circuit.specs.Run.{values_in};
 ghost use Rattle.circuit.specs.Answer.{answer_of};
 ghost use Rattle.circuit.specs.Call.{circuit_of};
 ghost use Rattle.runs.specs.Call.{first_call, next_call, left_by};
-ghost use Rattle.runs.specs.Listed.{FirstAnswer, NextAnswer};
+ghost use Rattle.runs.specs.Listed.{FirstAnswer, NextAnswer, ListedAnswer};
 ghost use Rattle.runs.specs.Answer.{paper_of, run_answer};
 ghost use Rattle.runs.specs.Inner.{roomy, Candidate, Seeks, Answers};
 
@@ -106,6 +106,7 @@ pub fn first_run(circuit: &[u8], answer: &mut [u32]) -> RunAnswer
     ensures answer { paper_of result answer.new ≡ first_call circuit.now (length answer.old) }
     ensures written { answer.new ≡ left_by (first_call circuit.now (length answer.old)) answer.old }
     ensures least { FirstAnswer circuit.now (length answer.old) (paper_of result answer.new) }
+    ensures listed { ListedAnswer circuit.now (length answer.old) (paper_of result answer.new) }
 {
     RunAnswer::from(first_on(circuit, answer))
 }

@@ -38,15 +38,15 @@ returns-then-is_none c =
     laws.next_ended _ c.in_ok-file.ensures.answer c.args.run.now c.if-run-sizes.false c.in_default.ensures c.args.answer.now c.in_ok-check_room.ensures
     (has_ended c.advance.result c.if-is_none.ensures (rw c.values_of-values.ensures at c.advance.ensures.rose))
 
+pub returns : goal.returns
+returns c =
+    let R = has_risen c.advance.result c.if-is_none.ensures (rw c.values_of-values.ensures at c.advance.ensures.rose) in
+    laws.next_found _ c.in_ok-file.ensures.answer c.args.run.now c.if-run-sizes.false c.in_default.ensures c.args.answer.now c.in_ok-check_room.ensures
+    R.1 (rw c.in_ok-file.ensures.same at c.seek.ensures)
+
 pub seek-requires : goal.seek-requires
 seek-requires c =
     let read = c.in_ok-file.ensures.answer in
     let room = c.in_ok-check_room.ensures in
     let R = has_risen c.advance.result c.if-is_none.ensures (rw c.values_of-values.ensures at c.advance.ensures.rose) in
     (laws.few_here _ read _ room, laws.room_here _ read _ room, laws.next_ready _ read c.args.run.now c.if-run-sizes.false c.in_default.ensures R.1)
-
-pub returns : goal.returns
-returns c =
-    let R = has_risen c.advance.result c.if-is_none.ensures (rw c.values_of-values.ensures at c.advance.ensures.rose) in
-    laws.next_found _ c.in_ok-file.ensures.answer c.args.run.now c.if-run-sizes.false c.in_default.ensures c.args.answer.now c.in_ok-check_room.ensures
-    R.1 (rw c.in_ok-file.ensures.same at c.seek.ensures)
