@@ -22,13 +22,17 @@ use Rattle.laws.specs.Standing.{put, add, lower, mark, is_input, start}
 use Rattle.laws.specs.Sum.{sum, all, keep, implies}
 use Rattle.circuit.specs.Circuit.{constraint_at, coef, names, value_of, eval}
 use Rattle.circuit.specs.Run.{holds}
-use Rattle.circuit.specs.Runs.{value_at, run_in, first_from, below, satisfied_by, agree}
+use Rattle.circuit.specs.Runs.{value_at, run_in, first_from, below, satisfied_by, unsatisfied, agree}
 use Rattle.circuit.specs.Call.{circuit_of}
 use Rattle.circuit.specs.Bytes.{byte_at, u16_at, u32_at}
 use Rattle.circuit.specs.Reader.{read_terms, read_form, read_constraint, read_constraints, has_mark, sizes_fit, read_body, read_circuit}
 use Rattle.field.specs.Prime.{trial, no_divisor, odd_prime}
 use Rattle.field.specs.Residue.{opposite}
 use Rattle.field.specs.Inverse.{inverse_from, inverse}
+use Rattle.runs.specs.Order as order
+use Rattle.runs.specs.Order.{starting_below, candidates, passing, satisfies, runs_of}
+use Rattle.runs.specs.Call.{first_run, next_run, few, first_on, next_on, first_call, next_call}
+use Rattle.runs.specs.Call as runs
 use Rattle.cases.specs.Encode.{u16_bytes, u32_bytes, terms_bytes, form_bytes, constraints_bytes, circuit_bytes, entries_bytes, sheet_bytes, values_bytes, pair_bytes, one_step}
 use Rattle.cases.specs.Table.{Row, bounds_from, table, found}
 
@@ -43,4 +47,5 @@ unfolding own reached solved solver_on solver_call solver_output step_bytes step
     read_constraint read_constraints has_mark sizes_fit read_body read_circuit trial no_divisor odd_prime opposite inverse_from inverse u16_bytes
     u32_bytes terms_bytes form_bytes constraints_bytes circuit_bytes entries_bytes sheet_bytes values_bytes pair_bytes one_step bounds_from circuit_of limit least_of
     lowered first_bound keeps kept on_other is_shown shown_of not_missed shown_by sheet.kind_of read_tag tag_in sheet_of entry_fits framed sheet_on
+    starting_below candidates passing satisfies unsatisfied runs_of order.precedes first_run next_run few runs.fits first_on next_on first_call next_call
 cases = refl

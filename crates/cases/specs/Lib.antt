@@ -1,3 +1,4 @@
 pub mod Encode
 pub mod Circuits
 pub mod Table
+pub mod Listings

@@ -1,6 +1,7 @@
--- The shared table of cases a to j (Rule 7.4), of false rules that look sound (Rule 7.5), of tags (Rule 7.6) and of idle steps (Rule 7.9): each row names
--- a circuit's bytes, those of a sheet, the call with what is handed in, and what the rules say of it.
+-- The shared table of cases a to j (Rule 7.4), of false rules that look sound (Rule 7.5), of tags (Rule 7.6), of idle steps (Rule 7.9) and of runs listed
+-- (Rule 7.11): each row names a circuit's bytes, those of a sheet, the call with what is handed in, and what the rules say of it.
 use Rattle.std.specs.Prelude.{ℕ, zero, suc, ◌+◌, ◌*◌, ◌-◌, true, false, List, [], ◌∷◌, ◌++◌, length, take, replicate}
+use Rattle.std.proofs.Math.Option.{none, some}
 use Rattle.circuit.specs.Circuit.{Circuit}
 use Rattle.circuit.specs.Reading.{Reading, whole, fault}
 use Rattle.circuit.specs.Reader.{read_circuit}
@@ -15,10 +16,12 @@ use Rattle.derivation.specs.Encoded.{encoded}
 use Rattle.pair.specs.Call as pair
 use Rattle.renewal.specs.Call as renewal
 use Rattle.solver.specs.Call as solver
+use Rattle.runs.specs.Call as runs
 use Rattle.cases.specs.Encode.{circuit_bytes, sheet_bytes, pair_bytes, one_step}
 use Rattle.cases.specs.Circuits.{circuit_a, circuit_b, circuit_c, circuit_d, circuit_e, circuit_f, circuit_g, copy, bare, bits, carry, is_binary, has_bits, is_most}
 
--- a call: reading the circuit, solving it, judging a hand-in or renewing one; or the bounds that a derivation reaches
+-- a call: reading the circuit, solving it, judging a hand-in or renewing one, the first run or the one after a given one, with so much room; or the bounds
+-- that a derivation reaches
 pub data Asked : Type 0 where
   reading : Asked
   solving : Asked
@@ -26,8 +29,10 @@ pub data Asked : Type 0 where
   bounding : List ℕ → Asked
   pairing : List ℕ → Asked
   renewing : List ℕ → Asked
+  beginning : ℕ → Asked
+  following : List ℕ → ℕ → Asked
 
--- what is said: a circuit's p, n, i, o and m and its file's length, or each call's answer, with the bytes that it leaves; or bounds
+-- what is said: a circuit's p, n, i, o and m and its file's length, or each call's answer, with the bytes or values that it leaves; or bounds
 pub data Said : Type 0 where
   numbers : ℕ → ℕ → ℕ → ℕ → ℕ → ℕ → Said
   unread : ℕ → ℕ → Said
@@ -36,6 +41,7 @@ pub data Said : Type 0 where
   bounds : List ℕ → Said
   pairs : Answer ℕ → Said
   renews : Answer ℕ → List ℕ → Said
+  lists : Answer runs.Found → List ℕ → Said
 
 pub record Row : Type 0 where
   pub circuit : List ℕ
@@ -46,6 +52,10 @@ pub record Row : Type 0 where
 -- buffers of the table: 100 bytes that hold 9
 abbrev pub buffer : List ℕ
 buffer = replicate 100 9
+
+-- .. and one for a run, of so many values
+abbrev pub room_of : ℕ → List ℕ
+room_of n = replicate n 9
 
 abbrev pub reading_of : Reading Circuit → Said
 reading_of (whole C size) = numbers C.p C.n C.i C.o C.m size
@@ -68,6 +78,8 @@ answer c h (judging d) = judges (derivation.derivation_call c h d (length buffer
 answer c h (bounding d) = bounds_of (read_circuit c) h d
 answer c h (pairing t) = pairs (pair.pair_call c h t)
 answer c h (renewing d) = renews (renewal.renewal_call c h d (length buffer)) (renewal.renewal_output c h d buffer)
+answer c h (beginning n) = let r = runs.first_call c n in lists r (runs.left_by r (room_of n))
+answer c h (following run n) = let r = runs.next_call c run n in lists r (runs.left_by r (room_of n))
 
 abbrev pub found : Row → Said
 found row = answer row.circuit row.sheet row.asked
@@ -125,6 +137,25 @@ bounded_row C xs said = record { circuit = circuit_bytes C; sheet = empty_sheet;
 abbrev pub pair_row : Circuit → ℕ → List ℕ → List ℕ → Row
 pair_row C q first second =
     record { circuit = circuit_bytes C; sheet = empty_sheet; asked = pairing (pair_bytes q first second); said = pairs (given q) }
+
+-- the run that is written, the first or the one after a given one
+abbrev pub run_row : Circuit → Asked → List ℕ → Row
+run_row C asked run = record { circuit = circuit_bytes C; sheet = empty_sheet; asked = asked; said = lists (given (some run)) run }
+
+-- no more runs: nothing is written
+abbrev pub ended_row : Circuit → List ℕ → Row
+ended_row C run =
+    record {
+      circuit = circuit_bytes C;
+      sheet = empty_sheet;
+      asked = following run (length run);
+      said = lists (given none) (room_of (length run));
+    }
+
+-- a listing that is refused: nothing is written
+abbrev pub unlisted_row : Circuit → Asked → ℕ → ℕ → ℕ → Row
+unlisted_row C asked n number place =
+    record { circuit = circuit_bytes C; sheet = empty_sheet; asked = asked; said = lists (refused number place) (room_of n) }
 
 abbrev pub read_row : List ℕ → Said → Row
 read_row c says = record { circuit = c; sheet = empty_sheet; asked = reading; said = says }
@@ -253,4 +284,21 @@ table =
     -- .. a step that isn't met, after an idle one; and 105 bytes of which 56 would be left, but the buffer has 100
     ∷ unrenewed_row circuit_c (step Root 2 1 0 ∷ step Root 2 1 0 ∷ step Zero 2 0 0 ∷ []) 17 3
     ∷ unrenewed_row circuit_c (steps_c ++ steps_c) 25 0
+    -- runs of g: the first; after one that satisfies not itself but the next, after one that doesn't the next too; after the last none
+    ∷ run_row circuit_g (beginning 3) (0 ∷ 1 ∷ 0 ∷ [])
+    ∷ run_row circuit_g (following (0 ∷ 1 ∷ 0 ∷ []) 3) (0 ∷ 1 ∷ 1 ∷ [])
+    ∷ run_row circuit_g (following (0 ∷ 1 ∷ 6 ∷ []) 3) (1 ∷ 0 ∷ 1 ∷ [])
+    ∷ run_row circuit_g (following (2 ∷ 6 ∷ 6 ∷ []) 3) (3 ∷ 0 ∷ 5 ∷ [])
+    ∷ ended_row circuit_g (6 ∷ 0 ∷ 6 ∷ [])
+    ∷ ended_row circuit_g (6 ∷ 6 ∷ 6 ∷ [])
+    -- .. a buffer or a run that is too short or too long, also with a value that is too large; two such values
+    ∷ unlisted_row circuit_g (beginning 4) 4 31 0
+    ∷ unlisted_row circuit_g (following (0 ∷ 1 ∷ 0 ∷ []) 2) 2 31 0
+    ∷ unlisted_row circuit_g (following (7 ∷ 1 ∷ 0 ∷ 0 ∷ []) 3) 3 31 0
+    ∷ unlisted_row circuit_g (following (6 ∷ 7 ∷ 7 ∷ []) 3) 3 31 2
+    -- .. as many candidates as may be, with a length that is wrong, and more of them
+    ∷ unlisted_row (bare 65521 1) (beginning 2) 2 31 0
+    ∷ unlisted_row (bare 3 10) (beginning 9) 9 31 0
+    ∷ unlisted_row (bare 65537 1) (beginning 2) 2 30 0
+    ∷ unlisted_row (bare 3 11) (following [] 11) 11 30 0
     ∷ []
