@@ -10,12 +10,3 @@ fn all_vectors_agree() {
         assert_eq!(proved(record), record.answer);
     }
 }
-
-#[test]
-fn all_listings_agree() {
-    let records = second::compose::compose_runs(2, &second::compose::compose(2, 400_000));
-    assert!(records.len() > 1000);
-    for record in &records {
-        assert_eq!(proved(record), record.answer);
-    }
-}

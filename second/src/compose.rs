@@ -12,10 +12,11 @@ use crate::planted::{planted, Planted};
 use crate::random::Random;
 use crate::reader::{read_circuit, Circuit};
 use crate::rules::Rules;
+use crate::runs::is_small;
 use crate::sheet::{read_sheet, write_sheet, Tag, NO_TAGS};
 use crate::solver::derive;
 use crate::vectors::{Record, DERIVATION, PAIR, READ, RENEW, SOLVE, WITH_SHEET};
-use crate::{brute, renew, worst};
+use crate::{renew, worst};
 
 /// The usual length of all files together, but for the last random calls.
 pub const USUAL_SIZE: usize = 1_420_000;
@@ -38,35 +39,29 @@ const LISTED: usize = 160;
 /// Of every so many records one whose circuit has runs listed too.
 const SAMPLED: usize = 90;
 
-/// The records of files of about this length together, with all fixed calls. From 1,500,000 bytes on all worst circuits are among them.
+/// From this length of all files together on all worst circuits are among the records.
+pub const WITH_WORST: usize = 1_800_000;
+
+/// The records of files of about this length together, with all fixed calls.
 pub fn compose(seed: u64, size: usize) -> Vec<Record> {
     let mut maker = Maker::new(seed);
     maker.fixed_calls();
-    if size >= 1_500_000 {
+    if size >= WITH_WORST {
         worst::all().iter().for_each(|(_, circuit)| maker.solve_and_mark(circuit));
         worst::tagged().iter().for_each(|tagged| maker.solve_and_mark_under(&tagged.circuit, &tagged.sheet));
     }
     listed_edges(&mut maker.rng).iter().for_each(|edge| maker.edge(edge, true));
-    maker.random_calls(size)
+    maker.random_calls(size);
+    maker.run_calls();
+    maker.random_runs();
+    maker.records
 }
 
 /// The records of files of about this length without the fixed calls.
 pub fn compose_random(seed: u64, size: usize) -> Vec<Record> {
-    Maker::new(seed).random_calls(size)
-}
-
-/// Calls that list runs: all fixed ones, those of a sample of these records' circuits, and random ones.
-pub fn compose_runs(seed: u64, records: &[Record]) -> Vec<Record> {
     let mut maker = Maker::new(seed);
-    maker.run_calls();
-    let circuits = records.iter().map(|record| &record.circuit).filter(|circuit| circuit.len() < 400);
-    for circuit in circuits.step_by(SAMPLED) {
-        match read_circuit(circuit) {
-            Ok(read) => maker.runs_of(circuit, &read),
-            Err(_) => maker.next_run(circuit, &[0; 3], 3),
-        }
-    }
-    (0..LISTED).for_each(|_| maker.listed());
+    maker.random_calls(size);
+    maker.random_runs();
     maker.records
 }
 
@@ -82,8 +77,8 @@ impl Maker {
         Maker { rng: Random::new(seed), records: Vec::new(), size: 9 }
     }
 
-    /// The records so far, and random ones until all take so many bytes; then some more.
-    fn random_calls(mut self, size: usize) -> Vec<Record> {
+    /// Random calls until all take so many bytes; then some more.
+    fn random_calls(&mut self, size: usize) {
         (0..EDGES).for_each(|_| self.random_edge());
         (0..TIES).for_each(|_| self.ties());
         while self.size < size {
@@ -91,7 +86,19 @@ impl Maker {
         }
         (0..IDLE).for_each(|_| self.idle());
         (0..SOLVED).for_each(|_| self.solved());
-        self.records
+    }
+
+    /// Runs listed of random circuits, and of a sample of those that the records so far have.
+    fn random_runs(&mut self) {
+        let circuits = self.records.iter().map(|record| &record.circuit).filter(|circuit| circuit.len() < 400);
+        let sample: Vec<Vec<u8>> = circuits.step_by(SAMPLED).cloned().collect();
+        for circuit in sample {
+            match read_circuit(&circuit) {
+                Ok(read) => self.runs_of(&circuit, &read),
+                Err(_) => self.next_run(&circuit, &[0; 3], 3),
+            }
+        }
+        (0..LISTED).for_each(|_| self.listed());
     }
 
     /// Adds a call without tags, with its answer.
@@ -199,7 +206,7 @@ impl Maker {
         if self.rng.once_in(2) {
             self.derivations(&circuit, &read, &tags);
         }
-        if brute::is_small(&read) && self.rng.once_in(4) {
+        if is_small(&read) && self.rng.once_in(4) {
             self.pairs(&circuit, &read, &tags);
         }
         for _ in 0..self.rng.pick(&[0, 0, 1, 2]) {

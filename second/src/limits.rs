@@ -18,6 +18,9 @@ use crate::vectors::{DERIVATION, PAIR, READ, RENEW, SOLVE};
 use crate::writer::Draft;
 use crate::{falling, ties, worst};
 
+/// The kinds of calls but those that list runs.
+const OTHERS: [u8; 5] = [READ, DERIVATION, PAIR, SOLVE, RENEW];
+
 /// Numbers n, i, o, m at and beyond their limits.
 #[rustfmt::skip]
 const SIZES: [[u16; 4]; 21] = [
@@ -37,10 +40,10 @@ pub fn empty_constraints() -> Vec<Vec<u8>> {
 }
 
 impl Maker {
-    /// All fixed calls; the long ones first, so that files can be filled up.
+    /// All fixed calls but those that list runs; the long ones first, so that files can be filled up.
     pub fn fixed_calls(&mut self) {
         self.largest();
-        self.too_long(&two_faults::KINDS);
+        self.too_long(&OTHERS);
         self.many_steps();
         self.document_cases();
         self.header_limits();
@@ -51,13 +54,13 @@ impl Maker {
         self.every_field();
         self.fields_of_met_steps();
         self.every_value();
-        self.every_two_faults(&two_faults::KINDS);
+        self.every_two_faults(&OTHERS);
         ties::circuits().iter().for_each(|circuit| self.solve(circuit));
         self.tagged_calls();
         self.idle_calls();
     }
 
-    /// Every kind of call, with a derivation without steps, a pair of runs of zeros, and buffers that are long enough for n signals.
+    /// Every kind of call but those that list runs, with a derivation without steps, a pair of runs of zeros, and buffers that are long enough for n signals.
     fn every_kind(&mut self, circuit: &[u8], n: usize) {
         let zeros = vec![0; n];
         self.call(READ, circuit, &[], 0);
@@ -292,7 +295,7 @@ impl Maker {
 
     /// Calls of these kinds with every two faults.
     pub fn every_two_faults(&mut self, kinds: &[u8]) {
-        for Pair { call, .. } in two_faults::pairs_of(kinds) {
+        for Pair { call, .. } in two_faults::pairs().into_iter().filter(|pair| kinds.contains(&pair.call.kind)) {
             self.call_with(call.kind, &call.circuit, &call.sheet, &call.hand_in, call.lent);
         }
     }

@@ -1,6 +1,6 @@
 //! The pair file and the pair call: refusals 18 to 24 and 28.
 
-use crate::reader::{number16, number32, read_circuit, refuse, Circuit, Refusal};
+use crate::reader::{number16, numbers32, read_circuit, refuse, Circuit, Refusal};
 use crate::sheet::{broken, read_sheet};
 
 /// Checks that two satisfying runs share their inputs, which obey the sheet, and differ at the output q; answers q.
@@ -48,7 +48,7 @@ fn read_q(circuit: &Circuit, pair: &[u8]) -> Result<u16, Refusal> {
 
 /// The values of a pair file.
 pub fn values(pair: &[u8]) -> Vec<u32> {
-    pair[7..].chunks_exact(4).map(|value| number32(value, 0)).collect()
+    numbers32(&pair[7..])
 }
 
 /// The version 1 pair file with this output and these runs.

@@ -7,7 +7,7 @@ use crate::marker::write_steps;
 use crate::pair::write_pair;
 use crate::rules::{Step, DIGITS, PRODUCT, ROOT, SUM, ZERO};
 use crate::sheet::{write_sheet, Tag, BINARY, MAXBIT, MAXVALUE};
-use crate::vectors::{bytes_of, DERIVATION, FIRST_RUN, LISTING, NEXT_RUN, PAIR, READ, RENEW, SOLVE, WITH_SHEET};
+use crate::vectors::{bytes_of, DERIVATION, FIRST_RUN, KINDS, LISTING, NEXT_RUN, PAIR, READ, RENEW, SOLVE, WITH_SHEET};
 use crate::writer::Draft;
 
 /// A call: its kind, its circuit, the sheet, what is handed in, and the length of the buffer.
@@ -155,7 +155,7 @@ pub const CIRCUIT: [Fault; 24] = [
     fault(10, 74, |call| call.circuit.extend([1, 0, 0, 0])),
 ];
 
-/// Faults of the sheet, which every call but reading may meet.
+/// Faults of the sheet, which every call that takes one may meet.
 pub const SHEET: [Fault; 21] = [
     fault(26, 0, |call| call.sheet.truncate(6)),
     fault(26, 0, |call| put(&mut call.sheet, 0, b"C")),
@@ -282,9 +282,9 @@ pub const GIVEN: [Fault; 8] = [
 
 /// The faults of the sheet that this kind of call may meet.
 pub fn of_sheet(kind: u8) -> &'static [Fault] {
-    match kind {
-        READ | FIRST_RUN | NEXT_RUN => &[],
-        _ => &SHEET,
+    match WITH_SHEET.contains(&kind) {
+        true => &SHEET,
+        false => &[],
     }
 }
 
@@ -307,9 +307,6 @@ pub fn own(kind: u8) -> Vec<&'static Fault> {
     handed_in.iter().chain(rest).collect()
 }
 
-/// All kinds of calls but those that list runs.
-pub const KINDS: [u8; 5] = [READ, DERIVATION, PAIR, SOLVE, RENEW];
-
 /// A call with two faults.
 pub struct Pair {
     pub call: Call,
@@ -320,11 +317,6 @@ pub struct Pair {
 /// places; so too one of the circuit and one of what comes along, is handed in or lent. Two of the sheet: all on solving, else as those of the circuit; one of
 /// the sheet and one of what is handed in or lent: three times so. Then every two of those.
 pub fn pairs() -> Vec<Pair> {
-    pairs_of(&KINDS)
-}
-
-/// The same of these kinds.
-pub fn pairs_of(kinds: &[u8]) -> Vec<Pair> {
     let mut pairs = Vec::new();
     let mut seen = BTreeSet::new();
     let mut add = |always: bool, turn: usize, kind: u8, x: &'static Fault, y: &'static Fault| {
@@ -336,13 +328,13 @@ pub fn pairs_of(kinds: &[u8]) -> Vec<Pair> {
     };
     for (at, x) in CIRCUIT.iter().enumerate() {
         for y in &CIRCUIT[at + 1..] {
-            kinds.iter().for_each(|&kind| add(kind == READ, 0, kind, x, y));
+            KINDS.iter().for_each(|&kind| add(kind == READ, 0, kind, x, y));
         }
-        for &kind in kinds {
+        for kind in KINDS {
             beyond_circuit(kind).for_each(|y| add(false, 0, kind, x, y));
         }
     }
-    for &kind in kinds {
+    for kind in KINDS {
         for (at, x) in of_sheet(kind).iter().enumerate() {
             of_sheet(kind)[at + 1..].iter().for_each(|y| add(kind == SOLVE, 0, kind, x, y));
             own(kind).into_iter().for_each(|y| add(false, at % 3, kind, x, y));

@@ -1,6 +1,7 @@
-//! The file of test vectors: calls with the answers that they must get. Little-endian; `VQT`, 16-bit version 3, 32-bit count, then the records.
+//! The file of test vectors: calls with the answers that they must get. Little-endian; `VQT`, 16-bit version 4, 32-bit count, then the records.
 //! A record: kind, circuit, sheet, hand-in, length of the lent buffer, then 16-bit number, place, five values and what is written. The kind is a byte, all else
-//! 32-bit numbers and runs of bytes that begin with their length.
+//! 32-bit numbers and strings of bytes that begin with their length. A run of values, handed in or written, is stored at 4 bytes a value; the length of a
+//! buffer for one counts values.
 
 use crate::reader::{number16, number32, numbers32, Refusal};
 use crate::{check_derivation, check_pair, first_run, next_run, read_circuit, renew, solve, Judgement};
@@ -10,17 +11,20 @@ pub const DERIVATION: u8 = 2;
 pub const PAIR: u8 = 3;
 pub const SOLVE: u8 = 4;
 pub const RENEW: u8 = 5;
-
-/// The kinds of calls that list runs. A run of values, handed in or written, is kept at 4 bytes a value; the length of a buffer for one counts values.
 pub const FIRST_RUN: u8 = 6;
 pub const NEXT_RUN: u8 = 7;
+
+/// All kinds of calls.
+pub const KINDS: [u8; 7] = [READ, DERIVATION, PAIR, SOLVE, RENEW, FIRST_RUN, NEXT_RUN];
+
+/// The kinds of calls that list runs.
 pub const LISTING: [u8; 2] = [FIRST_RUN, NEXT_RUN];
 
 /// The kinds of calls that take a tag sheet.
 pub const WITH_SHEET: [u8; 4] = [DERIVATION, PAIR, SOLVE, RENEW];
 
 /// The version of the file.
-const VERSION: u16 = 3;
+const VERSION: u16 = 4;
 
 /// Stands for the length of a circuit or a hand-in that is the one of the record before.
 const SAME: u32 = u32::MAX;
@@ -34,7 +38,7 @@ pub struct Answer {
     pub written: Vec<u8>,
 }
 
-/// One call: its kind, its arguments and its answer. Reading takes no sheet, which then has no bytes.
+/// One call: its kind, its arguments and its answer. Where no sheet is taken, it has no bytes.
 #[derive(Clone, Debug, PartialEq, Eq)]
 pub struct Record {
     pub kind: u8,
@@ -260,12 +264,12 @@ impl Iterator for Records<'_> {
 /// How many records of each kind there are, and how often each refusal occurs, at how many places.
 pub fn summary(records: &[Record]) -> String {
     let mut text = format!("{} records\n", records.len());
-    for (kind, name) in [(READ, "read circuit"), (DERIVATION, "derivation"), (PAIR, "pair"), (SOLVE, "solve"), (RENEW, "renew")] {
+    for (kind, name) in KINDS.into_iter().zip(["read circuit", "derivation", "pair", "solve", "renew", "first run", "next run"]) {
         let all = records.iter().filter(|record| record.kind == kind);
         let accepted = all.clone().filter(|record| record.answer.number == 0).count();
         text += &format!("kind {kind} ({name}): {} records, {accepted} not refused\n", all.count());
     }
-    for number in 1..=29 {
+    for number in 1..=31 {
         let places: Vec<u32> = records.iter().filter(|record| record.answer.number == number).map(|record| record.answer.place).collect();
         let different: std::collections::BTreeSet<&u32> = places.iter().collect();
         text += &format!("refusal {number}: {} records, {} places\n", places.len(), different.len());

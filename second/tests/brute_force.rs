@@ -4,7 +4,7 @@
 mod literal;
 
 use literal::{Literal, Tagging};
-use second::brute::{is_small, pairs, satisfying_runs};
+use second::brute::{pairs, satisfying_runs};
 use second::compose::{compose, USUAL_SIZE};
 use second::edge::{any_edge, tagged_digits, tied, Edge};
 use second::generate::{any, small, tiny, PRIMES};
@@ -16,6 +16,7 @@ use second::planted::{planted, Planted};
 use second::random::Random;
 use second::reader::Circuit;
 use second::rules::{Rules, Standing, Step};
+use second::runs::is_small;
 use second::sheet::{read_sheet, write_sheet, Tag, MAXVALUE, NO_TAGS};
 use second::solver::derive;
 use second::vectors::{DERIVATION, SOLVE};
@@ -258,18 +259,6 @@ fn an_empty_sheet_gives_what_no_sheet_gave() {
         let (judgement, length) = solve(&bytes, NO_TAGS, &mut out).unwrap();
         assert_eq!(out[..length], write_steps(&steps));
         assert_eq!((judgement.count, judgement.shown, judgement.unshown), (standing.marked.len(), 0, 0));
-    }
-}
-
-#[test]
-fn listed_runs_are_all_runs() {
-    let mut rng = Random::new(5);
-    for _ in 0..200 {
-        let circuit = read_circuit(&small(&mut rng)).unwrap();
-        let (p, n) = (circuit.field.prime(), u32::from(circuit.signals));
-        let all = (0..p.pow(n)).map(|number| (0..n).rev().map(|digit| (number / p.pow(digit) % p) as u32).collect::<Vec<u32>>());
-        let satisfying: Vec<Vec<u32>> = all.filter(|run| circuit.constraints.iter().all(|c| c.satisfied(circuit.field, run))).collect();
-        assert_eq!(satisfying_runs(&circuit), satisfying);
     }
 }
 

@@ -6,7 +6,7 @@ use second::pair::write_pair;
 use second::rules::Step;
 use second::sheet::{write_sheet, Tag, BINARY, MAXBIT, MAXVALUE, NO_TAGS};
 use second::writer::Draft;
-use second::{check_derivation, check_pair, read_circuit, renew, solve, Refusal};
+use second::{check_derivation, check_pair, first_run, next_run, read_circuit, renew, solve, Refusal};
 
 /// Kind, target, constraint, reference.
 type Fields = (u8, u16, u16, u16);
@@ -110,8 +110,34 @@ fn f_square_is_itself() {
 fn g_settled_but_open() {
     let g = case_g();
     assert_eq!(solved(&g), (vec![], 1, false));
-    let runs = second::brute::satisfying_runs(&read_circuit(&g).unwrap());
+    let runs = listed(&g, [0; 3]);
+    assert_eq!(runs.len(), 13);
     assert!(runs.iter().all(|run| run[1] == u32::from(run[0] == 0)));
+}
+
+/// Every run of a small circuit; `run` is lent for each.
+fn listed<const N: usize>(circuit: &[u8], mut run: [u32; N]) -> Vec<[u32; N]> {
+    let (mut runs, mut more) = (Vec::new(), first_run(circuit, &mut run));
+    while more.unwrap() {
+        runs.push(run);
+        more = next_run(circuit, &run.clone(), &mut run);
+    }
+    runs
+}
+
+/// Rule 7.11: the pairs of b and f are among the runs of their circuits; and how many there are.
+#[test]
+fn runs_of_the_cases() {
+    let b = listed(&case_b(), [0; 3]);
+    assert!(b.contains(&[0, 1, 0]) && b.contains(&[0, 2, 1]));
+    assert_eq!(listed(&case_f(), [0]), [[0], [1]]);
+    assert_eq!(listed(&case_e(), [0]), [[0]]);
+    assert_eq!(listed(&case_a(), [0; 2]), (0..7).map(|x| [x, x * x % 7]).collect::<Vec<_>>());
+    let bits = |p: u32| (0..8).map(|x| [x % p, x & 1, x >> 1 & 1, x >> 2]).collect::<Vec<[u32; 4]>>();
+    assert_eq!(listed(&case_c(13), [0; 4]), bits(13));
+    let mut seven = bits(7);
+    seven.sort_unstable();
+    assert_eq!(listed(&case_c(7), [0; 4]), seven);
 }
 
 #[test]

@@ -9,8 +9,8 @@ use second::compose::{compose, USUAL_SIZE};
 use second::marker::write_steps;
 use second::read_circuit;
 use second::reader::number16;
-use second::two_faults::{self, Call, Fault, Pair, KINDS};
-use second::vectors::{answer, Record, DERIVATION, PAIR, RENEW, SOLVE};
+use second::two_faults::{self, Call, Fault, Pair};
+use second::vectors::{answer, Record, DERIVATION, FIRST_RUN, KINDS, LISTING, NEXT_RUN, PAIR, RENEW, SOLVE, WITH_SHEET};
 
 /// The vectors as they are stored.
 fn stored() -> Vec<Record> {
@@ -24,6 +24,7 @@ fn numbers(kind: u8) -> Vec<u16> {
         PAIR => &[26, 27, 18, 19, 20, 21, 22, 23, 28, 24],
         SOLVE => &[26, 27, 25],
         RENEW => &[26, 27, 11, 12, 13, 15, 16, 17, 25],
+        FIRST_RUN | NEXT_RUN => &[30, 31],
         _ => &[],
     };
     (1..=10).chain(own.iter().copied()).collect()
@@ -69,7 +70,7 @@ fn cannot_stand_together(x: u16, y: u16) -> bool {
 }
 
 /// Numbers with a place of which a call can have several.
-const SEVERAL: [u16; 12] = [7, 8, 9, 15, 16, 17, 21, 22, 23, 27, 28, 29];
+const SEVERAL: [u16; 13] = [7, 8, 9, 15, 16, 17, 21, 22, 23, 27, 28, 29, 31];
 
 #[test]
 fn every_two_refusals_are_there() {
@@ -82,7 +83,8 @@ fn every_two_refusals_are_there() {
             for &y in &numbers(kind)[at + 1..] {
                 assert!(cannot_stand_together(x, y) || there(kind, &|a, b| (a.number, b.number) == (x, y)), "{x} and {y} in call {kind}");
             }
-            assert!(!SEVERAL.contains(&x) || there(kind, &|a, b| a.number == x && b.number == x), "{x} twice in call {kind}");
+            let several = SEVERAL.contains(&x) && (kind, x) != (FIRST_RUN, 31);
+            assert!(!several || there(kind, &|a, b| a.number == x && b.number == x), "{x} twice in call {kind}");
         }
         // Of 7, 8 and 9 each comes first, and each is followed by 6; a term that is cut off may have an 8 too.
         for (x, y) in [(7, 6), (7, 8), (7, 9), (8, 6), (8, 7), (8, 9), (9, 6), (9, 7), (9, 8)] {
@@ -110,6 +112,14 @@ fn every_two_refusals_are_there() {
     // Inputs that differ before one that breaks its tag, and after it.
     assert!(there(PAIR, &|a, b| (a.number, b.number) == (23, 28) && a.place < b.place));
     assert!(there(PAIR, &|a, b| (a.number, b.number) == (23, 28) && a.place > b.place));
+    // A wrong length of either and a wrong value, and two wrong values.
+    let unfit = |a: &Fault, b: &Fault| (a.number, b.number) == (31, 31) && a.place < b.place;
+    assert!(there(NEXT_RUN, &|a, b| unfit(a, b) && a.place == 0));
+    assert!(there(NEXT_RUN, &|a, b| unfit(a, b) && a.place > 0));
+    for kind in LISTING {
+        assert!(there(kind, &|a, b| (a.number, b.number) == (30, 31) && b.place == 0));
+    }
+    assert!(there(NEXT_RUN, &|a, b| (a.number, b.number) == (30, 31) && b.place > 0));
 }
 
 #[test]
@@ -121,12 +131,14 @@ fn a_circuit_that_is_too_long_has_every_other_fault() {
     };
     for kind in KINDS {
         assert!(told(kind, &[2, 3, 4, 5, 6, 7, 8, 9]));
-        assert!(told(kind, &[10]));
+        // The file with 10 is stored for the others alone.
+        assert!(LISTING.contains(&kind) || told(kind, &[10]));
     }
-    for (kind, numbers) in [(DERIVATION, 11..=16), (PAIR, 18..=21), (SOLVE, 25..=25), (RENEW, 11..=13), (RENEW, 15..=16), (RENEW, 25..=25)] {
+    let beyond = [(DERIVATION, 11..=16), (PAIR, 18..=21), (SOLVE, 25..=25), (RENEW, 11..=13), (RENEW, 15..=16), (RENEW, 25..=25)];
+    for (kind, numbers) in beyond.into_iter().chain([(FIRST_RUN, 30..=31), (NEXT_RUN, 30..=31)]) {
         numbers.for_each(|number| assert!(told(kind, &[number]), "{number}"));
     }
-    for kind in [DERIVATION, PAIR, SOLVE, RENEW] {
+    for kind in WITH_SHEET {
         (26..=27).for_each(|number| assert!(told(kind, &[number]), "{number}"));
     }
 }
@@ -193,6 +205,17 @@ fn wrong_orders_of_refusals_are_told() {
         ("25 before 11", of(&|record, found| if record.kind == RENEW { before(found, 25, 11) } else { right(found) })),
         ("25 before 15", of(&|record, found| if record.kind == RENEW { before(found, 25, 15) } else { right(found) })),
         ("25 before 17 at the last step", of(&|record, found| if record.kind == RENEW { before_last(record, found) } else { right(found) })),
+        ("30 before 10", of(&|_, found| before(found, 30, 10))),
+        ("30 with the header", of(&|_, found| if found.0 == 30 { (stage(5) + 1, 0, 30) } else { right(found) })),
+        ("31 before 30", of(&|_, found| before(found, 31, 30))),
+        ("31 before 10", of(&|_, found| before(found, 31, 10))),
+        ("values before lengths", of(&|_, found| if found.0 == 31 && found.1 > 0 { (stage(31) - 1, found.1, 31) } else { right(found) })),
+        ("lengths before 30, values after it", of(&|_, found| if found == (31, 0) { (stage(30) - 1, 0, 31) } else { right(found) })),
+        (
+            "values before 30, lengths after it",
+            of(&|_, found| if found.0 == 31 && found.1 > 0 { (stage(30) - 1, found.1, 31) } else { right(found) }),
+        ),
+        ("the highest signal of 31", of(&|_, found| if found.0 == 31 { (stage(31), found.1.wrapping_neg(), 31) } else { right(found) })),
         ("8 before 6 at a term", of(&|_, found| if found.0 == 8 { (stage(6), found.1, 5) } else { right(found) })),
     ];
     for (name, count) in wrong {

@@ -1,4 +1,4 @@
-//! Every refusal from 1 to 29: its number, its place, what comes before what; and that a refusal writes nothing.
+//! Every refusal from 1 to 31: its number, its place, what comes before what; and that a refusal writes nothing.
 
 use second::cases::{case_a, case_c};
 use second::damage::Layout;
@@ -7,7 +7,7 @@ use second::marker::write_steps;
 use second::pair::write_pair;
 use second::rules::Step;
 use second::sheet::{write_sheet, Tag, BINARY, MAXBIT, MAXVALUE, NO_TAGS};
-use second::vectors::{answer, DERIVATION, PAIR, READ, RENEW, SOLVE};
+use second::vectors::{answer, bytes_of, DERIVATION, FIRST_RUN, NEXT_RUN, PAIR, READ, RENEW, SOLVE};
 use second::writer::Draft;
 
 /// Number and place of the answer with a sheet; `answer` checks that a refusal leaves the buffer as it was.
@@ -24,7 +24,7 @@ fn refused(kind: u8, circuit: &[u8], hand_in: &[u8], lent: usize) -> (u16, u32) 
 /// The refusal of a circuit, which must be the same in all calls, whatever is handed in.
 fn refused_circuit(circuit: &[u8]) -> (u16, u32) {
     let refusal = refused(READ, circuit, &[], 0);
-    for (kind, lent) in [(DERIVATION, 0), (PAIR, 0), (SOLVE, 0), (SOLVE, 4000), (RENEW, 0), (RENEW, 40)] {
+    for (kind, lent) in [(DERIVATION, 0), (PAIR, 0), (SOLVE, 0), (SOLVE, 4000), (RENEW, 0), (RENEW, 40), (FIRST_RUN, 4), (NEXT_RUN, 4)] {
         assert_eq!(refused(kind, circuit, b"bad", lent), refusal);
         assert_eq!(refused_with(kind, circuit, b"bad", b"bad", lent), refusal);
         assert_eq!(refused_with(kind, circuit, &write_sheet(&[Tag::new(0, 0, 0)]), b"bad", lent), refusal);
@@ -408,4 +408,67 @@ fn inputs_that_break_their_tags() {
     let sheet = write_sheet(&[Tag::new(1, BINARY, 0)]);
     assert_eq!(refused_with(PAIR, &zero, &sheet, &write_pair(2, &[9, 0], &[9, 1]), 0), (22, 2));
     assert_eq!(refused_with(PAIR, &zero, &sheet, &write_pair(2, &[9, 0], &[9, 0]), 0), (28, 1));
+}
+
+/// Number and place of a next run's answer.
+fn refused_after(circuit: &[u8], given: &[u32], lent: usize) -> (u16, u32) {
+    refused(NEXT_RUN, circuit, &bytes_of(given), lent)
+}
+
+#[test]
+fn too_many_candidates() {
+    for (p, n, number) in [
+        (3, 10, 0),
+        (3, 11, 30),
+        (5, 6, 0),
+        (5, 7, 30),
+        (7, 5, 0),
+        (11, 5, 30),
+        (13, 4, 0),
+        (17, 4, 30),
+        (37, 3, 0),
+        (41, 3, 30),
+        (251, 2, 0),
+        (257, 2, 30),
+        (65_521, 1, 0),
+        (65_537, 1, 30),
+        (2_147_483_647, 1, 30),
+        (2_147_483_647, 2, 30),
+        (2_147_483_647, 256, 30),
+        (3, 256, 30),
+    ] {
+        let circuit = Draft::new(p, n, 0, 1).bytes();
+        let n = usize::from(n);
+        assert_eq!(refused(FIRST_RUN, &circuit, &[], n), (number, 0), "{p} {n}");
+        assert_eq!(refused_after(&circuit, &vec![0; n], n), (number, 0), "{p} {n}");
+        // 30 before 31.
+        let unfit = if number == 0 { 31 } else { number };
+        assert_eq!(refused(FIRST_RUN, &circuit, &[], n + 1), (unfit, 0));
+        assert_eq!(refused_after(&circuit, &vec![0; n - 1], n), (unfit, 0));
+        assert_eq!(refused_after(&circuit, &vec![p; n], n), (unfit, u32::from(number == 0)));
+    }
+}
+
+#[test]
+fn lengths_and_values_of_runs() {
+    for circuit in [case_c(13), Draft::new(13, 4, 0, 1).bytes(), Draft::new(13, 4, 0, 1).with(&[], &[], &[(0, 1)]).bytes()] {
+        for length in [0, 1, 3, 5, 8, 256] {
+            assert_eq!(refused(FIRST_RUN, &circuit, &[], length), (31, 0));
+            for value in [0, 12, 13, u32::MAX] {
+                assert_eq!(refused_after(&circuit, &[value; 4], length), (31, 0), "a length before a value");
+                assert_eq!(refused_after(&circuit, &vec![value; length], 4), (31, 0), "a length before a value");
+                assert_eq!(refused_after(&circuit, &vec![value; length], length), (31, 0));
+            }
+        }
+        for at in 0..4 {
+            for value in [13, 14, 26, 256, 0x8000_0000, u32::MAX] {
+                let mut given = [12; 4];
+                given[at] = value;
+                assert_eq!(refused_after(&circuit, &given, 4), (31, at as u32 + 1));
+                given[3] = u32::MAX;
+                assert_eq!(refused_after(&circuit, &given, 4), (31, at as u32 + 1), "the lowest signal");
+            }
+        }
+        assert_eq!(refused_after(&circuit, &[12; 4], 4), (0, 0));
+    }
 }

@@ -1,11 +1,11 @@
 //! First and next runs: against all candidates of thousands of random circuits; and each way in which the calls could be read wrongly gives another answer than
-//! at least three of the calls that `compose_runs` makes, which are called stored here.
+//! at least three stored vectors.
 
-use std::collections::{BTreeMap, BTreeSet};
+use std::collections::BTreeMap;
 use std::rc::Rc;
 
 use second::brute::satisfying_runs;
-use second::compose::{compose, compose_runs, USUAL_SIZE};
+use second::compose::{compose, USUAL_SIZE};
 use second::generate::{small, tiny};
 use second::random::Random;
 use second::reader::{number16, number32, numbers32, Circuit};
@@ -115,7 +115,7 @@ struct Stored {
 /// The stored calls that list runs and don't fail on their circuit.
 fn stored() -> Vec<Stored> {
     let mut lists: BTreeMap<Vec<u8>, Rc<Vec<Vec<u32>>>> = BTreeMap::new();
-    let records = compose_runs(1, &compose(1, USUAL_SIZE)).into_iter();
+    let records = compose(1, USUAL_SIZE).into_iter().filter(|record| LISTING.contains(&record.kind));
     let judged = records.filter_map(|record| {
         let circuit = read_circuit(&record.circuit).ok()?;
         let list = || Rc::new(if is_small(&circuit) { satisfying_runs(&circuit) } else { Vec::new() });
@@ -382,8 +382,8 @@ fn has_no_signals(circuit: &Circuit, at: usize) -> bool {
 /// Each limit is told from its neighbours by several vectors, each result occurs often.
 #[test]
 fn no_limit_of_runs_hangs_on_one_vector() {
-    let mut stored = compose_runs(1, &compose(1, USUAL_SIZE));
-    stored.retain(|record| record.circuit.len() >= 17);
+    let mut stored = compose(1, USUAL_SIZE);
+    stored.retain(|record| LISTING.contains(&record.kind) && record.circuit.len() >= 17);
     let several = |what: &str, least: usize, test: &dyn Fn(&Record) -> bool| {
         let count = stored.iter().filter(|record| test(record)).count();
         assert!(count >= least, "{what}: {count}");
@@ -409,20 +409,5 @@ fn no_limit_of_runs_hangs_on_one_vector() {
     for kind in LISTING {
         several("no more", 10, &|r| r.kind == kind && r.answer.number == 0 && r.answer.values[0] == 0);
         several("written", 60, &|r| r.kind == kind && r.answer.number == 0 && r.answer.values[0] == 1);
-    }
-}
-
-#[test]
-fn every_refusal_of_listings_occurs_at_several_places() {
-    for seed in [1, 2, 3] {
-        let made = compose_runs(seed, &compose(seed, USUAL_SIZE));
-        for number in [0, 30, 31] {
-            let places: Vec<u32> = made.iter().filter(|record| record.answer.number == number).map(|record| record.answer.place).collect();
-            assert!(places.len() >= 5, "refusal {number}: {places:?}");
-            assert!(number < 31 || places.iter().collect::<BTreeSet<_>>().len() >= 5, "refusal {number}: {places:?}");
-        }
-        for kind in LISTING {
-            assert!(made.iter().filter(|record| record.kind == kind && record.answer.number == 0).count() >= 80);
-        }
     }
 }

@@ -7,14 +7,14 @@ use second::compose::{compose, USUAL_SIZE};
 use second::marker::read_steps;
 use second::reader::{number16, number32};
 use second::rules::Step;
-use second::vectors::{records, volumes, write, Record, DERIVATION, MOST_BYTES, PAIR, READ, RENEW, SOLVE};
+use second::vectors::{records, volumes, write, Record, DERIVATION, KINDS, MOST_BYTES, RENEW, SOLVE};
 
 #[test]
 fn files_are_read_back_and_agree() {
     for seed in [1, 2, 77] {
         let made = compose(seed, USUAL_SIZE);
         let files: Vec<Vec<u8>> = volumes(&made).into_iter().map(write).collect();
-        assert_eq!(files.len(), 3);
+        assert_eq!(files.len(), 4);
         assert!(files.iter().all(|file| file.len() <= MOST_BYTES));
         let read: Vec<Record> = files.iter().flat_map(|file| records(file).unwrap().map(Result::unwrap)).collect();
         assert_eq!(read, made);
@@ -140,14 +140,14 @@ fn fields_hang_on_several_vectors() {
 fn every_refusal_occurs_at_several_places() {
     for seed in [1, 2, 3] {
         let made = compose(seed, USUAL_SIZE);
-        for number in 0..=29 {
+        for number in 0..=31 {
             let places: Vec<u32> = made.iter().filter(|record| record.answer.number == number).map(|record| record.answer.place).collect();
             assert!(places.len() >= 5, "refusal {number}: {places:?}");
-            if [6, 7, 8, 9, 10, 15, 16, 17, 21, 22, 23, 24, 27, 28, 29].contains(&number) {
+            if [6, 7, 8, 9, 10, 15, 16, 17, 21, 22, 23, 24, 27, 28, 29, 31].contains(&number) {
                 assert!(places.iter().collect::<BTreeSet<_>>().len() >= 5, "refusal {number}: {places:?}");
             }
         }
-        for kind in [READ, DERIVATION, PAIR, SOLVE, RENEW] {
+        for kind in KINDS {
             assert!(made.iter().filter(|record| record.kind == kind && record.answer.number == 0).count() >= 80);
         }
     }

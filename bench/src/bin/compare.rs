@@ -4,7 +4,7 @@
 use std::collections::BTreeMap;
 
 use bench::proved;
-use second::compose::{compose, compose_random, compose_runs};
+use second::compose::{compose, compose_random, WITH_WORST};
 use second::falling::{self, Falling};
 use second::sheet::NO_TAGS;
 use second::vectors::{bytes_of, Record, DERIVATION, FIRST_RUN, NEXT_RUN, RENEW, SOLVE};
@@ -34,8 +34,7 @@ fn main() {
     let mut seed: u64 = arguments.next().map_or(1, |text| text.parse().expect("a seed is a number"));
     let (mut calls, mut tagged, mut kinds, mut numbers) = (0, 0, BTreeMap::<u8, u64>::new(), BTreeMap::<u16, u64>::new());
     // The first records are the fixed calls, with the worst circuits among them; all others are random.
-    let mut records = compose(seed, 1_600_000);
-    records.extend(compose_runs(seed, &records));
+    let mut records = compose(seed, WITH_WORST);
     records.extend(longest());
     while calls < wanted {
         for record in records {

@@ -1,6 +1,7 @@
 // One call of a record, and whether its answer and its buffer are what the record says.
 
 use crate::record::{Kind, Record, Refusal};
+use std::alloc::{AllocError, Global};
 use std::array;
 
 // What each byte of buffers and of lent numbers is before a call, and what such a number is.
@@ -17,22 +18,22 @@ struct Told {
 
 impl Record<'_> {
     // Whether the call does what the record says: in the buffer it writes some bytes at the start, and leaves the filling after them.
-    pub(crate) fn agrees(&self, buffer: &mut [u8]) -> bool {
+    pub(crate) fn agrees(&self, alloc: Global, buffer: &mut [u8]) -> Result<bool, AllocError> {
         buffer.fill(FILLING);
-        let Some(lent) = buffer.get_mut(..self.lent) else {
-            return false;
+        let size = self.lent.saturating_mul(self.kind.width());
+        let Some(lent) = buffer.get_mut(..size) else {
+            return Ok(false);
         };
-        if self.call(lent) != self.told() {
-            return false;
+        if self.call(alloc, lent)? != self.told() {
+            return Ok(false);
         }
-        buffer
-            .strip_prefix(self.written)
-            .is_some_and(|rest| rest.iter().all(|byte| *byte == FILLING))
+        let left = buffer.strip_prefix(self.written);
+        Ok(left.is_some_and(|rest| rest.iter().all(|byte| *byte == FILLING)))
     }
 
     // Makes the call.
     // Stays: a match on the kind, since each call takes arguments of its own: closures would be five bodies anyway.
-    fn call(&self, lent: &mut [u8]) -> Told {
+    fn call(&self, alloc: Global, lent: &mut [u8]) -> Result<Told, AllocError> {
         let Record {
             circuit,
             sheet,
@@ -52,11 +53,20 @@ impl Record<'_> {
             Kind::Pair => exports::yolqushek_pair(circuit, sheet, hand_in),
             Kind::Solve => exports::yolqushek_solve(circuit, sheet, lent, &mut numbers),
             Kind::Renew => exports::yolqushek_renew(circuit, sheet, hand_in, lent),
+            Kind::FirstRun => on_values(alloc, lent, |answer| {
+                exports::yolqushek_first_run(circuit, answer)
+            })?,
+            Kind::NextRun => {
+                let given = values_of(alloc, hand_in)?;
+                on_values(alloc, lent, |answer| {
+                    exports::yolqushek_next_run(circuit, &given, answer)
+                })?
+            }
         };
-        Told { returned, numbers }
+        Ok(Told { returned, numbers })
     }
 
-    // What the call must return and hand over: a refusal's number and place, and nothing; or the values. Of a pair and a renewal the only one is returned.
+    // What the call must return and hand over: a refusal's number and place, and nothing; or the values. A call that hands over none returns its only one.
     fn told(&self) -> Told {
         match self.answer {
             Err(Refusal { number, place }) => Told {
@@ -77,4 +87,30 @@ impl Record<'_> {
             }
         }
     }
+}
+
+// The values that bytes hold, four of them each.
+fn values_of(alloc: Global, bytes: &[u8]) -> Result<Vec<u32>, AllocError> {
+    let (values, _) = bytes.as_chunks::<4>();
+    values
+        .iter()
+        .map(|value| u32::from_le_bytes(*value))
+        .collect(alloc)
+}
+
+// What a call returns on a buffer of values, whose bytes are lent.
+fn on_values<F: FnOnce(&mut [u32]) -> u64>(
+    alloc: Global,
+    lent: &mut [u8],
+    call: F,
+) -> Result<u64, AllocError>
+    requires { F.IsAlwaysCallable call }
+{
+    let mut answer = values_of(alloc, lent)?;
+    let returned = call(&mut answer);
+    let (places, _) = lent.as_chunks_mut::<4>();
+    for (place, value) in places.iter_mut().zip(&answer) {
+        *place = value.to_le_bytes();
+    }
+    Ok(returned)
 }

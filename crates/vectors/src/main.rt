@@ -11,7 +11,12 @@ use std::{fs, io};
 use tally::Tally;
 
 fn main(rt: HostRuntime) {
-    for path in ["vectors-1.bin", "vectors-2.bin", "vectors-3.bin"] {
+    for path in [
+        "vectors-1.bin",
+        "vectors-2.bin",
+        "vectors-3.bin",
+        "vectors-4.bin",
+    ] {
         if let Err(error) = report(rt, path) {
             let _ = eprintln!(rt; "{path}: {error}");
         }

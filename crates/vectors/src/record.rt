@@ -11,7 +11,7 @@ const SAME: u32 = 0xffff_ffff;
 // The length of the file's mark and version, before the number of its records.
 const MARK: usize = 5;
 
-// The kinds of calls, 1 to 5 in the file.
+// The kinds of calls, 1 to 7 in the file.
 #[derive(Clone, Copy, Debug, PartialEq, Eq, PartialOrd, Ord)]
 pub enum Kind {
     Read,
@@ -19,17 +19,21 @@ pub enum Kind {
     Pair,
     Solve,
     Renew,
+    FirstRun,
+    NextRun,
 }
 
 impl Kind {
     // All of them, in the order of their numbers.
     // Stays: a list by hand, since Rattle derives none of an enum's cases.
-    pub const ALL: [Kind; 5] = [
+    pub const ALL: [Kind; 7] = [
         Kind::Read,
         Kind::Derivation,
         Kind::Pair,
         Kind::Solve,
         Kind::Renew,
+        Kind::FirstRun,
+        Kind::NextRun,
     ];
 
     // How many numbers a call hands over on a result. One that hands over none returns one.
@@ -37,7 +41,15 @@ impl Kind {
         match self {
             Kind::Derivation => 4,
             Kind::Read | Kind::Solve => 5,
-            Kind::Pair | Kind::Renew => 0,
+            Kind::Pair | Kind::Renew | Kind::FirstRun | Kind::NextRun => 0,
+        }
+    }
+
+    // How many bytes of the file stand for one place of the lent buffer: those that list runs are lent values.
+    pub(crate) fn width(self) -> usize {
+        match self {
+            Kind::FirstRun | Kind::NextRun => 4,
+            _ => 1,
         }
     }
 }
@@ -54,6 +66,8 @@ impl TryFrom<u8> for Kind {
             3 => Ok(Kind::Pair),
             4 => Ok(Kind::Solve),
             5 => Ok(Kind::Renew),
+            6 => Ok(Kind::FirstRun),
+            7 => Ok(Kind::NextRun),
             _ => Err(Unreadable::Kind),
         }
     }
@@ -69,6 +83,8 @@ impl Display for Kind {
             Kind::Pair => "pair",
             Kind::Solve => "solve",
             Kind::Renew => "renew",
+            Kind::FirstRun => "first run",
+            Kind::NextRun => "next run",
         })
     }
 }
@@ -87,7 +103,7 @@ pub struct Refusal {
     pub place: u32,
 }
 
-// `lent` is the length of the lent buffer, `answer` the values that the call must hand over, or its refusal, and `written` what it must write at the buffer's
+// `lent` is how many places the lent buffer has, `answer` the values that the call must hand over, or its refusal, and `written` what it must write at the buffer's
 // start.
 #[derive(Clone, Copy, Debug, PartialEq, Eq)]
 pub struct Record<'a> {

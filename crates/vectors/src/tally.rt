@@ -34,7 +34,7 @@ impl Tally {
         for (record, number) in Records::of(file).zip(1u32..) {
             let agrees = match record {
                 Ok(record) => {
-                    let agrees = record.agrees(&mut buffer);
+                    let agrees = record.agrees(alloc, &mut buffer)?;
                     tally.add(record.kind, agrees)?;
                     agrees
                 }

@@ -1,12 +1,10 @@
 //! The refusals of each call in the words of documents 01 and 02: all faults that a call has, whatever comes before them, and the order that picks one.
 
 use second::marker::MOST_STEPS;
-use second::reader::numbers32;
-use second::reader::{number16, number32, Circuit};
+use second::reader::{number16, number32, numbers32, Circuit};
 use second::rules::Step;
 use second::sheet::{Tag, MOST_TAGS};
-use second::vectors::{Record, DERIVATION, PAIR, READ, RENEW};
-use second::vectors::{FIRST_RUN, NEXT_RUN};
+use second::vectors::{Record, DERIVATION, FIRST_RUN, NEXT_RUN, PAIR, READ, RENEW, WITH_SHEET};
 use second::{field, read_circuit};
 
 use crate::literal::{Literal, Tagging};
@@ -55,12 +53,7 @@ fn faults(record: &Record) -> Vec<Found> {
     let read = read_circuit(circuit).ok();
     let mut found = in_circuit(circuit);
     let [n, i, o, m] = header(circuit);
-    match *kind {
-        FIRST_RUN => return [found, in_runs(circuit, None, *lent)].concat(),
-        NEXT_RUN => return [found, in_runs(circuit, Some(&numbers32(hand_in)), *lent)].concat(),
-        _ => (),
-    }
-    if *kind != READ {
+    if WITH_SHEET.contains(kind) {
         found.extend(in_sheet(circuit, sheet));
     }
     match *kind {
@@ -80,6 +73,8 @@ fn faults(record: &Record) -> Vec<Found> {
             found.extend(in_pair(read.as_ref(), circuit, [n, i, o], hand_in));
             found.extend(broken_tags([n, i], &good_tags(circuit, sheet), hand_in).into_iter().map(|input| (28, u32::from(input))));
         }
+        FIRST_RUN => found.extend(in_runs(circuit, None, *lent)),
+        NEXT_RUN => found.extend(in_runs(circuit, Some(&numbers32(hand_in)), *lent)),
         _ => found.extend((circuit.len() >= 17 && *lent < 7 + 14 * u32::from(n)).then_some((25, 0))),
     }
     found
