@@ -1,4 +1,4 @@
--- Laws of levels: a constraint holds or not by the signals up to its level, and how the constraints of each level are linked.
+-- Laws of levels: a constraint holds or not by the signals up to its level, and how the constraints stand in order of their levels.
 use Prim.Native.Nat.{ℕ, zero, suc, ◌+◌, ◌*◌, ◌-◌, ◌≤◌, ◌<◌, max}
 use mathlib.Core.Path.{◌≡◌, refl, sym, ap, ap₂, ◌∙◌}
 use mathlib.Core.Bool.{Bool, true, false}
