@@ -1,9 +1,9 @@
-//! Rows of listings: whole lists, the first run and each next one to the end, and the first run where a call works longest.
+//! Rows of listings: whole lists, the first run and each next one to the end; the first run where a call works longest; and a next run where the file is longest.
 
 use std::fmt::Debug;
 
 use second::cases::case_g;
-use second::worst_runs;
+use second::worst_runs::{self, dense, everywhere};
 use second::writer::Draft;
 
 use crate::{row, signals, Row};
@@ -46,15 +46,26 @@ fn first(name: &str, circuit: &[u8]) -> Row {
     row(format!("first run, {name}"), || yolqushek::first_run(circuit, &mut one), || second::first_run(circuit, &mut two))
 }
 
+/// The next run after that of zeros.
+fn next(name: &str, circuit: &[u8]) -> Row {
+    let zeros = vec![0; signals(circuit)];
+    let (mut one, mut two) = (vec![9; signals(circuit)], vec![9; signals(circuit)]);
+    assert_eq!(yolqushek::next_run(circuit, &zeros, &mut one).ok(), second::next_run(circuit, &zeros, &mut two).ok());
+    assert_eq!(one, two);
+    row(format!("next run, {name}"), || yolqushek::next_run(circuit, &zeros, &mut one), || second::next_run(circuit, &zeros, &mut two))
+}
+
 pub fn rows() -> Vec<Row> {
     let square = Draft::new(65_521, 1, 0, 1).with(&[(1, 1)], &[(1, 1)], &[(1, 1)]).bytes();
     let mut rows = vec![
         listing("no constraints, p = 3, n = 10", &Draft::new(3, 10, 0, 1).bytes()),
         listing("no constraints, p = 251, n = 2", &Draft::new(251, 2, 0, 1).bytes()),
+        listing("no constraints, p = 65,521, n = 1", &Draft::new(65_521, 1, 0, 1).bytes()),
         listing("10 bits whose sum is 0, p = 3", &worst_runs::bits_and_sum()),
         listing("case g", &case_g()),
         listing("s1·s1 = s1, p = 65,521", &square),
     ];
+    rows.push(next("dense, 3^10 candidates, everything satisfies", &dense(3, 10, everywhere).bytes()));
     rows.extend(worst_runs::all().iter().map(|(name, circuit)| first(name, circuit)));
     rows
 }

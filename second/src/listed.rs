@@ -53,7 +53,7 @@ fn listed() -> Vec<Vec<u8>> {
     let ends = |p: u32, n: u16| (1..=n).fold(draft(p, n), |draft, s| draft.with(&[(s, 1)], &[(s, 1), (0, 1)], &[]));
     let drafts = [draft(3, 2), draft(7, 1), product, sum, chain, ends(65_521, 1), ends(251, 2), ends(13, 3)];
     let cases = [case_a(), case_b(), case_c(13), case_c(7), case_e(), case_f(), case_g()];
-    cases.into_iter().chain(drafts.iter().map(Draft::bytes)).chain([sparse(3, 10, at_last)]).collect()
+    cases.into_iter().chain(drafts.iter().map(Draft::bytes)).chain([sparse(3, 10, at_last).bytes()]).collect()
 }
 
 /// Circuits with at most 27 candidates, some of which satisfy.

@@ -1,5 +1,5 @@
 //! Circuits on which a listing of runs works longest: constraints that hold in every run and name the last signal, so that each is looked at in each candidate;
-//! behind them some that hold nowhere, or in the last candidate alone.
+//! behind or before them some that hold nowhere, or in the last candidate alone.
 
 use crate::worst::bit;
 use crate::writer::{Draft, Terms};
@@ -12,6 +12,9 @@ const MOST_CONSTRAINTS: usize = 512;
 
 /// The constraints at the end of a circuit.
 pub type End = fn(&mut Draft);
+
+/// There are none: everything satisfies the circuit.
+pub fn everywhere(_: &mut Draft) {}
 
 /// Nothing satisfies the circuit.
 pub fn nowhere(draft: &mut Draft) {
@@ -26,26 +29,26 @@ pub fn at_last(draft: &mut Draft) {
 }
 
 /// As many constraints of as many terms as go.
-pub fn dense(p: u32, n: u16, end: End) -> Vec<u8> {
+pub fn dense(p: u32, n: u16, end: End) -> Draft {
     let all: Terms = (0..=n).map(|signal| (signal, 1 + i64::from(signal) % i64::from(p - 1))).collect();
     let twice: Terms = all.iter().map(|&(signal, coefficient)| (signal, 2 * coefficient)).collect();
     filled(Draft::new(p, n, 0, n), [&[(0, 2)], &all, &twice], end)
 }
 
 /// As many constraints of few terms as go.
-pub fn sparse(p: u32, n: u16, end: End) -> Vec<u8> {
+pub fn sparse(p: u32, n: u16, end: End) -> Draft {
     filled(Draft::new(p, n, 0, n), [&[(0, 1)], &[(n, 1)], &[(n, 1)]], end)
 }
 
 /// The constraint again and again, as often as the file and its numbers allow, and then the end.
-fn filled(draft: Draft, [a, b, c]: [&[(u16, i64)]; 3], end: End) -> Vec<u8> {
+fn filled(draft: Draft, [a, b, c]: [&[(u16, i64)]; 3], end: End) -> Draft {
     let mut ended = draft.clone();
     end(&mut ended);
     let size = draft.clone().with(a, b, c).bytes().len() - draft.bytes().len();
     let count = (MOST_CONSTRAINTS - ended.constraints.len()).min((MOST_BYTES - ended.bytes().len()) / size);
     let mut whole = (0..count).fold(draft, |draft, _| draft.with(a, b, c));
     end(&mut whole);
-    whole.bytes()
+    whole
 }
 
 /// 10 bits over p = 3 whose sum is 0.
@@ -56,9 +59,9 @@ pub fn bits_and_sum() -> Vec<u8> {
     draft.with(&[(0, 1)], &sum, &[]).bytes()
 }
 
-/// The circuits on which one call works longest, with their names.
-pub fn all() -> Vec<(&'static str, Vec<u8>)> {
-    vec![
+/// The circuits on which one call works longest, with their names: each with its end at the end, and at the start.
+pub fn all() -> Vec<(String, Vec<u8>)> {
+    let drafts = [
         ("dense, 3^10 candidates, nothing satisfies", dense(3, 10, nowhere)),
         ("dense, 3^10 candidates, only the last satisfies", dense(3, 10, at_last)),
         ("sparse, 3^10 candidates, nothing satisfies", sparse(3, 10, nowhere)),
@@ -66,5 +69,11 @@ pub fn all() -> Vec<(&'static str, Vec<u8>)> {
         ("dense, 251^2 candidates, only the last satisfies", dense(251, 2, at_last)),
         ("dense, 65,521 candidates, nothing satisfies", dense(65_521, 1, nowhere)),
         ("dense, 65,521 candidates, only the last satisfies", dense(65_521, 1, at_last)),
-    ]
+    ];
+    let both = |(name, draft): (&str, Draft)| {
+        let mut turned = draft.clone();
+        turned.constraints.reverse();
+        [(name.to_string(), draft.bytes()), (format!("{name}, by its first constraints"), turned.bytes())]
+    };
+    drafts.into_iter().flat_map(both).collect()
 }
