@@ -19,7 +19,7 @@ pub record IsLeast (P : List ℕ → Type 0) (r : Found) : Type 0 where
   pub found : (run : List ℕ) → r ≡ some run → Least P run
   pub no_more : r ≡ none → (run : List ℕ) → P run → ⊥
 
--- a satisfying run that the run `given` comes before
+-- a satisfying run that the run `from` comes before
 pub record Later (C : Circuit) (from run : List ℕ) : Type 0 where
   pub satisfies : Satisfying C run
   pub later : Before (value_of from) (value_of run)
