@@ -1,7 +1,7 @@
 -- LISTINGS (rule 7.11): what the calls give on cases g, b and f, by LISTED and computation; and what the lists show.
 use Prim.Native.Nat.{ℕ, ◌^◌, ◌≤◌}
-use mathlib.Core.Path.{◌≡◌, refl, sym, ◌∙◌}
-use mathlib.Core.Bool.{Bool, true, false, cond}
+use mathlib.Core.Path.{◌≡◌, refl, sym, ap, ap₂, ◌∙◌}
+use mathlib.Core.Bool.{Bool, true, false, not, ◌&&◌, cond}
 use mathlib.Core.List.{List, [], ◌∷◌}
 use mathlib.Core.List.Memᴰ
 use native.Mathlib.Omega.{arith}
@@ -11,30 +11,33 @@ use Rattle.field.specs.Prime.{trial, no_divisor, odd_prime}
 use Rattle.field.specs.Residue.{opposite}
 use Rattle.field.specs.Inverse.{inverse_from, inverse}
 use Rattle.circuit.specs.Bytes.{byte_at, u16_at, u32_at}
-use Rattle.circuit.specs.Circuit.{Circuit, constraint_at, coef, names, value_of, eval, Satisfying, ShareInputs}
+use Rattle.circuit.specs.Circuit.{Circuit, Constraint, constraint_at, coef, names, value_of, eval, Satisfying}
 use Rattle.circuit.specs.Reading.{whole}
 use Rattle.circuit.specs.Reader.{read_terms, read_form, read_constraint, read_constraints, has_mark, sizes_fit, read_body, read_circuit}
 use Rattle.circuit.specs.Run.{holds}
 use Rattle.circuit.specs.Runs.{first_from, satisfied_by, unsatisfied}
+use Rattle.laws.specs.Problem.{Problem, given, Names, nothing, a_constraint, equation_at}
 use Rattle.laws.specs.Rules.{names_none, linear, reduced, occurs, is_zero, names_only, root_met, sum_weight, ceiling, sum_term, sum_bound, sum_met, zero_met}
 use Rattle.laws.specs.Rules.{others_marked, product_met, live, differs, separated, digits_met}
 use Rattle.laws.specs.Solver.{solution, bound_steps, mark_steps, turns, best_bound, best_of_constraints, best_of_targets, consider, adds_by, new_bound}
 use Rattle.laws.specs.Solver.{precedes, first_by, first_up, try, try_references, try_kind, try_kinds, first_adding}
-use Rattle.laws.specs.Standing.{is_input, start}
-use Rattle.laws.specs.Step.{in_range, within, rule_of, met, fits, adds, replay}
+use Rattle.laws.specs.Sound.{AtLeast, Closed}
+use Rattle.laws.specs.Standing.{Standing, idle, is_input, start}
+use Rattle.laws.specs.Step.{Step, names_of, refers, named, referred, in_range, within, Rule, rule, rule_of, met, change, fits, adds, replay}
 use Rattle.laws.specs.Sum.{sum, all, keep, implies}
+use Rattle.laws.proofs.Idle.{accepted_formerly}
+use Rattle.laws.proofs.Optimum.{optimum}
+use Rattle.laws.proofs.Solution.{solution_closed}
 use Rattle.laws.proofs.Sum.{false_by}
-use Rattle.tags.specs.Tag.{least_of, lowered, first_bound, tagged}
-use Rattle.tags.specs.Sheet.{tag_in, sheet_of}
-use Rattle.derivation.specs.Steps.{steps_from, steps_of}
-use Rattle.derivation.specs.Encoded.{steps_bytes, encoded}
+use Rattle.tags.specs.Tag.{Sheet, lowered, first_bound, tagged}
+use Rattle.derivation.specs.Steps.{steps_of}
 use Rattle.derivation.specs.Call.{Accepted, last_of}
-use Rattle.solver.specs.Call.{own}
+use Rattle.derivation.proofs.Exact.{derivation_accepted}
+use Rattle.solver.specs.Call.{own, solved}
 use Rattle.solver.proofs.Demand.{own_is_best}
 use Rattle.runs.specs.Order.{starting_below, candidates, passing, satisfies, runs_of}
-use Rattle.runs.specs.Listed.{In}
 use Rattle.runs.proofs.CandidateLaws.{in_passing}
-use Rattle.runs.proofs.Listed.{listed, satisfying_in}
+use Rattle.runs.proofs.Listed.{listed}
 use Rattle.cases.specs.Encode.{u16_bytes, u32_bytes, terms_bytes, form_bytes, constraints_bytes, circuit_bytes}
 use Rattle.cases.specs.Circuits.{circuit_b, circuit_f, circuit_g}
 use Rattle.cases.specs.Listings.{runs_g, runs_b, runs_f, Lists, no_sheet, OpenThoughSettled, PairAmong}
@@ -64,14 +67,74 @@ lists_b = lists circuit_b 71 runs_b read.1 (omega arith) runs_are.1
 pub lists_f : Lists circuit_f runs_f
 lists_f = lists circuit_f 38 runs_f read.2 (omega arith) runs_are.2
 
--- the solver's own derivation on g has no steps, so it marks the input alone
-own_unmarked : (last_of (tagged circuit_g no_sheet) (own (tagged circuit_g no_sheet))).marked 2 ≡ false
+-- The lowest first bounds that tags can give g: with them too the solver finds no step, so none adds, and output 2 isn't marked.
+lowest : ℕ → ℕ
+lowest s = cond (is_input 1 s) 0 6
+
+abbrev at_lowest : Problem
+at_lowest = given circuit_g lowest
+
+no_steps : solution at_lowest ≡ []
 unfolding names_none linear reduced occurs is_zero names_only root_met sum_weight ceiling sum_term sum_bound sum_met zero_met others_marked product_met live
     differs separated digits_met solution bound_steps mark_steps turns best_bound best_of_constraints best_of_targets consider adds_by new_bound precedes
     first_by first_up try try_references try_kind try_kinds first_adding is_input start in_range within rule_of met fits adds replay sum all keep implies
-    least_of lowered first_bound tag_in sheet_of steps_from steps_of steps_bytes encoded last_of own byte_at u16_at u16_bytes u32_bytes constraint_at coef
-    names opposite inverse_from inverse
-own_unmarked = refl
+    constraint_at coef names opposite inverse_from inverse lowest change
+no_steps = refl
+
+lowest_closed : Closed at_lowest (start at_lowest)
+unfolding replay
+lowest_closed = rw no_steps at (solution_closed at_lowest)
+
+lowest_unmarked : (start at_lowest).marked 2 ≡ false
+unfolding start is_input
+lowest_unmarked = refl
+
+-- what a step gives doesn't rest on the first bounds
+module _ (f g : ℕ → ℕ) where
+  named_same : (q : Names) → named q (given circuit_g f) ≡ named q (given circuit_g g)
+  named_same nothing = refl
+  named_same a_constraint = refl
+
+  referred_same : (b : Bool) → referred b (given circuit_g f) ≡ referred b (given circuit_g g)
+  referred_same true = refl
+  referred_same false = refl
+
+  equation_same : (q : Names) (k : ℕ) → equation_at q (given circuit_g f) k ≡ equation_at q (given circuit_g g) k
+  equation_same nothing k = refl
+  equation_same a_constraint k = refl
+
+  in_range_same : (x : Step) → in_range (given circuit_g f) x ≡ in_range (given circuit_g g) x
+  unfolding in_range
+  in_range_same x = rw (named_same (names_of x.kind), referred_same (refers x.kind)) refl
+
+  rule_same : (S : Standing) (x : Step) → rule_of (given circuit_g f) S x ≡ rule_of (given circuit_g g) S x
+  unfolding rule_of
+  rule_same S x =
+      ap (λ (K : Constraint). rule x.kind (record { p = 7; n = 3; equation = K }) S x.target x.reference)
+      (equation_same (names_of x.kind) x.constraint)
+
+  adds_same : (S : Standing) (x : Step) → adds (given circuit_g f) S x ≡ adds (given circuit_g g) S x
+  unfolding adds fits met change
+  adds_same S x = ap₂ (λ (b : Bool) (r : Rule). b && r.met && not (idle r.change S x.target)) (in_range_same x) (rule_same S x)
+
+-- .. so with any tags none adds there, and no derivation gets further
+tagged_closed : (T : Sheet) → Closed (tagged circuit_g T) (start at_lowest)
+tagged_closed T = record { closed = λ x. adds_same (tagged circuit_g T).first lowest (start at_lowest) x ∙ lowest_closed.closed x }
+
+zero_least : (b : Bool) (x : ℕ) → cond b 0 6 ≤ cond b x 6
+zero_least true x = omega arith
+zero_least false x = omega arith
+
+start_below : (T : Sheet) → AtLeast (start (tagged circuit_g T)) (start at_lowest)
+unfolding start first_bound lowered lowest is_input
+start_below T = record { bounds = λ s. zero_least (is_input 1 s) _; marks = λ s e. e }
+
+no_further : (T : Sheet) (d : List ℕ) → Accepted (tagged circuit_g T) T d → AtLeast (last_of (tagged circuit_g T) d) (start at_lowest)
+unfolding last_of
+no_further T d A =
+    let P = tagged circuit_g T in
+    let steps = accepted_formerly P (start P) (steps_of d) (derivation_accepted P T d 3 A.is).adds in
+    optimum {P = P} {S = start P} {S' = start at_lowest} (tagged_closed T) (start_below T) (steps_of d) steps
 
 -- output 2 is 1 where input 1 is 0, else 0
 abbrev is_zero_first : List ℕ → ℕ
@@ -90,9 +153,10 @@ not_true e f = let z : ◌≡◌ {A = ℕ} 0 1 = cc in absurd (omega arith)
 pub open_g : OpenThoughSettled circuit_g 2
 open_g =
     record {
-      unmarked = λ d A.
-          let best = (own_is_best (tagged circuit_g no_sheet) no_sheet (omega arith)).is_best d A in
-          false_by _ (λ e. not_true own_unmarked (best.marks 2 e));
+      some =
+          let P = tagged circuit_g no_sheet in
+          (own P, record { judgement = (solved P no_sheet).judgement; is = (own_is_best P no_sheet (omega arith)).is_accepted });
+      unmarked = λ T d A. false_by _ (λ e. not_true lowest_unmarked ((no_further T d A).marks 2 e));
       settled = λ run other S S' share.
           let same = share 1 (omega arith) (omega arith) in
           output_g run S ∙ rw same refl ∙ sym (output_g other S');

@@ -1,4 +1,4 @@
--- The circuits of the table: those of cases a to g (Rule 7.4), a copy of an input, headers alone, and bits as inputs with their tags.
+-- The circuits of the table: those of cases a to g (Rule 7.4), one that nothing satisfies, a copy of an input, headers alone, bits as inputs with their tags.
 use Rattle.std.specs.Prelude.{ℕ, ◌-◌, Bool, true, false, [], ◌∷◌}
 use Rattle.circuit.specs.Circuit.{Term, Form, Constraint, Circuit}
 use Rattle.tags.specs.Tag.{Binary, Maxbit, Maxvalue, Tag}
@@ -83,6 +83,10 @@ circuit_g =
           ∷ product (times 1 1 ∷ []) (times 1 2 ∷ []) []
           ∷ [];
     }
+
+-- 1 · 1 = 0: nothing satisfies it
+abbrev pub never : Circuit
+never = record { p = 5; n = 1; i = 0; o = 1; m = 1; constraints = product (one 1 ∷ []) (one 1 ∷ []) [] ∷ [] }
 
 -- output 2 equals input 1, by a linear constraint: A is the constant and B the input, or the other way about
 abbrev pub copy : Bool → Circuit

@@ -28,9 +28,11 @@ Lists C runs = Listed (circuit_bytes C) C (first_call (circuit_bytes C) C.n) run
 abbrev pub no_sheet : Sheet
 no_sheet = sheet_of empty_sheet
 
--- no accepted derivation marks signal s, and yet its value is the same in all satisfying runs that share their inputs
+-- Derivations of C are accepted, and none of them marks signal s, whatever sheet comes with it; and yet the value of s is the same in all satisfying runs that
+-- share their inputs.
 pub record OpenThoughSettled (C : Circuit) (s : ℕ) : Type 0 where
-  pub unmarked : (d : List ℕ) → Accepted (tagged C no_sheet) no_sheet d → (last_of (tagged C no_sheet) d).marked s ≡ false
+  pub some : (d : List ℕ) × Accepted (tagged C no_sheet) no_sheet d
+  pub unmarked : (T : Sheet) (d : List ℕ) → Accepted (tagged C T) T d → (last_of (tagged C T) d).marked s ≡ false
   pub settled : (run other : List ℕ) → Satisfying C run → Satisfying C other → ShareInputs C run other → value_of run s ≡ value_of other s
 
 -- two runs of a list that share their inputs and differ at signal q

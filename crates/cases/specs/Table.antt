@@ -18,7 +18,7 @@ use Rattle.renewal.specs.Call as renewal
 use Rattle.solver.specs.Call as solver
 use Rattle.runs.specs.Call as runs
 use Rattle.cases.specs.Encode.{circuit_bytes, sheet_bytes, pair_bytes, one_step}
-use Rattle.cases.specs.Circuits.{circuit_a, circuit_b, circuit_c, circuit_d, circuit_e, circuit_f, circuit_g, copy, bare, bits, carry, is_binary, has_bits, is_most}
+use Rattle.cases.specs.Circuits.{circuit_a, circuit_b, circuit_c, circuit_d, circuit_e, circuit_f, circuit_g, never, copy, bare, bits, carry, is_binary, has_bits, is_most}
 
 -- a call: reading the circuit, solving it, judging a hand-in or renewing one, the first run or the one after a given one, with so much room; or the bounds
 -- that a derivation reaches
@@ -143,14 +143,8 @@ abbrev pub run_row : Circuit → Asked → List ℕ → Row
 run_row C asked run = record { circuit = circuit_bytes C; sheet = empty_sheet; asked = asked; said = lists (given (some run)) run }
 
 -- no more runs: nothing is written
-abbrev pub ended_row : Circuit → List ℕ → Row
-ended_row C run =
-    record {
-      circuit = circuit_bytes C;
-      sheet = empty_sheet;
-      asked = following run (length run);
-      said = lists (given none) (room_of (length run));
-    }
+abbrev pub ended_row : Circuit → Asked → ℕ → Row
+ended_row C asked n = record { circuit = circuit_bytes C; sheet = empty_sheet; asked = asked; said = lists (given none) (room_of n) }
 
 -- a listing that is refused: nothing is written
 abbrev pub unlisted_row : Circuit → Asked → ℕ → ℕ → ℕ → Row
@@ -284,16 +278,20 @@ table =
     -- .. a step that isn't met, after an idle one; and 105 bytes of which 56 would be left, but the buffer has 100
     ∷ unrenewed_row circuit_c (step Root 2 1 0 ∷ step Root 2 1 0 ∷ step Zero 2 0 0 ∷ []) 17 3
     ∷ unrenewed_row circuit_c (steps_c ++ steps_c) 25 0
-    -- runs of g: the first; after one that satisfies not itself but the next, after one that doesn't the next too; after the last none
+    -- runs of g: the first; after a satisfying run the next one, not itself; after one that satisfies nothing the next too; after the last none
     ∷ run_row circuit_g (beginning 3) (0 ∷ 1 ∷ 0 ∷ [])
     ∷ run_row circuit_g (following (0 ∷ 1 ∷ 0 ∷ []) 3) (0 ∷ 1 ∷ 1 ∷ [])
     ∷ run_row circuit_g (following (0 ∷ 1 ∷ 6 ∷ []) 3) (1 ∷ 0 ∷ 1 ∷ [])
     ∷ run_row circuit_g (following (2 ∷ 6 ∷ 6 ∷ []) 3) (3 ∷ 0 ∷ 5 ∷ [])
-    ∷ ended_row circuit_g (6 ∷ 0 ∷ 6 ∷ [])
-    ∷ ended_row circuit_g (6 ∷ 6 ∷ 6 ∷ [])
+    ∷ ended_row circuit_g (following (6 ∷ 0 ∷ 6 ∷ []) 3) 3
+    ∷ ended_row circuit_g (following (6 ∷ 6 ∷ 6 ∷ []) 3) 3
+    -- .. and of a circuit that nothing satisfies
+    ∷ ended_row never (beginning 1) 1
+    ∷ ended_row never (following (0 ∷ []) 1) 1
     -- .. a buffer or a run that is too short or too long, also with a value that is too large; two such values
     ∷ unlisted_row circuit_g (beginning 4) 4 31 0
     ∷ unlisted_row circuit_g (following (0 ∷ 1 ∷ 0 ∷ []) 2) 2 31 0
+    ∷ unlisted_row circuit_g (following (0 ∷ 1 ∷ []) 3) 3 31 0
     ∷ unlisted_row circuit_g (following (7 ∷ 1 ∷ 0 ∷ 0 ∷ []) 3) 3 31 0
     ∷ unlisted_row circuit_g (following (6 ∷ 7 ∷ 7 ∷ []) 3) 3 31 2
     -- .. as many candidates as may be, with a length that is wrong, and more of them
