@@ -61,7 +61,7 @@ impl Maker {
     }
 
     /// Every kind of call but those that list runs, with a derivation without steps, a pair of runs of zeros, and buffers that are long enough for n signals.
-    fn every_kind(&mut self, circuit: &[u8], n: usize) {
+    pub fn every_kind(&mut self, circuit: &[u8], n: usize) {
         let zeros = vec![0; n];
         self.call(READ, circuit, &[], 0);
         self.call(DERIVATION, circuit, &write_steps(&[]), n);

@@ -1,5 +1,5 @@
 //! Calls that list runs: as many candidates as may be and more, given runs and buffers at and beyond their limits, whole lists, every given run of the smallest
-//! circuits, and circuits that nothing satisfies.
+//! circuits, and circuits that nothing satisfies. With them two circuits of two faults that no table of faults has.
 
 use crate::brute::satisfying_runs;
 use crate::cases::{case_a, case_b, case_c, case_e, case_f, case_g};
@@ -10,15 +10,15 @@ use crate::runs::is_small;
 use crate::vectors::{bytes_of, FIRST_RUN, LISTING, NEXT_RUN};
 use crate::worst::bit;
 use crate::worst_runs::{at_last, sparse};
-use crate::writer::Draft;
+use crate::writer::{Draft, Terms};
 
 /// p and n with at most 65,536 candidates: for each n the most, and few.
 const SMALL: [(u32, u16); 11] = [(3, 10), (3, 9), (3, 8), (3, 7), (5, 6), (7, 5), (13, 4), (37, 3), (251, 2), (65_521, 1), (3, 1)];
 
 /// p and n with more: for each n of `SMALL` the fewest; the largest; and those whose power is small modulo 2^32.
 #[rustfmt::skip]
-const LARGE: [(u32, u16); 16] = [
-    (65_537, 1), (65_539, 1), (2_147_483_647, 1), (257, 2), (41, 3), (17, 4), (11, 5), (7, 6), (5, 7), (5, 8), (3, 11), (3, 12),
+const LARGE: [(u32, u16); 18] = [
+    (65_537, 1), (65_539, 1), (2_147_483_647, 1), (257, 2), (41, 3), (17, 4), (11, 5), (7, 6), (5, 7), (5, 8), (5, 9), (5, 10), (3, 11), (3, 12),
     (2_147_483_647, 2), (2_147_483_647, 4), (3, 256), (2_147_483_647, 256),
 ];
 
@@ -79,6 +79,8 @@ impl Maker {
     /// All fixed calls that list runs.
     pub fn run_calls(&mut self) {
         self.too_long(&LISTING);
+        self.too_long_at_the_end();
+        self.crowded_form_and_more();
         self.every_two_faults(&LISTING);
         for circuit in empty_constraints() {
             self.first_run(&circuit, 1);
@@ -97,6 +99,24 @@ impl Maker {
             self.first_run(&circuit, read.signals.into());
             candidates(&read).iter().for_each(|given| self.next_run(&circuit, given, given.len()));
         }
+    }
+
+    /// A file that is too long by bytes after its last constraint: 1 and 10. The other calls have it of the largest circuit.
+    fn too_long_at_the_end(&mut self) {
+        let mut circuit = Draft::new(3, 2, 1, 1).with(&[(0, 1)], &[(1, 1)], &[(2, 1)]).bytes();
+        circuit.resize(60_001, 0);
+        self.first_run(&circuit, 2);
+        self.next_run(&circuit, &[0; 2], 2);
+    }
+
+    /// A form of 33 terms, each of which stands there, and a byte after the last constraint: 7 and 10, for every call. With 32 signals 30 is met too.
+    fn crowded_form_and_more(&mut self) {
+        let all: Terms = (0..=32).map(|signal| (signal, 1)).collect();
+        let mut circuit = Draft::new(3, 32, 1, 1).with(&[], &all, &[]).bytes();
+        circuit.push(0);
+        self.every_kind(&circuit, 32);
+        self.first_run(&circuit, 32);
+        self.next_run(&circuit, &[0; 32], 32);
     }
 
     /// The first run, with a buffer of so many values.

@@ -131,8 +131,7 @@ fn a_circuit_that_is_too_long_has_every_other_fault() {
     };
     for kind in KINDS {
         assert!(told(kind, &[2, 3, 4, 5, 6, 7, 8, 9]));
-        // The file with 10 is stored for the others alone.
-        assert!(LISTING.contains(&kind) || told(kind, &[10]));
+        assert!(told(kind, &[10]));
     }
     let beyond = [(DERIVATION, 11..=16), (PAIR, 18..=21), (SOLVE, 25..=25), (RENEW, 11..=13), (RENEW, 15..=16), (RENEW, 25..=25)];
     for (kind, numbers) in beyond.into_iter().chain([(FIRST_RUN, 30..=31), (NEXT_RUN, 30..=31)]) {
@@ -140,6 +139,15 @@ fn a_circuit_that_is_too_long_has_every_other_fault() {
     }
     for kind in WITH_SHEET {
         (26..=27).for_each(|number| assert!(told(kind, &[number]), "{number}"));
+    }
+}
+
+#[test]
+fn a_form_with_too_many_terms_and_a_byte_too_many() {
+    let both = |record: &&Record| found(record) == (7, 18) && refusal(record, |found| before(found, 10, 7)).0 == 10;
+    let stored = stored();
+    for kind in KINDS {
+        assert!(stored.iter().filter(|record| record.kind == kind).any(|record| both(&record)), "call {kind}");
     }
 }
 

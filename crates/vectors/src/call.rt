@@ -32,7 +32,7 @@ impl Record<'_> {
     }
 
     // Makes the call.
-    // Stays: a match on the kind, since each call takes arguments of its own: closures would be five bodies anyway.
+    // Stays: a match on the kind, since each call takes arguments of its own: closures would be a body each anyway.
     fn call(&self, alloc: Global, lent: &mut [u8]) -> Result<Told, AllocError> {
         let Record {
             circuit,
