@@ -22,7 +22,7 @@ pub(crate) fn print_runs(rt: HostRuntime, circuit: &[u8]) -> Result<(), Failure<
     }
 }
 
-// The runs from the first on, if one was written, and their count.
+// The runs from the first on, if one was written, and their count. No call refuses after the first didn't: each is given a run that the one before wrote.
 fn print_from(
     rt: HostRuntime,
     circuit: &[u8],
