@@ -47,7 +47,7 @@ fn inputs() -> [Input; 10] {
     let tags = worst::obeyed_sheet(&largest);
     let pair = write_pair(largest.q, &largest.first, &largest.second);
     let small = |p: u32| Draft::new(p, 1, 0, 1).bytes();
-    let listed = |name, p, n: u16, end| Input::new(name, dense(p, n, end), NO_TAGS, write_pair(1, &zeros[..n.into()], &zeros[..n.into()]));
+    let listed = |name, p, n: u16, end| Input::new(name, dense(p, n, end).bytes(), NO_TAGS, write_pair(1, &zeros[..n.into()], &zeros[..n.into()]));
     [
         Input::new("no bytes", Vec::new(), &[], Vec::new()),
         Input::new("no prime", small(2_147_483_645), NO_TAGS, write_pair(1, &[0], &[1])),
