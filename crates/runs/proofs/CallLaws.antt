@@ -21,7 +21,7 @@ use Rattle.runs.specs.Call.{Found, first_run, next_run, few, fits, first_on, nex
 use Rattle.runs.specs.Listed.{EachBelow, IsLeast, Later, FirstAnswer, NextAnswer, ListedAnswer}
 use Rattle.runs.specs.Answer.{paper_of, run_answer}
 use Rattle.runs.specs.Inner.{Candidate, Rose, Ended, roomy, Seeks, Answers}
-use Rattle.runs.proofs.CountLaws.{few_signals}
+use Rattle.runs.proofs.CountLaws.{few_signals, small_prime}
 use Rattle.runs.proofs.SearchLaws.{rose_candidate}
 use Rattle.runs.proofs.Listed.{first_least, next_least, first_answer, next_answer, listed_answer}
 use Rattle.runs.proofs.SeekLaws as seek
@@ -70,6 +70,12 @@ module _ (s : List ℕ) {z : Sizes} (read : given z ≡ circuit_call s) where
     few_here =
         let small = ask_given (few z.p z.n) 30 0 _ (sym e) in
         few_signals (omega (arith, Z.is_p, Z.formed.p_least)) (leb-true (z.p ^ z.n) 65536 small.0)
+
+    pub small_here : z.p ≤ 65536
+    unfolding roomy few
+    small_here =
+        let small = ask_given (few z.p z.n) 30 0 _ (sym e) in
+        small_prime (omega (arith, Z.is_p, Z.formed.p_least)) (omega (arith, Z.is_n, Z.formed.n_least)) (leb-true (z.p ^ z.n) 65536 small.0)
 
     pub room_here : room ≡ z.n
     unfolding roomy

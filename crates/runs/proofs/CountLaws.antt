@@ -1,11 +1,11 @@
 -- Laws of candidates: how many there are, the values of a given run, and the step to the next candidate, digit by digit from the last.
-use Prim.Native.Nat.{ℕ, zero, suc, ◌+◌, ◌-◌, ◌^◌, ◌≤◌, ◌<◌}
+use Prim.Native.Nat.{ℕ, zero, suc, ◌+◌, ◌*◌, ◌-◌, ◌^◌, ◌≤◌, ◌<◌}
 use mathlib.Core.Path.{◌≡◌, refl, sym, ap, ◌∙◌, fun_ext}
 use mathlib.Core.Logic.{◌⊎◌, ⊎_elim}
 use mathlib.Core.Bool.{true, false}
 use mathlib.Core.List.{List, ◌∷◌, ◌++◌}
 use native.Mathlib.Decide.{ℕ_discrete, dec_le, dec_lt}
-use native.Mathlib.Nat.{pow-le-pow_left, pow-le-pow_right}
+use native.Mathlib.Nat.{pow-le-pow_left, pow-le-pow_right, pow-zero, pow-suc}
 use native.Mathlib.Numerals.{add-one}
 use native.Mathlib.Omega.{arith}
 use borrow.Author.Tests.{lt-ltb, le-ltb}
@@ -33,6 +33,13 @@ few_signals {p} {n} odd most = go (dec_le n 10)
         let more : 3 ^ 11 ≤ 3 ^ n = pow-le-pow_right {n = 3} (omega arith) {i = 11} {j = n} (omega arith) in
         let base : 3 ^ n ≤ p ^ n = pow-le-pow_left odd n in
         absurd (omega arith)
+
+-- .. and a prime that is at most as many
+pub small_prime : {p n : ℕ} → 3 ≤ p → 1 ≤ n → p ^ n ≤ 65536 → p ≤ 65536
+small_prime {p} {n} odd some most =
+    let power : p ^ 1 ≤ p ^ n = pow-le-pow_right {n = p} (omega arith) {i = 1} {j = n} some in
+    let one : p ^ 1 ≡ 1 * p = pow-suc p 0 ∙ ap (λ (x : ℕ). x * p) (pow-zero p) in
+    omega (arith, power, one)
 
 -- ---- a given run
 

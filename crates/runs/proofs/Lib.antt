@@ -3,6 +3,7 @@ pub mod CandidateLaws
 pub mod Listed
 pub mod LevelLaws
 pub mod CountLaws
+pub mod EvalLaws
 pub mod SearchLaws
 pub mod SeekLaws
 pub mod CallLaws

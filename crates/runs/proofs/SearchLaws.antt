@@ -298,6 +298,9 @@ module _ {s table : List ℕ} {z : Sizes} (Z : Sized s z) (O : Offsets s z.m tab
       pub search_fewer : left_from z.p z.n w < left_from z.p z.n v
       search_fewer = rose_fewer R is_v search_low
 
+      pub search_next : Candidate z.p z.n w
+      search_next = rose_candidate R is_v search_low
+
       pub search_again : {i : Option ℕ} → Checked C level w j i → Searching C level from w i
       search_again {i} K =
           record {

@@ -53,6 +53,11 @@ pub record Candidate (p n : ℕ) (v : ℕ → ℕ) : Type 0 where
   pub below : (s : ℕ) → 1 ≤ s → s ≤ n → v s < p
   pub past : (s : ℕ) → n < s → v s ≡ 0
 
+-- values that are summed up without a remainder: each below 65,536, and 0 at the numbers that no signal has
+pub record Small (v : ℕ → ℕ) : Type 0 where
+  pub below : (s : ℕ) → v s < 65536
+  pub past : (s : ℕ) → 256 < s → v s ≡ 0
+
 -- the next candidate w that differs from v among the first h signals: signal j has risen, those after it are 0
 pub record Rose (p n h : ℕ) (v w : ℕ → ℕ) (j : ℕ) : Type 0 where
   pub least : 1 ≤ j

@@ -52,7 +52,7 @@ fn check_room(sizes: Sizes, room: usize) -> Result<(), Refusal>
 // Writes the first run that satisfies the circuit, from a candidate on. Nothing is written before it is found. Whether there is one.
 // Stays: the run goes to the buffer of the C interface, so that whether there is one is all that is left to answer.
 fn seek(file: CircuitFile, mut values: [u32; SIGNAL_NUMBERS], answer: &mut [u32]) -> bool
-    requires { (file.sizes.n ≤ 10) × (length answer.old ≡ file.sizes.n)
+    requires { (file.sizes.n ≤ 10) × (file.sizes.p ≤ 65536) × (length answer.old ≡ file.sizes.n)
         × Candidate file.sizes.p file.sizes.n (values_in values) }
     ensures { Seeks (circuit_of file.entry.bytes.now) (values_in values) answer.old result answer.new }
 {

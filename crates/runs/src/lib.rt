@@ -5,5 +5,6 @@
 pub mod answer;
 pub mod call;
 mod candidates;
+mod evaluate;
 mod levels;
 mod search;

@@ -5,12 +5,12 @@
 ghost use Rattle.std.specs.Prelude.{◌≡◌, ◌≤◌, ◌<◌, length};
 ghost use Rattle.circuit.specs.Run.{values_in};
 ghost use Rattle.circuit.specs.Call.{circuit_of};
-ghost use Rattle.runs.specs.Inner.{level_at, Ordered, Starts, Candidate, Checked, Sought};
+ghost use Rattle.runs.specs.Inner.{level_at, Ordered, Starts, Candidate, Small, Checked, Sought};
 
 use crate::candidates::advance;
+use crate::evaluate::satisfied;
 use crate::levels::{Leveled, SIGNAL_NUMBERS, starts};
 use circuit::file::Constraints;
-use circuit::run::satisfied;
 
 // A circuit of at most 10 signals with its constraints by rising level.
 #[derive(Clone, Copy, Debug, PartialEq, Eq)]
@@ -19,6 +19,7 @@ pub(crate) struct Levels<'a> {
     order: &'a [Leveled],
     starts: [usize; SIGNAL_NUMBERS],
     ghost few: { constraints.now.file.sizes.n ≤ 10 },
+    ghost small: { constraints.now.file.sizes.p ≤ 65536 },
     ghost ordered: { let file = constraints.now.file in
         Ordered (level_at file.bytes.now constraints.now.offsets file.sizes.n) file.sizes.m order.now },
     ghost begun: { Starts order.now starts },
@@ -27,6 +28,7 @@ pub(crate) struct Levels<'a> {
 impl<'a> Levels<'a> {
     pub(crate) fn new(constraints: &'a Constraints<'a>, order: &'a [Leveled]) -> Levels<'a>
         requires few { constraints.now.file.sizes.n ≤ 10 }
+        requires small { constraints.now.file.sizes.p ≤ 65536 }
         requires ordered { let file = constraints.now.file in
             Ordered (level_at file.bytes.now constraints.now.offsets file.sizes.n) file.sizes.m order.now }
         ensures { result.constraints.now ≡ constraints.now }
@@ -40,7 +42,8 @@ impl<'a> Levels<'a> {
 
     // The lowest level, from a given one on, at which the values break a constraint.
     fn broken(&self, values: &[u32], from: u32) -> Option<u32>
-        requires { from ≤ self.now.constraints.now.file.sizes.n }
+        requires { let sizes = self.now.constraints.now.file.sizes in
+            (from ≤ sizes.n) × (0 < sizes.p) × Small (values_in values.now) }
         ensures { let file = self.now.constraints.now.file in
             Checked (circuit_of file.bytes.now)
             (level_at file.bytes.now self.now.constraints.now.offsets file.sizes.n)

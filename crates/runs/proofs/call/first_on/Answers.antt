@@ -21,4 +21,4 @@ pub seek-requires : goal.seek-requires
 seek-requires c =
     let read = c.in_ok-file.ensures.answer in
     let room = c.in_ok-check_room.ensures in
-    (laws.few_here _ read _ room, laws.room_here _ read _ room, rw c.values_of.ensures (laws.start_here _ read))
+    (laws.few_here _ read _ room, laws.small_here _ read _ room, laws.room_here _ read _ room, rw c.values_of.ensures (laws.start_here _ read))

@@ -28,4 +28,4 @@ returns c =
     let sought : Sought (circuit_of c.args.file.bytes.now) (values_in c.args.values) (values_in c.search.new.values) c.search.result =
     rw same at c.search.ensures.sought in
     laws.seek_found c.search.new.values (rw c.if-not-search.false at sought) (omega (arith, c.search.ensures.sized, c.requires.0, Z.is_n))
-    (omega (arith, c.requires.1, Z.is_n)) c.copy_from_slice.ensures.after
+    (omega (arith, c.requires.2, Z.is_n)) c.copy_from_slice.ensures.after

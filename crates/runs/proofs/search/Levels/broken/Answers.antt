@@ -13,12 +13,12 @@ pub returns-in_err-broken : goal.returns-in_err-broken
 returns-in_err-broken c =
     let S = c.args.self.now in
     rw c.from_residual.ensures
-    (laws.broken_nowhere (call_sized S.constraints.now.file.read) S.constraints.now.placed S.order.now S.starts S.ordered S.begun _ _ c.requires S.few
+    (laws.broken_nowhere (call_sized S.constraints.now.file.read) S.constraints.now.placed S.order.now S.starts S.ordered S.begun _ _ c.requires.0 S.few
     nothing (λ k l. search rules))
 
 pub returns : goal.returns
 returns c =
     let S = c.args.self.now in
     rw c.from.ensures
-    (laws.broken_here (call_sized S.constraints.now.file.read) S.constraints.now.placed S.order.now S.starts S.ordered S.begun _ _ c.requires S.few
+    (laws.broken_here (call_sized S.constraints.now.file.read) S.constraints.now.placed S.order.now S.starts S.ordered S.begun _ _ c.requires.0 S.few
     c.in_ok-broken.ensures.runs.2.0 nothing c.in_ok-broken.broken.now (search rules) (search rules) (search rules) (λ k l. search rules))

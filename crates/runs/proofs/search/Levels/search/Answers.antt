@@ -1,6 +1,7 @@
 -- `runs::search::Levels::search`: each step goes past all that break the same constraint.
 use Rattle.std.proofs.Common.{arith}
 use Rattle.circuit.proofs.Sized.{call_sized}
+use Rattle.runs.proofs.EvalLaws.{candidate_small, prime_some}
 use Rattle.runs.proofs.SearchLaws as laws
 use Rattle.runs.proofs.search.Levels.search.Goals as goal
 
@@ -33,3 +34,16 @@ pub returns-clause-sought : goal.returns-clause-sought
 returns-clause-sought c =
     let S = c.args.self.now.constraints.now in
     laws.search_found (call_sized S.file.read) S.placed _ (rw c.in_default.is at c.loop-broken.invariant)
+
+pub broken-broken-requires : goal.broken-broken-requires
+broken-broken-requires c =
+    let S = c.args.self.now in
+    (omega arith, prime_some (call_sized S.constraints.now.file.read), candidate_small S.small S.few c.requires.1)
+
+pub broken-broken-requires-in-Some : goal.broken-broken-requires-in-Some
+broken-broken-requires-in-Some c =
+    let S = c.args.self.now in
+    let Z = call_sized S.constraints.now.file.read in
+    let rose = c.in-Some-advance.ensures.rose in
+    let next = laws.search_next Z S.constraints.now.placed _ (rw c.in-Some.is at c.loop-broken.invariant) rose in
+    (rose.within, prime_some Z, candidate_small S.small S.few next)

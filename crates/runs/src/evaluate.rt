@@ -1,0 +1,35 @@
+// Constraints on small values, each below 65,536: a form's sum of at most 255 products is below 2^64, so that it takes one remainder a form.
+// Stays: beside `circuit::run`, which takes a remainder a term, since its values are of 31 bits: a search looks at constraints by the million.
+
+ghost use Rattle.std.specs.Prelude.{◌≡◌, ◌<◌};
+ghost use Rattle.circuit.specs.Circuit.{eval};
+ghost use Rattle.circuit.specs.Reader.{form_in, constraint_in};
+ghost use Rattle.circuit.specs.Run.{values_in, holds};
+ghost use Rattle.runs.specs.Inner.{Small};
+
+use circuit::form::{Forms, term_at, term_count};
+use circuit::run::value_of;
+
+// The value of a form, as a whole number.
+fn eval_form(part: &[u8], values: &[u32]) -> u64
+    requires { Small (values_in values.now) }
+    ensures { result ≡ eval (form_in part.now) (values_in values.now) }
+{
+    let mut sum = 0;
+    for i in 0..term_count(part) {
+        let term = term_at(part, i);
+        sum += u64::from(term.coefficient) * u64::from(value_of(values, term.signal));
+    }
+    sum
+}
+
+// Whether A times B equals C modulo p in the constraint that a part starts with.
+pub(crate) fn satisfied(part: &[u8], values: &[u32], p: u32) -> bool
+    requires { (0 < p) × Small (values_in values.now) }
+    ensures { result ≡ holds p (constraint_in part.now) (values_in values.now) }
+{
+    let Forms { a, b, c } = Forms::of(part);
+    let p = u64::from(p);
+    let product = eval_form(a, values) % p * (eval_form(b, values) % p);
+    product % p == eval_form(c, values) % p
+}
