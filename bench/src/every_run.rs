@@ -38,12 +38,17 @@ fn listing(name: &str, circuit: &[u8]) -> Row {
     )
 }
 
-/// The first run.
-fn first(name: &str, circuit: &[u8]) -> Row {
-    let (mut one, mut two) = (vec![9; signals(circuit)], vec![9; signals(circuit)]);
-    assert_eq!(yolqushek::first_run(circuit, &mut one).ok(), second::first_run(circuit, &mut two).ok());
-    assert_eq!(one, two);
-    row(format!("first run, {name}"), || yolqushek::first_run(circuit, &mut one), || second::first_run(circuit, &mut two))
+/// The first run, in the worse order of the constraints for each: they look from opposite sides.
+fn first(name: &str, circuits: &[Vec<u8>; 2]) -> Row {
+    let mut worse = Row { name: format!("first run, {name}"), proved: 0.0, second: 0.0 };
+    for circuit in circuits {
+        let (mut one, mut two) = (vec![9; signals(circuit)], vec![9; signals(circuit)]);
+        assert_eq!(yolqushek::first_run(circuit, &mut one).ok(), second::first_run(circuit, &mut two).ok());
+        assert_eq!(one, two);
+        let Row { proved, second, .. } = row("", || yolqushek::first_run(circuit, &mut one), || second::first_run(circuit, &mut two));
+        (worse.proved, worse.second) = (worse.proved.max(proved), worse.second.max(second));
+    }
+    worse
 }
 
 /// The next run after that of zeros.
@@ -66,6 +71,6 @@ pub fn rows() -> Vec<Row> {
         listing("s1·s1 = s1, p = 65,521", &square),
     ];
     rows.push(next("dense, 3^10 candidates, everything satisfies", &dense(3, 10, everywhere).bytes()));
-    rows.extend(worst_runs::all().iter().map(|(name, circuit)| first(name, circuit)));
+    rows.extend(worst_runs::both_orders().iter().map(|(name, circuits)| first(name, circuits)));
     rows
 }

@@ -59,8 +59,8 @@ pub fn bits_and_sum() -> Vec<u8> {
     draft.with(&[(0, 1)], &sum, &[]).bytes()
 }
 
-/// The circuits on which one call works longest, with their names: each with its end at the end, and at the start.
-pub fn all() -> Vec<(String, Vec<u8>)> {
+/// The circuits on which one call works longest, with their names: each with its end at the end, and at the start, as a lister may look from either side.
+pub fn both_orders() -> Vec<(&'static str, [Vec<u8>; 2])> {
     let drafts = [
         ("dense, 3^10 candidates, nothing satisfies", dense(3, 10, nowhere)),
         ("dense, 3^10 candidates, only the last satisfies", dense(3, 10, at_last)),
@@ -70,10 +70,15 @@ pub fn all() -> Vec<(String, Vec<u8>)> {
         ("dense, 65,521 candidates, nothing satisfies", dense(65_521, 1, nowhere)),
         ("dense, 65,521 candidates, only the last satisfies", dense(65_521, 1, at_last)),
     ];
-    let both = |(name, draft): (&str, Draft)| {
+    let both = |(name, draft): (&'static str, Draft)| {
         let mut turned = draft.clone();
         turned.constraints.reverse();
-        [(name.to_string(), draft.bytes()), (format!("{name}, by its first constraints"), turned.bytes())]
+        (name, [draft.bytes(), turned.bytes()])
     };
-    drafts.into_iter().flat_map(both).collect()
+    drafts.into_iter().map(both).collect()
+}
+
+/// All of them.
+pub fn all() -> Vec<(&'static str, Vec<u8>)> {
+    both_orders().into_iter().flat_map(|(name, circuits)| circuits.map(|circuit| (name, circuit))).collect()
 }
