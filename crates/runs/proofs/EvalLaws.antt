@@ -14,8 +14,6 @@ use Rattle.circuit.specs.Bytes.{byte_at, u16_at, u32_at}
 use Rattle.circuit.specs.Circuit.{Term, Form, eval}
 use Rattle.circuit.specs.Reader.{term_at, term_kept, terms_in, form_in, after_form, constraint_in}
 use Rattle.circuit.specs.Run.{eval_mod, holds}
-use Rattle.circuit.specs.Call.{Sized}
-use Rattle.circuit.specs.declared.reader.Sizes.{Sizes}
 use Rattle.circuit.proofs.ByteLaws.{u16_drop, u32_drop}
 use Rattle.circuit.proofs.RunLaws.{holds_by}
 use Rattle.runs.specs.Inner.{Candidate, Small}
@@ -28,9 +26,6 @@ candidate_small {n = n} {v = v} p_most few is =
     below s (no a) b = let z : s ≡ 0 = omega arith in rw z (omega (arith, is.constant))
     below s (yes a) (yes b) = omega (arith, is.below s a b)
     below s (yes a) (no b) = omega (arith, is.past s (omega arith))
-
-pub prime_some : {s : List ℕ} {z : Sizes} → Sized s z → 0 < z.p
-prime_some Z = omega (arith, Z.is_p, Z.formed.p_least)
 
 -- ---- the loop over the terms
 
@@ -73,11 +68,10 @@ module _ (s : List ℕ) (v : ℕ → ℕ) (small : Small v) where
   whole_end z (suc left) at sum e h = absurd (omega arith)
 
 -- a constraint by the remainders of its forms
-pub holds_whole : (p : ℕ) (s : List ℕ) (v : ℕ → ℕ) → 0 < p → (s₁ s₂ : List ℕ) (a b c : ℕ) → s₁ ≡ after_form s → s₂ ≡ after_form (after_form s)
+pub holds_whole : (p : ℕ) (s : List ℕ) (v : ℕ → ℕ) → (p ≡ 0 → ⊥) → (s₁ s₂ : List ℕ) (a b c : ℕ) → s₁ ≡ after_form s → s₂ ≡ after_form (after_form s)
     → a ≡ eval (form_in s) v → b ≡ eval (form_in s₁) v → c ≡ eval (form_in s₂) v → eqb ((a % p) * (b % p) % p) (c % p) ≡ holds p (constraint_in s) v
 unfolding eval_mod
-holds_whole p s v h s₁ s₂ a b c e f ea eb ec =
-    let some : p ≡ 0 → ⊥ = λ z. omega arith in
+holds_whole p s v some s₁ s₂ a b c e f ea eb ec =
     let rest : (x : ℕ) (f : Form) → x ≡ eval f v → x % p ≡ eval_mod p f v = λ x f e. rw (e, ne_eqb p 0 some) in
     holds_by p s v s₁ s₂ (a % p) (b % p) (c % p) some e (f ∙ ap after_form (sym e)) (rest a (form_in s) ea)
     (rest b (form_in s₁) eb)

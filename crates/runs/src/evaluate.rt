@@ -1,7 +1,7 @@
-// Constraints on small values, each below 65,536: a form's sum of at most 255 products is below 2^64, so that it takes one remainder a form.
+// Constraints on small values, each below 65,536: 255 products of a 32-bit coefficient and such a value stay below 2^56, so that one remainder a form is enough.
 // Stays: beside `circuit::run`, which takes a remainder a term, since its values are of 31 bits: a search looks at constraints by the million.
 
-ghost use Rattle.std.specs.Prelude.{◌≡◌, ◌<◌};
+ghost use Rattle.std.specs.Prelude.{◌≡◌};
 ghost use Rattle.circuit.specs.Circuit.{eval};
 ghost use Rattle.circuit.specs.Reader.{form_in, constraint_in};
 ghost use Rattle.circuit.specs.Run.{values_in, holds};
@@ -23,11 +23,14 @@ fn eval_form(part: &[u8], values: &[u32]) -> u64
     sum
 }
 
-// Whether A times B equals C modulo p in the constraint that a part starts with.
+// Whether A times B equals C modulo p in the constraint that a part starts with; false where p is 0.
 pub(crate) fn satisfied(part: &[u8], values: &[u32], p: u32) -> bool
-    requires { (0 < p) × Small (values_in values.now) }
+    requires { Small (values_in values.now) }
     ensures { result ≡ holds p (constraint_in part.now) (values_in values.now) }
 {
+    if p == 0 {
+        return false;
+    }
     let Forms { a, b, c } = Forms::of(part);
     let p = u64::from(p);
     let product = eval_form(a, values) % p * (eval_form(b, values) % p);

@@ -1,5 +1,6 @@
 // The search for a run: candidates in rising order, those passed over as a whole whose first signals already break a constraint.
-// Stays: n <= 10 is a ghost field of `Levels`; before it, `seek` asks it of the file and `by_level` of the constraints: one more struct would serve just one.
+// Stays: n <= 10 and p <= 65,536 are ghost fields of `Levels`; before it, `seek` asks them of the file and `by_level` n of the constraints: one more struct
+// would serve just one.
 // A struct for the values, a candidate, would hold p and n too and give its fact anew at each store of `advance`; they are lent as a slice.
 
 ghost use Rattle.std.specs.Prelude.{◌≡◌, ◌≤◌, ◌<◌, length};
@@ -12,7 +13,7 @@ use crate::evaluate::satisfied;
 use crate::levels::{Leveled, SIGNAL_NUMBERS, starts};
 use circuit::file::Constraints;
 
-// A circuit of at most 10 signals with its constraints by rising level.
+// A circuit of at most 10 signals over a prime of at most 65,536, with its constraints by rising level.
 #[derive(Clone, Copy, Debug, PartialEq, Eq)]
 pub(crate) struct Levels<'a> {
     constraints: &'a Constraints<'a>,
@@ -43,7 +44,7 @@ impl<'a> Levels<'a> {
     // The lowest level, from a given one on, at which the values break a constraint.
     fn broken(&self, values: &[u32], from: u32) -> Option<u32>
         requires { let sizes = self.now.constraints.now.file.sizes in
-            (from ≤ sizes.n) × (0 < sizes.p) × Small (values_in values.now) }
+            (from ≤ sizes.n) × Small (values_in values.now) }
         ensures { let file = self.now.constraints.now.file in
             Checked (circuit_of file.bytes.now)
             (level_at file.bytes.now self.now.constraints.now.offsets file.sizes.n)

@@ -49,4 +49,5 @@ seek-requires c =
     let read = c.in_ok-file.ensures.answer in
     let room = c.in_ok-check_room.ensures in
     let R = has_risen c.advance.result c.if-is_none.ensures (rw c.values_of-values.ensures at c.advance.ensures.rose) in
-    (laws.few_here _ read _ room, laws.small_here _ read _ room, laws.room_here _ read _ room, laws.next_ready _ read c.args.run.now c.if-run-sizes.false c.in_default.ensures R.1)
+    let ready = laws.next_ready _ read c.args.run.now c.if-run-sizes.false c.in_default.ensures R.1 in
+    (laws.few_here _ read _ room, laws.small_here _ read _ room, laws.room_here _ read _ room, ready)

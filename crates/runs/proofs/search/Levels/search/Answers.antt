@@ -1,7 +1,7 @@
 -- `runs::search::Levels::search`: each step goes past all that break the same constraint.
 use Rattle.std.proofs.Common.{arith}
 use Rattle.circuit.proofs.Sized.{call_sized}
-use Rattle.runs.proofs.EvalLaws.{candidate_small, prime_some}
+use Rattle.runs.proofs.EvalLaws.{candidate_small}
 use Rattle.runs.proofs.SearchLaws as laws
 use Rattle.runs.proofs.search.Levels.search.Goals as goal
 
@@ -38,7 +38,7 @@ returns-clause-sought c =
 pub broken-broken-requires : goal.broken-broken-requires
 broken-broken-requires c =
     let S = c.args.self.now in
-    (omega arith, prime_some (call_sized S.constraints.now.file.read), candidate_small S.small S.few c.requires.1)
+    (omega arith, candidate_small S.small S.few c.requires.1)
 
 pub broken-broken-requires-in-Some : goal.broken-broken-requires-in-Some
 broken-broken-requires-in-Some c =
@@ -46,4 +46,4 @@ broken-broken-requires-in-Some c =
     let Z = call_sized S.constraints.now.file.read in
     let rose = c.in-Some-advance.ensures.rose in
     let next = laws.search_next Z S.constraints.now.placed _ (rw c.in-Some.is at c.loop-broken.invariant) rose in
-    (rose.within, prime_some Z, candidate_small S.small S.few next)
+    (rose.within, candidate_small S.small S.few next)
