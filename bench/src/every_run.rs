@@ -1,4 +1,5 @@
-//! Rows of listings: whole lists, the first run and each next one to the end; the first run where a call works longest; and a next run where the file is longest.
+//! Rows of listings: whole lists, the first run and each next one to the end; the first run where a call works longest; and a next run where the file is
+//! longest.
 
 use std::fmt::Debug;
 

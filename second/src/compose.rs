@@ -18,7 +18,7 @@ use crate::solver::derive;
 use crate::vectors::{Record, DERIVATION, PAIR, READ, RENEW, SOLVE, WITH_SHEET};
 use crate::{renew, worst};
 
-/// The usual length of all files together, but for the last random calls.
+/// The usual length of all files together, but for the last random calls and those that list runs.
 pub const USUAL_SIZE: usize = 1_420_000;
 
 /// How many random circuits at the edge of a rule there always are.
@@ -42,7 +42,7 @@ const SAMPLED: usize = 90;
 /// From this length of all files together on all worst circuits are among the records.
 pub const WITH_WORST: usize = 1_800_000;
 
-/// The records of files of about this length together, with all fixed calls.
+/// The records of files of about this length together, with all fixed calls; those that list runs come on top.
 pub fn compose(seed: u64, size: usize) -> Vec<Record> {
     let mut maker = Maker::new(seed);
     maker.fixed_calls();

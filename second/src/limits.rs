@@ -111,7 +111,7 @@ impl Maker {
         }
     }
 
-    /// n of 256 and 257, m of 512 and 513, t of 32 and 33, each in every call.
+    /// n of 256 and 257, m of 512 and 513, t of 32 and 33, each in every call but those that list runs.
     fn size_limits(&mut self) {
         for n in [255, 256, 257] {
             self.every_kind(&Draft::new(13, n, 0, 1).bytes(), usize::from(n));

@@ -1,4 +1,4 @@
--- Rule 7.11: the satisfying runs of cases g, b and f, and what they show: that an output is settled, though the rules leave it open, or that it is open.
+-- Rule 7.11: the satisfying runs of cases g, b and f, and what they show: that an output is settled, though the rules leave it open, or that it isn't settled.
 use Rattle.std.specs.Prelude.{ℕ, ◌≡◌, false, List, [], ◌∷◌}
 use Rattle.circuit.specs.Circuit.{Circuit, value_of, Satisfying, ShareInputs}
 use Rattle.tags.specs.Tag.{Sheet, tagged}

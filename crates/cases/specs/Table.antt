@@ -18,7 +18,8 @@ use Rattle.renewal.specs.Call as renewal
 use Rattle.solver.specs.Call as solver
 use Rattle.runs.specs.Call as runs
 use Rattle.cases.specs.Encode.{circuit_bytes, sheet_bytes, pair_bytes, one_step}
-use Rattle.cases.specs.Circuits.{circuit_a, circuit_b, circuit_c, circuit_d, circuit_e, circuit_f, circuit_g, never, copy, bare, bits, carry, is_binary, has_bits, is_most}
+use Rattle.cases.specs.Circuits.{circuit_a, circuit_b, circuit_c, circuit_d, circuit_e, circuit_f, circuit_g, never, copy, bare, bits, carry}
+use Rattle.cases.specs.Circuits.{is_binary, has_bits, is_most}
 
 -- a call: reading the circuit, solving it, judging a hand-in or renewing one, the first run or the one after a given one, with so much room; or the bounds
 -- that a derivation reaches

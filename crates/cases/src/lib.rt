@@ -1,3 +1,3 @@
-// The small circuits of cases a to j (Rule 7.4): a table in specs/ and one theorem in proofs/; no code.
+// Small circuits: the table and the listings of rules 7.4 to 7.6, 7.9 and 7.11 in specs/, and their theorems in proofs/; no code.
 
 #![tactic(auto)]

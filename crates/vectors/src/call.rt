@@ -89,7 +89,7 @@ impl Record<'_> {
     }
 }
 
-// The values that bytes hold, four of them each.
+// The values that bytes hold, four bytes each.
 fn values_of(alloc: Global, bytes: &[u8]) -> Result<Vec<u32>, AllocError> {
     let (values, _) = bytes.as_chunks::<4>();
     values

@@ -103,8 +103,8 @@ pub struct Refusal {
     pub place: u32,
 }
 
-// `lent` is how many places the lent buffer has, `answer` the values that the call must hand over, or its refusal, and `written` what it must write at the buffer's
-// start.
+// `lent` is how many places the lent buffer has, `answer` the values that the call must hand over, or its refusal, and `written` what it must write at the
+// buffer's start.
 #[derive(Clone, Copy, Debug, PartialEq, Eq)]
 pub struct Record<'a> {
     pub kind: Kind,
