@@ -10,8 +10,8 @@ loop-i-init c = (omega arith, laws.whole_start _ _ c.requires _ c.term_count-i-e
 -- what is added at a turn
 added : (c : goal.After-from-in-loop-i) → c.from.result * c.from-in-loop-i.result ≤ 281470681677825
 added c =
-    laws.product_most _ _ (omega (arith, c.from.ensures, c.term_at-term.type_inv))
-    (omega (arith, c.from-in-loop-i.ensures, c.value_of.ensures, c.requires.below c.term_at-term.result.signal))
+    laws.product_most _ _ (omega (arith, c.from.ensures, c.term_in-term.type_inv))
+    (omega (arith, c.from-in-loop-i.ensures, c.value_of.ensures, c.requires.below c.term_in-term.result.signal))
 
 pub overflow_add-sum : goal.overflow_add-sum
 overflow_add-sum c = omega (arith, added c, c.loop-i.invariant.0, c.loop-i-test.true, c.term_count-i-end.ensures.1)
@@ -19,8 +19,8 @@ overflow_add-sum c = omega (arith, added c, c.loop-i.invariant.0, c.loop-i-test.
 pub loop-i-preserved : goal.loop-i-preserved
 loop-i-preserved c = (
   omega (arith, added c, c.loop-i.invariant.0),
-  laws.whole_again _ _ c.requires _ _ _ _ _ _ c.loop-i.invariant.1 c.loop-i-test.true (c.from.ensures ∙ c.term_at-term.ensures.1)
-      (c.from-in-loop-i.ensures ∙ c.value_of.ensures ∙ ap (values_in c.args.values.now) c.term_at-term.ensures.0),
+  laws.whole_again _ _ c.requires _ _ _ _ _ _ c.loop-i.invariant.1 c.loop-i-test.true (c.from.ensures ∙ c.term_in-term.ensures.1)
+      (c.from-in-loop-i.ensures ∙ c.value_of.ensures ∙ ap (values_in c.args.values.now) c.term_in-term.ensures.0),
 )
 
 pub returns : goal.returns
