@@ -1,4 +1,4 @@
--- Laws of forms on small values: a form's value summed term by term as a whole number, and the test of a constraint by the remainders of its forms.
+-- Laws of forms on small values: a value summed term by term as a whole number, the test of a constraint by remainders, a term whose bytes are all there.
 use Prim.Native.Nat.{ℕ, zero, suc, ◌+◌, ◌*◌, ◌-◌, ◌%◌, ◌≤◌, ◌<◌}
 use mathlib.Core.Path.{◌≡◌, refl, sym, ap, ◌∙◌}
 use mathlib.Core.Bool.{Bool, true, false}
