@@ -1,35 +1,30 @@
--- The digits test by gathered weights, over any indices: what each loop of the code has shown, and that the test is the rule's.
-use Prim.Native.Nat.{ℕ, suc, ◌+◌, ◌*◌, ◌%◌, ◌≤◌, ◌<◌}
+-- The digits test by the weights of digits, over any indices: a sum over smaller weights, turn by turn, and that the test is the rule's.
+use Prim.Native.Nat.{ℕ, suc, ◌+◌, ◌*◌, ◌≤◌, ◌<◌}
 use mathlib.Core.Path.{◌≡◌, refl, sym, ap, ◌∙◌}
 use mathlib.Core.Bool.{Bool, true, false, not, ◌&&◌}
 use mathlib.Core.List.{List, [], ◌∷◌}
-use native.Mathlib.Nat.{mul-zero, mul-le-mul_right, pos_of_ne-zero}
-use native.Mathlib.Numerals.{add-one}
+use native.Mathlib.Nat.{mul-zero, mul-le-mul_right}
 use native.Mathlib.Omega.{arith}
 use lib.Dec.{ltb, eqb}
-use lib.ListN.{length, get_or, set, take, length-set, get_or-eq_default}
-use Rattle.std.proofs.lemmas.List.{get_or-take, length-take-le}
-use lib.Seq.{get_or-set_same, get_or-set_other}
+use lib.ListN.{length, get_or}
 use Rattle.std.specs.List.{list_all}
-use borrow.Author.Count.{below_more}
 use borrow.Author.Tests.{ne_eqb, eqb-false, lt-ltb, le-ltb, ltb-true, ltb-false, not-true}
 use Rattle.field.specs.Inverse.{inverse}
 use Rattle.laws.specs.Sum.{sum, all, keep, implies}
 use Rattle.laws.specs.Rules.{weight, live, differs, smaller_term, smaller_sum, separate, live_term, separated}
-use Rattle.laws.proofs.Sum.{and_left, and_right, and_both, by_test, true_or_false, true_by, false_by, by_order, implies_elim, implies_intro, keep_true, keep_false}
+use Rattle.laws.proofs.Sum.{and_left, and_right, and_both, by_test, true_or_false, true_by, false_by, implies_elim, implies_intro, keep_true, keep_false}
 use Rattle.laws.proofs.Sum.{and-true, keep_le, keep_mono, keep_zero, all_at, all_from, sum_cong, sum_mono}
 use Rattle.rules.specs.View.{coef_in}
 use Rattle.rules.specs.Rows.{rank}
-use Rattle.rules.specs.Live.{is_live, positive}
-use Rattle.rules.specs.Weights.{scaled, digit_at, Gathered, Many, smaller, smaller_at, exceeds, Held}
+use Rattle.rules.specs.Live.{is_live}
+use Rattle.rules.specs.Added.{scaled, weight_by}
+use Rattle.rules.specs.Weights.{smaller, smaller_at, exceeds}
 use Rattle.rules.specs.declared.rows.Entry.{Entry}
-use Rattle.rules.specs.declared.gathered.Digit.{Digit}
 use Rattle.rules.specs.declared.gathered.Weighed.{Weighed}
 use Rattle.rules.proofs.SumLaws.{sum_grows, sum_on}
-use Rattle.rules.proofs.Ranks.{rank_zero, rank_passed, rank_failed, rank_below, rank_grows, sum_rank}
+use Rattle.rules.proofs.Ranks.{rank_below, sum_rank}
 use Rattle.rules.proofs.RowLaws.{rank_onto, rank_distinct}
 use Rattle.rules.proofs.Few.{few}
-use Rattle.rules.proofs.ViewLaws.{coef_set_same, coef_set_other}
 
 -- a test of every element, by index
 pub all_is : {A : Type 0} (p : A → Bool) (xs : List A) (d : A) → list_all p xs ≡ all (length xs) (λ i. p (get_or xs i d))
@@ -37,12 +32,17 @@ unfolding all
 all_is p [] d = refl
 all_is p (x ∷ xs) d = ap (λ (b : Bool). p x && b) (all_is p xs d)
 
+keep_twice : (a b : Bool) (x : ℕ) → keep (a && b) x ≡ keep a (keep b x)
+unfolding keep
+keep_twice true b x = refl
+keep_twice false b x = refl
+
 both_ways : (a b : Bool) → (a ≡ true → b ≡ true) → (b ≡ true → a ≡ true) → a ≡ b
 both_ways true b f g = sym (f refl)
 both_ways false true f g = g refl
 both_ways false false f g = refl
 
--- One weight against the gathered ones
+-- One weight against those of the digits
 
 pub smaller_yes : (a x w : ℕ) → a < w → x ≡ smaller a x w
 unfolding smaller
@@ -73,7 +73,7 @@ module _ (weighed : Weighed) (marks : List Bool) (x : Entry) where
   unfolding exceeds implies
   exceeds_dead e = sym (rw e)
 
-  pub exceeds_live : is_live marks x ≡ true → (w y : ℕ) → w ≡ x.coefficient * weighed.scale % weighed.p
+  pub exceeds_live : is_live marks x ≡ true → (w y : ℕ) → w ≡ weight_by weighed.p weighed.scale x
       → y ≡ sum (length weighed.weights.now) (smaller_at (coef_in weighed.weights.now) (coef_in weighed.products.now) w) → ltb y w ≡ exceeds weighed marks x
   unfolding exceeds implies
   exceeds_live e w y w-is y-is = sym (rw (e, sym w-is, sym y-is))
@@ -201,133 +201,7 @@ module _ (p n : ℕ) (on q q' : ℕ → Bool) (w w' b b' : ℕ → ℕ)
   pub by_places : separated_by p n q w b ≡ separated_by p (rank on n) q' w' b'
   by_places = both_ways _ _ (λ e. whole p _ q' w' b' (to_places (parts p n q w b e))) (λ e. whole p n q w b (from_places (parts p _ q' w' b' e)))
 
--- Gathering
-
-pub positive_yes : (c : ℕ → ℕ) (s x : ℕ) → x ≡ c s → (x ≡ 0 → ⊥) → positive c s ≡ true
-unfolding positive
-positive_yes c s x x-is d = rw (sym x-is) (lt-ltb 0 x (pos_of_ne-zero d))
-
-pub positive_no : (c : ℕ → ℕ) (s x : ℕ) → x ≡ c s → x ≡ 0 → positive c s ≡ false
-unfolding positive
-positive_no c s x x-is z = rw (sym x-is ∙ z)
-
-abbrev pub made : ℕ → ℕ → Digit
-made c x = record { coefficient = c; bound = x }
-
-digit_set_same : (digits : List Digit) (i : ℕ) (x : Digit) → i < length digits → digit_at (set digits i x) i ≡ x
-unfolding digit_at
-digit_set_same digits i x h = get_or-set_same digits i x _ h
-
-digit_set_other : (digits : List Digit) (i j : ℕ) (x : Digit) → (j ≡ i → ⊥) → digit_at (set digits i x) j ≡ digit_at digits j
-unfolding digit_at
-digit_set_other digits i j x d = get_or-set_other digits i j x _ d
-
-pub digit_is : (c x y : ℕ) → x ≡ y → record { coefficient = c; bound = x } ≡ made c y
-digit_is c x y e = ap (made c) e
-
-module _ (q : ℕ → Bool) (f g : ℕ → ℕ) where
-  pub gathered_start : (digits : List Digit) → length digits ≡ 31 → Gathered q f g 0 digits 0
-  gathered_start digits wide = record { wide = wide; ranked = sym (rank_zero q); held = λ s l e. absurd (omega arith) }
-
-  module _ (k : ℕ) (digits : List Digit) (count : ℕ) (G : Gathered q f g k digits count) where
-    pub gathered_skip : q k ≡ false → Gathered q f g (k + 1) digits count
-    gathered_skip e =
-        record {
-          wide = G.wide;
-          ranked = rw (add-one k) (G.ranked ∙ sym (rank_failed q k e));
-          held = below_more _ k G.held (λ i. true_or_false _ i e);
-        }
-
-    pub gathered_on : q k ≡ true → (x : Digit) → x ≡ record { coefficient = f k; bound = g k } → count < 31
-        → Gathered q f g (k + 1) (set digits count x) (count + 1)
-    gathered_on e x x-is room =
-        record {
-          wide = simp length-set G.wide;
-          ranked = rw (add-one k) (omega (arith, G.ranked, rank_passed q k e));
-          held = below_more _ k (λ s l i. digit_set_other digits count (rank q s) x (elsewhere s l i) ∙ G.held s l i)
-              (λ i. rw (sym G.ranked) (digit_set_same digits count x (omega (arith, G.wide)) ∙ x-is));
-        }
-      where
-        elsewhere : (s : ℕ) → s < k → q s ≡ true → rank q s ≡ count → ⊥
-        elsewhere s l i z = omega (arith, rank_below q s k l i, G.ranked)
-
-    -- one more makes 32
-    pub gathered_many : (n : ℕ) → k < n → q k ≡ true → 31 ≤ count → Many q n
-    gathered_many n h e full =
-        record { upto = k + 1; within = omega arith; many = rw (add-one k) (omega (arith, G.ranked, rank_passed q k e)) }
-
--- all that have a bound above 0 fit: past the end no digit has one
-pub gathered_few : (f g : ℕ → ℕ) (k : ℕ) (digits : List Digit) (count : ℕ) → Gathered (positive g) f g k digits count → count ≤ 31
-unfolding digit_at positive
-gathered_few f g k digits count G =
-    by_order 31 count
-    (λ l.
-    let R = rank_onto (positive g) k 31 (omega (arith, G.ranked)) in
-    let none : g R.index ≡ 0 =
-    ap (λ (x : Digit). x.bound) (sym (G.held R.index R.below R.passes) ∙ get_or-eq_default digits _ (omega (arith, G.wide, R.is))) in
-    absurd (omega (arith, ltb-true 0 (g R.index) R.passes, none)))
-    (λ l. l)
-
--- Weights and products of what was gathered
-
-pub digit_take : (k : ℕ) (digits digits' : List Digit) (j : ℕ) → digits' ≡ take k digits → j < k → digit_at digits' j ≡ digit_at digits j
-unfolding digit_at
-digit_take k digits digits' j e l = rw e (get_or-take k digits j _ l)
-
-coef_take : (j : ℕ) (xs : List ℕ) (i : ℕ) → i < j → coef_in (take j xs) i ≡ coef_in xs i
-unfolding coef_in
-coef_take j xs i l = get_or-take j xs i 0 l
-
-module _ (p : ℕ) (W X : ℕ → ℕ) (places : ℕ) where
-  pub weighed_start : (weights products : List ℕ) → length weights ≡ places → length products ≡ places → 0 < p
-      → Held p W X places 0 weights products 0
-  unfolding sum
-  weighed_start weights products wide-w wide-x h =
-      record {
-        weights_wide = wide-w;
-        products_wide = wide-x;
-        weighs = λ i l. absurd (omega arith);
-        takes = λ i l. absurd (omega arith);
-        totalled = refl;
-        below = h;
-      }
-
-  module _ (j : ℕ) (weights products : List ℕ) (total : ℕ) (G : Held p W X places j weights products total) where
-    pub weighed_on : (w x : ℕ) → w ≡ W j → x ≡ X j → total + x < p → j < places
-        → Held p W X places (j + 1) (set weights j w) (set products j x) (total + x)
-    weighed_on w x w-is x-is h room =
-        record {
-          weights_wide = simp length-set G.weights_wide;
-          products_wide = simp length-set G.products_wide;
-          weighs = below_more _ j (λ i l. coef_set_other weights j i w (λ z. omega arith) ∙ G.weighs i l)
-              (coef_set_same weights j w (omega (arith, G.weights_wide)) ∙ w-is);
-          takes = below_more _ j (λ i l. coef_set_other products j i x (λ z. omega arith) ∙ G.takes i l)
-              (coef_set_same products j x (omega (arith, G.products_wide)) ∙ x-is);
-          totalled = sum_on X j total x G.totalled x-is;
-          below = h;
-        }
-
-    pub weighed_products : p < 4294967296 → sum j (coef_in products) < 4294967296
-    weighed_products small = omega (arith, sum_cong j (coef_in products) X G.takes, G.totalled, G.below)
-
-    -- the places below j alone
-    pub weighed_take : (k : ℕ) → k ≡ j → j ≤ places → Held p W X j j (take k weights) (take k products) total
-    weighed_take k e h =
-        rw e
-        record {
-          weights_wide = length-take-le j weights (omega (arith, G.weights_wide));
-          products_wide = length-take-le j products (omega (arith, G.products_wide));
-          weighs = λ i l. coef_take j weights i l ∙ G.weighs i l;
-          takes = λ i l. coef_take j products i l ∙ G.takes i l;
-          totalled = G.totalled;
-          below = G.below;
-        }
-
-    weighed_smaller : (x : ℕ) → sum j (smaller_at (coef_in weights) (coef_in products) x) ≡ sum j (smaller_at W X x)
-    unfolding smaller_at
-    weighed_smaller x = sum_cong j _ _ (λ i l. rw (G.weighs i l, G.takes i l))
-
--- The gathered test is the rule's
+-- The test by digits is the rule's
 
 module _ (p n : ℕ) (q : ℕ → Bool) (w b : ℕ → ℕ) where
   abbrev bound : ℕ → ℕ
@@ -339,7 +213,7 @@ module _ (p n : ℕ) (q : ℕ → Bool) (w b : ℕ → ℕ) where
   counts_passes : (u : ℕ) → counts u ≡ true → q u ≡ true
   counts_passes u e = true_by _ (λ g. absurd (omega (arith, ltb-true 0 (bound u) e, keep_false (q u) (b u) g)))
 
-  pub counts_bound : (u : ℕ) → counts u ≡ true → bound u ≡ b u
+  counts_bound : (u : ℕ) → counts u ≡ true → bound u ≡ b u
   counts_bound u e = keep_true _ _ (counts_passes u e)
 
   -- only bounds above 0 add to a sum
@@ -368,14 +242,13 @@ module _ (p n : ℕ) (q : ℕ → Bool) (w b : ℕ → ℕ) where
       ))
 
   -- 32 have a bound above 0
-  pub many_over : (k : ℕ) → k ≤ n → p < 4294967296 → ((s : ℕ) → w s < p) → 32 ≤ rank counts k → separated_by p n q w b ≡ false
-  many_over k h fits below many =
+  pub many_over : p < 4294967296 → ((s : ℕ) → w s < p) → 32 ≤ rank counts n → separated_by p n q w b ≡ false
+  many_over fits below many =
       false_by _
       (λ i.
       let P = parts p n q w b i in
       absurd (omega (
         arith,
-        rank_grows counts k n h,
         few n counts w
             (λ s u l m e f. P.differ s u l m (counts_passes s e) (counts_passes u f))
             b
@@ -390,40 +263,29 @@ module _ (p n : ℕ) (q : ℕ → Bool) (w b : ℕ → ℕ) where
       all_same : (u : ℕ) → keep (q u) (w u * b u) ≡ keep (counts u) (w u * b u)
       all_same u = ap (λ (t : Bool). keep t (w u * b u)) (sym (and-true (q u))) ∙ counts_same u true ∙ ap (λ (t : Bool). keep t (w u * b u)) (and-true _)
 
-  -- W and X hold weights and products by rank
-  module _ (W X : ℕ → ℕ) (weighs : (s : ℕ) → s < n → counts s ≡ true → W (rank counts s) ≡ w s)
-      (takes : (s : ℕ) → s < n → counts s ≡ true → X (rank counts s) ≡ w s * b s) where
-    total_held : total_sum n q w b ≡ sum (rank counts n) X
-    total_held =
-        sum_rank counts n _ X (λ u l e. keep_true _ _ (counts_passes u e) ∙ sym (takes u l e))
-        (λ u l e. ap (λ (t : Bool). keep t (w u * b u)) (sym (and-true (q u))) ∙ counts_none u true e)
+  -- only digits add to the sum over smaller weights
+  low_digits : (x : ℕ) → low_sum n q w b x ≡ sum n (λ u. keep (counts u) (smaller (w u) (w u * b u) x))
+  unfolding smaller
+  low_digits x = sum_cong n _ _ (λ u l. counts_same u (ltb (w u) x) ∙ keep_twice (counts u) (ltb (w u) x) (w u * b u))
 
-    low_held : (x : ℕ) → low_sum n q w b x ≡ sum (rank counts n) (smaller_at W X x)
-    unfolding smaller_at smaller
-    low_held x =
-        sum_rank counts n _ (smaller_at W X x) (λ u l e. rw (counts_passes u e, weighs u l e, takes u l e)) (λ u l e. counts_none u _ e)
+  -- where coefficients differ and p isn't reached, that each stands out is the rule
+  pub stands_end : (low : ℕ → ℕ) → ((x : ℕ) → sum n (λ u. keep (counts u) (smaller (w u) (w u * b u) x)) ≡ low x) → total_sum n q w b < p
+      → ((s u : ℕ) → s < n → u < n → q s ≡ true → q u ≡ true → (s ≡ u → ⊥) → w s ≡ w u → ⊥)
+      → all n (λ s. implies (q s) (ltb (low (w s)) (w s))) ≡ separated_by p n q w b
+  stands_end low low-is total differ =
+      both_ways _ _
+      (λ e.
+      whole p n q w b
+      (record {
+        differ = differ;
+        exceed = λ s l i. rw (here (w s)) (ltb-true _ _ (implies_elim (q s) _ (all_at n stands e s l) i));
+        total = total;
+      }))
+      (λ e.
+      all_from n stands (λ s l. implies_intro (q s) _ (λ i. lt-ltb _ (w s) (rw (sym (here (w s))) ((parts p n q w b e).exceed s l i)))))
+    where
+      stands : ℕ → Bool
+      stands s = implies (q s) (ltb (low (w s)) (w s))
 
-    pub held_over : p ≤ sum (rank counts n) X → separated_by p n q w b ≡ false
-    held_over h = total_over (rw total_held h)
-
-    module _ (weights products : List ℕ) (total : ℕ) (places : ℕ) (G : Held p W X places (rank counts n) weights products total) where
-      abbrev outstanding : ℕ → Bool
-      outstanding s = implies (q s) (ltb (sum (rank counts n) (smaller_at (coef_in weights) (coef_in products) (w s))) (w s))
-
-      low_here : (x : ℕ) → low_sum n q w b x ≡ sum (rank counts n) (smaller_at (coef_in weights) (coef_in products) x)
-      low_here x = low_held x ∙ sym (weighed_smaller p W X places _ weights products total G x)
-
-      pub held_end : ((s u : ℕ) → s < n → u < n → q s ≡ true → q u ≡ true → (s ≡ u → ⊥) → w s ≡ w u → ⊥)
-          → all n outstanding ≡ separated_by p n q w b
-      held_end differ =
-          both_ways _ _
-          (λ e.
-          whole p n q w b
-          (record {
-            differ = differ;
-            exceed = λ s l i. rw (low_here (w s)) (ltb-true _ _ (implies_elim (q s) _ (all_at n outstanding e s l) i));
-            total = rw total_held (omega (arith, G.below, G.totalled));
-          }))
-          (λ e.
-          all_from n outstanding
-          (λ s l. implies_intro (q s) _ (λ i. lt-ltb _ (w s) (rw (sym (low_here (w s))) ((parts p n q w b e).exceed s l i)))))
+      here : (x : ℕ) → low_sum n q w b x ≡ low x
+      here x = low_digits x ∙ low-is x

@@ -8,6 +8,7 @@ pub mod RoomLaws
 pub mod MakingLaws
 pub mod Few
 pub mod WeightLaws
+pub mod AddedLaws
 pub mod DigitsLaws
 pub mod RowDigits
 pub mod Outcomes

@@ -1,19 +1,12 @@
 -- Indices that pass a test, gathered in their order: the rank of an index, and sums over the gathered ones.
 use Prim.Native.Nat.{ℕ, zero, suc, ◌≤◌, ◌<◌}
-use mathlib.Core.Path.{◌≡◌, refl, sym, ap, ◌∙◌}
-use mathlib.Core.Bool.{Bool, true, false, ◌&&◌, and_assoc}
+use mathlib.Core.Path.{◌≡◌, refl, sym, ap}
+use mathlib.Core.Bool.{Bool, true, false}
 use native.Mathlib.Omega.{arith}
-use Rattle.laws.specs.Sum.{sum, all}
+use Rattle.laws.specs.Sum.{sum}
 use Rattle.rules.specs.Rows.{one, rank}
-use Rattle.laws.proofs.Sum.{sum_last, keep_true, keep_false, by_test, and-true}
+use Rattle.laws.proofs.Sum.{sum_last, keep_true, keep_false, by_test}
 use Rattle.rules.proofs.SumLaws.{sum_grows}
-
--- Bounded tests
-
-pub all_last : (n : ℕ) (q : ℕ → Bool) → all (suc n) q ≡ (all n q && q n)
-unfolding all
-all_last zero q = and-true (q 0)
-all_last (suc n) q = ap (λ (b : Bool). q 0 && b) (all_last n (λ s. q (suc s))) ∙ sym (and_assoc (q 0) _ _)
 
 -- Ranks
 

@@ -1,40 +1,48 @@
 -- The digits rule by a row: its places stand for the signals, and what the code has shown of them says whether a reference separates.
-use Prim.Native.Nat.{ℕ, suc, ◌+◌, ◌*◌, ◌%◌, ◌≤◌, ◌<◌}
+use Prim.Native.Nat.{ℕ, zero, suc, ◌+◌, ◌*◌, ◌%◌, ◌≤◌, ◌<◌}
 use mathlib.Core.Path.{◌≡◌, refl, sym, ap, ◌∙◌}
 use mathlib.Core.Bool.{Bool, true, false, not, and-false}
-use mathlib.Core.List.{List}
-use Rattle.std.specs.Prelude.{Option, None, Some, MatchOption}
-use Rattle.std.specs.List.{list_all, find, position_or_len}
+use mathlib.Core.List.{List, map}
+use lib.ListN.{length, take}
+use Rattle.std.specs.Prelude.{Option, None, Some}
+use Rattle.std.specs.List.{list_all, find, filter, position_or_len}
+use Rattle.std.specs.List as list
 use Rattle.std.specs.Option.{option_map, option_map_or}
+use Rattle.std.proofs.lemmas.List.{take_all}
 use Rattle.std.proofs.lemmas.List.Folds.{find_at}
 use Rattle.std.proofs.lemmas.List.Sums.{fails_before_first, passes_at_first}
 use Rattle.std.proofs.lemmas.Option.{slice_get-get_or, slice_get_past}
 use native.Mathlib.Nat.{mod-lt}
 use native.Mathlib.Omega.{arith}
-use lib.Dec.{eqb}
+use lib.Dec.{eqb, ltb}
 use borrow.Author.Count.{below_more}
 use borrow.Author.Tests.{eq-eqb, eqb-true}
 use Rattle.field.specs.Prime.{Prime}
 use Rattle.field.specs.Inverse.{inverse}
 use Rattle.circuit.specs.Circuit.{Constraint}
-use Rattle.laws.specs.Sum.{sum}
+use Rattle.laws.specs.Sum.{sum, keep}
 use Rattle.laws.specs.Rules.{linear, reduced, occurs, live, separated, digits_met}
 use Rattle.laws.proofs.Sum.{and_left, and_right, and_both, by_test, by_order, true_or_false, true_by, false_by}
 use Rattle.laws.proofs.Reduced.{reduced_below, occurs_yes, occurs_no, occurs_nonzero}
-use Rattle.rules.specs.View.{bound_in, mark_in}
+use Rattle.rules.specs.View.{coef_in, bound_in, mark_in}
 use Rattle.rules.specs.Rows.{entries, entry_at, nothing, rank, stands, signal_on, coef_on, bound_on, Row}
-use Rattle.rules.specs.Live.{is_live, live_on, live_bound, bounds_on, positive, Differ}
-use Rattle.rules.specs.Weights.{scaled, times, weights_of, products_of, Held, Many, Gathers, Ready, Hopeless, Prepared, exceeds}
+use Rattle.rules.specs.Live.{is_live, live_on, live_bound, bounds_on, Differ}
+use Rattle.rules.specs.Added.{below, scaled, form_terms, weight_by, share, terms, is_digit, digits_of, Holds}
+use Rattle.rules.specs.Weights.{Gathers, Hopeless, Prepared, smaller, smaller_at, exceeds}
 use Rattle.rules.specs.Weights.{Tells, FirstReference, FirstLive, LowestLive}
 use Rattle.rules.specs.declared.rows.Entry.{Entry}
-use Rattle.rules.specs.declared.gathered.Digit.{Digit}
+use Rattle.rules.specs.declared.added.DigitTerms.{DigitTerms}
 use Rattle.rules.specs.declared.gathered.Few.{Few}
 use Rattle.rules.specs.declared.gathered.Weighed.{Weighed}
-use Rattle.rules.proofs.Ranks.{rank_below}
+use Rattle.rules.proofs.Ranks.{rank_zero, rank_passed, rank_failed, rank_below}
 use Rattle.rules.proofs.RowLaws.{uninvolved, entries_are, row_entry, row_first, row_rising}
 use Rattle.rules.proofs.WeightLaws.{live_entry, live_least, live_some, live_absent, weight_back, weight_some, differ_two}
-use Rattle.rules.proofs.DigitsLaws.{all_is, separated_by, separated_by_lem, parts, by_places, counts_bound, bounds_over, many_over}
-use Rattle.rules.proofs.DigitsLaws.{held_over, held_end}
+use Rattle.rules.proofs.AddedLaws.{mapped_yes, mapped_no, terms_yes, terms_no, sum_filtered, length_filtered, pair_filtered}
+use Rattle.rules.proofs.DigitsLaws.{all_is, total_sum, separated_by, separated_by_lem, parts, by_places, total_over, bounds_over, many_over, stands_end}
+
+live_here : (marks : List Bool) (row : List Entry) (i : ℕ) → live_on marks row i ≡ is_live marks (entry_at row i)
+unfolding live_on
+live_here marks row i = refl
 
 module _ {p n : ℕ} {K : Constraint} {row : List Entry} (L : Row p n K row) where
   pub live_at : (marks : List Bool) (s : ℕ) → s ≤ n → stands K s ≡ true
@@ -44,6 +52,43 @@ module _ {p n : ℕ} {K : Constraint} {row : List Entry} (L : Row p n K row) whe
 
   pub live_off : (m : ℕ → Bool) (s : ℕ) → 0 < p → stands K s ≡ false → live (reduced p K) m s ≡ false
   live_off m s pos e = live_absent _ _ s (uninvolved p K s pos e)
+
+  -- the numbers of the form's signals are those of the row's entries
+  module _ (pos : 0 < p) (bounds : List ℕ) (marks : List Bool) (scale : ℕ) where
+    abbrev number : ℕ → ℕ
+    number s = scaled p (reduced p K) scale s * bound_in p bounds s
+
+    abbrev unmarked_one : ℕ → Bool
+    unmarked_one = live (reduced p K) (mark_in marks)
+
+    share_is : (s : ℕ) → s ≤ n → stands K s ≡ true → share p bounds scale (entry_at row (rank (stands K) s)) ≡ number s
+    unfolding share weight_by scaled signal_on coef_on
+    share_is s h e = rw (L.signal s h e, L.coef s h e) refl
+
+    numbers_before : (k : ℕ) → k ≤ suc n
+        → terms p bounds marks scale (take (rank (stands K) k) row) ≡ map number (filter unmarked_one (below k))
+    unfolding below terms
+    numbers_before zero h = rw (rank_zero (stands K)) refl
+    numbers_before (suc k) h =
+        let lower = numbers_before k (omega arith) in
+        by_test (stands K k)
+        (λ e.
+        let i = rank (stands K) k in
+        let room : i < length row = omega (arith, entries_are L, rank_below (stands K) k (suc n) (omega arith) e) in
+        let on : rank (stands K) (suc k) ≡ i + 1 = omega (arith, rank_passed (stands K) k e) in
+        let same : unmarked_one k ≡ is_live marks (entry_at row i) = rw (live_at marks k (omega arith) e) (live_here marks row i) in
+        by_test (unmarked_one k)
+        (λ g.
+        rw on
+        (terms_yes p bounds marks scale row i room (sym same ∙ g)
+        ∙ rw (lower, share_is k (omega arith) e) (sym (mapped_yes unmarked_one number (below k) k g))))
+        (λ g. rw on (terms_no p bounds marks scale row i room (sym same ∙ g) ∙ lower ∙ sym (mapped_no unmarked_one number (below k) k g))))
+        (λ e.
+        rw (rank_failed (stands K) k e) (lower ∙ sym (mapped_no unmarked_one number (below k) k (live_off (mark_in marks) k pos e))))
+
+    pub numbers_are : terms p bounds marks scale row ≡ form_terms p n (reduced p K) (bound_in p bounds) (mark_in marks) scale
+    unfolding form_terms
+    numbers_are = ap (terms p bounds marks scale) (sym (take_all _ row (omega (arith, entries_are L)))) ∙ numbers_before (suc n) (omega arith)
 
   module _ (P : Prime p) (bounds : List ℕ) (marks : List Bool) (r : ℕ) (er : occurs (reduced p K) r ≡ true)
       (scale : ℕ) (scale-is : scale ≡ inverse p (reduced p K r)) where
@@ -107,50 +152,47 @@ module _ {p n : ℕ} {K : Constraint} {row : List Entry} (L : Row p n K row) whe
               record { apart = λ u h j same. W.differ u s (omega arith) l j i (λ z. omega arith) (ap (λ (c : ℕ). c * scale % p) same) };
         }))
 
-    pub fails_many : (k : ℕ) → k ≤ entries row → p < 4294967296 → 32 ≤ rank (positive (bounds_on p bounds marks row)) k → answer ≡ false
-    unfolding bounds_on live_bound live_on bound_on signal_on positive scaled
-    fails_many k h fits many = answer_is ∙ many_over p (entries row) Q (scaled p R scale) B k h fits (λ s. mod-lt _ above) many
+    pub fails_many : p < 4294967296 → 32 ≤ length (digits_of p bounds marks row) → answer ≡ false
+    unfolding live_bound live_on bound_on signal_on scaled digits_of is_digit entry_at
+    fails_many fits many =
+        answer_is
+        ∙ many_over p (entries row) Q (scaled p R scale) B fits (λ s. mod-lt _ above)
+        (omega (arith, many, length_filtered (is_digit p bounds marks) nothing row))
 
-    module _ (few : Few) (D : Ready p row bounds marks few) where
-      abbrev W : ℕ → ℕ
-      W = weights_of p few.digits scale
+    total_is : list.sum (terms p bounds marks scale row) ≡ total_sum (entries row) Q (scaled p R scale) B
+    unfolding live_on bound_on signal_on coef_on scaled terms share weight_by entry_at
+    total_is = sum_filtered (is_live marks) nothing (share p bounds scale) row
 
-      abbrev X : ℕ → ℕ
-      X = products_of p few.digits scale
+    pub fails_total : p ≤ list.sum (terms p bounds marks scale row) → answer ≡ false
+    fails_total h = answer_is ∙ total_over p (entries row) Q (scaled p R scale) B (omega (arith, h, total_is))
 
-      abbrev counts : ℕ → Bool
-      counts = positive (bounds_on p bounds marks row)
+    -- by what was kept of the digits
+    module _ (count : ℕ) (room : DigitTerms) (G : Holds p bounds scale (digits_of p bounds marks row) count room) (few : count ≤ 31) where
+      low : ℕ → ℕ
+      low x = sum (length (take count room.weights)) (smaller_at (coef_in (take count room.weights)) (coef_in (take count room.products)) x)
 
-      weighs : (s : ℕ) → s < entries row → counts s ≡ true → W (rank counts s) ≡ scaled p R scale s
-      unfolding scaled
-      weighs s l e = ap (λ (x : Digit). x.coefficient * scale % p) (D.gathered.held s l e)
+      low_is : (x : ℕ) → sum (entries row) (λ u. keep (ltb 0 (keep (Q u) (B u))) (smaller (scaled p R scale u) (scaled p R scale u * B u) x)) ≡ low x
+      unfolding low live_bound live_on bound_on signal_on coef_on scaled digits_of is_digit entry_at share weight_by smaller_at coef_in
+      low_is x =
+          rw (G.weighed few, G.multiplied few)
+          (sym (sum_filtered (is_digit p bounds marks) nothing (λ e. smaller (weight_by p scale e) (share p bounds scale e) x) row)
+          ∙ sym (pair_filtered (is_digit p bounds marks) (weight_by p scale) (share p bounds scale) (λ a b. smaller a b x) row))
 
-      takes : (s : ℕ) → s < entries row → counts s ≡ true → X (rank counts s) ≡ scaled p R scale s * B s
-      unfolding bounds_on live_bound live_on bound_on signal_on positive times
-      takes s l e =
-          rw (weighs s l e, ap (λ (x : Digit). x.bound) (D.gathered.held s l e), counts_bound p (entries row) Q (scaled p R scale) B s e)
-
-      pub ready_over : p ≤ sum few.count X → false ≡ answer
-      unfolding bounds_on live_bound live_on bound_on signal_on positive
-      ready_over h =
-          sym (answer_is ∙ held_over p (entries row) Q (scaled p R scale) B W X weighs takes (rw D.gathered.ranked at h))
-
-      pub ready_end : (weighed : Weighed) (total : ℕ) → Held p W X few.count few.count weighed.weights.now weighed.products.now total
-          → weighed.scale ≡ scale → weighed.p ≡ p → list_all (exceeds weighed marks) row ≡ answer
-      unfolding bounds_on live_bound live_on bound_on signal_on positive exceeds scaled coef_on entry_at
-      ready_end weighed total G by_scale modulo =
+      pub stand_end : Differ R Q (entries row) → list.sum (terms p bounds marks scale row) < p → (weighed : Weighed)
+          → weighed.weights.now ≡ take count room.weights → weighed.products.now ≡ take count room.products → weighed.scale ≡ scale → weighed.p ≡ p
+          → list_all (exceeds weighed marks) row ≡ answer
+      unfolding exceeds low live_on scaled weight_by coef_on entry_at
+      stand_end D short weighed by_weights by_products by_scale modulo =
           all_is (exceeds weighed marks) row nothing
-          ∙ rw (G.weights_wide, by_scale, modulo, D.gathered.ranked)
-          (held_end p (entries row) Q (scaled p R scale) B W X weighs takes weighed.weights.now weighed.products.now total _
-          (rw D.gathered.ranked at G) (weights_differ D.differ))
+          ∙ rw (by_weights, by_products, by_scale, modulo)
+          (stands_end p (entries row) Q (scaled p R scale) B low low_is (omega (arith, short, total_is)) (weights_differ D))
           ∙ sym answer_is
 
 -- What the code says of a row
 
 module _ (p : ℕ) (row : List Entry) (bounds : List ℕ) (marks : List Bool) where
-  pub hopeless_many : p < 4294967296 → Many (positive (bounds_on p bounds marks row)) (entries row) → Hopeless p row bounds marks
-  hopeless_many fits M =
-      record { fails = λ n K P L r er. fails_many L P bounds marks r er _ refl M.upto M.within fits M.many }
+  hopeless_many : p < 4294967296 → 32 ≤ length (digits_of p bounds marks row) → Hopeless p row bounds marks
+  hopeless_many fits many = record { fails = λ n K P L r er. fails_many L P bounds marks r er _ refl fits many }
 
   -- what is gathered where coefficients differ
   pub prepared : p < 4294967296 → Differ (coef_on row) (live_on marks row) (entries row) → (x : Option Few) → Gathers p row bounds marks x
@@ -320,15 +362,6 @@ module _ (p : ℕ) (row : List Entry) (bounds : List ℕ) (marks : List Bool) wh
       tells_by some x x-is n K P L =
           let here = true_by _ (λ z. some (c-is ∙ (row_entry L i h).coef ∙ occurs_no p K (signal_on row i) z)) in
           x-is n K _ P L (c-is ∙ (row_entry L i h).coef) here ∙ sym (rw here)
-
--- x is what is told of the reference by what is gathered
-pub digits_told : {p n : ℕ} {K : Constraint} {row : List Entry} → Prime p → Row p n K row → (bounds : List ℕ) (marks : List Bool) (r coef : ℕ)
-    → coef ≡ reduced p K r → occurs (reduced p K) r ≡ true → (few : Option Few) → Prepared p row bounds marks few → (x : Bool)
-    → MatchOption few (x ≡ false) (λ few. (bounds : List ℕ) (n : ℕ) (K : Constraint) (r : ℕ) → Prime p → Row p n K row → Ready p row bounds marks few
-    → coef ≡ reduced p K r → occurs (reduced p K) r ≡ true → x ≡ separated p n (reduced p K) (bound_in p bounds) (mark_in marks) r)
-    → x ≡ separated p n (reduced p K) (bound_in p bounds) (mark_in marks) r
-digits_told P L bounds marks r coef is er None hopeless x none = none ∙ sym (hopeless.fails _ _ P L _ er)
-digits_told P L bounds marks r coef is er (Some few) ready x some = some _ _ _ _ P L ready is er
 
 -- The whole rule
 

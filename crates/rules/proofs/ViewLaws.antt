@@ -10,17 +10,13 @@ use Rattle.laws.specs.Problem.{largest}
 use Rattle.laws.specs.Standing.{put, add, lower, mark}
 use Rattle.laws.proofs.Sum.{by_equal, by_order}
 use Rattle.laws.proofs.Order.{put_same, put_other, add_same, add_other}
-use Rattle.rules.specs.View.{coef_in, bound_in, mark_in, view_of}
+use Rattle.rules.specs.View.{bound_in, mark_in, view_of}
 
 -- past the end
 
 pub bound_past : (p : ℕ) (bounds : List ℕ) (s : ℕ) → length bounds ≤ s → bound_in p bounds s ≡ p - 1
 unfolding bound_in
 bound_past p bounds s h = get_or-eq_default bounds (p - 1) h
-
-pub mark_past : (marks : List Bool) (s : ℕ) → length marks ≤ s → mark_in marks s ≡ false
-unfolding mark_in
-mark_past marks s h = get_or-eq_default marks false h
 
 -- within, whatever stands past the end
 pub get_d_within : {A : Type 0} (l : List A) (i : ℕ) (d e : A) → i < length l → get_or l i d ≡ get_or l i e
@@ -42,23 +38,11 @@ pub get_d_repeated : {A : Type 0} (n i : ℕ) (a : A) → get_or (replicate n a)
 get_d_repeated n i a =
     by_order i n (λ h. get_or-replicate n i a a h) (λ h. get_or-eq_default (replicate n a) a (rw (length-replicate n a) h))
 
-pub mark_none : (n s : ℕ) → mark_in (replicate n false) s ≡ false
-unfolding mark_in
-mark_none n s = get_d_repeated n s false
-
 pub bound_largest : (p n : ℕ) → bound_in p (replicate n (p - 1)) ≡ largest p
 unfolding bound_in largest
 bound_largest p n = fun_ext (λ s. get_d_repeated n s (p - 1))
 
 -- a store
-
-pub coef_set_same : (form : List ℕ) (s x : ℕ) → s < length form → coef_in (set form s x) s ≡ x
-unfolding coef_in
-coef_set_same form s x h = get_or-set_same form s x 0 h
-
-pub coef_set_other : (form : List ℕ) (t s x : ℕ) → (s ≡ t → ⊥) → coef_in (set form t x) s ≡ coef_in form s
-unfolding coef_in
-coef_set_other form t s x d = get_or-set_other form t s x 0 d
 
 pub bound_set : (p : ℕ) (bounds : List ℕ) (t x : ℕ) → t < length bounds → bound_in p (set bounds t x) ≡ put (bound_in p bounds) t x
 unfolding bound_in

@@ -69,12 +69,6 @@ weight_some p c a P d h some =
 -- One coefficient against those before it that pass
 
 module _ (R : ℕ → ℕ) (q : ℕ → Bool) where
-  pub unlike_start : (x : ℕ) → Unlike R q 0 x
-  unlike_start x = record { apart = λ u l e g. omega arith }
-
-  pub unlike_on : (u x : ℕ) → Unlike R q u x → (q u ≡ true → R u ≡ x → ⊥) → Unlike R q (u + 1) x
-  unlike_on u x U d = record { apart = below_more _ u U.apart d }
-
   pub unlike_above : (k x least most : ℕ) → Between R q k least most → most < x → Unlike R q k x
   unlike_above k x least most B h = record { apart = λ u l e g. omega (arith, B.high u l e) }
 

@@ -1,5 +1,5 @@
 -- The unmarked entries of a row, and coefficients R of those that pass a test q, by place. How the rules run, not what they mean.
-use Rattle.std.specs.Prelude.{ℕ, ◌≤◌, ◌<◌, ◌≡◌, Bool, true, not, ◌&&◌, List, ltb, eqb}
+use Rattle.std.specs.Prelude.{ℕ, ◌≤◌, ◌<◌, ◌≡◌, Bool, true, not, ◌&&◌, List, eqb}
 use Rattle.laws.specs.Sum.{keep}
 use Rattle.rules.specs.View.{bound_in, mark_in}
 use Rattle.rules.specs.Rows.{entry_at}
@@ -22,10 +22,6 @@ bounds_on p bounds marks row i = live_bound p bounds marks (entry_at row i)
 -- an unmarked signal with this coefficient
 abbrev pub has_coefficient : List Bool → ℕ → Entry → Bool
 has_coefficient marks c x = eqb x.coefficient c && is_live marks x
-
--- a bound above 0
-unfoldable pub positive : (ℕ → ℕ) → ℕ → Bool
-positive c s = ltb 0 (c s)
 
 -- none below k that passes has coefficient x
 pub record Unlike (R : ℕ → ℕ) (q : ℕ → Bool) (k x : ℕ) : Type 0 where

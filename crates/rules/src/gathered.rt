@@ -1,4 +1,4 @@
-// What is gathered of a row for the digits test: the unmarked entries with a bound above 0, and their weights by the scale of a reference.
+// The digits of a row, which are the unmarked entries with a bound above 0, and the test of each signal's weight against what they weigh and add.
 
 ghost use Rattle.std.specs.Prelude.{◌≡◌, ◌*◌, ◌%◌, ◌<◌, length, take, min};
 ghost use Rattle.laws.specs.Sum.{sum};
@@ -11,28 +11,21 @@ use crate::rows::Entry;
 // The most digits of a row that passes, since 2 to their number is at most p.
 pub(crate) const DIGITS_MOST: usize = 31;
 
-// The coefficient of an unmarked entry, and its bound, above 0.
-#[derive(Clone, Copy, Debug, PartialEq, Eq)]
-pub struct Digit {
-    pub coefficient: u32,
-    pub bound: u32,
-}
-
-// The unmarked entries with a bound above 0, where they are fewer than 32.
+// The digits of a row, where they are fewer than 32: its unmarked entries with a bound above 0.
 // Stays: an array with a count: there is no heap, so no `Vec`, and the kit's `ArrayVec` would be one more library under all crates above, for this one
 // place.
 #[derive(Clone, Copy, Debug, PartialEq, Eq)]
 pub struct Few {
-    pub digits: [Digit; DIGITS_MOST],
+    pub entries: [Entry; DIGITS_MOST],
     pub count: usize,
 }
 
 impl Few {
-    // The digits that are gathered; for all counts.
-    pub(crate) fn gathered(&self) -> &[Digit]
-        ensures { (result.now ≡ take (min self.entry.now.count 31) self.entry.now.digits) × (length result.now ≡ min self.entry.now.count 31) }
+    // The entries that are gathered; for all counts.
+    pub(crate) fn gathered(&self) -> &[Entry]
+        ensures { result.now ≡ take (min self.entry.now.count 31) self.entry.now.entries }
     {
-        &self.digits[..self.count.min(DIGITS_MOST)]
+        &self.entries[..self.count.min(DIGITS_MOST)]
     }
 }
 

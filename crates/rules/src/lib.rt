@@ -2,6 +2,7 @@
 
 #![tactic(auto)]
 
+pub mod added;
 mod arith;
 pub mod constraint;
 pub mod digits;

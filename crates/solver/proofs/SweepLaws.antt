@@ -134,9 +134,9 @@ module _ {c table ends : List ℕ} {rows : List Entry} {z : Sizes} (D : Prepared
 
 -- The search over the references of a row
 
--- x tells of entry i whether its signal separates, for all bounds by which the row was prepared
-abbrev pub Told : ℕ → List Entry → List Bool → Few → ℕ → Bool → Type 0
-Told p row marks few i x = (bounds : List ℕ) → Ready p row bounds marks few → i < entries row → Tells p row bounds marks i x
+-- x tells of entry i whether its signal separates
+abbrev pub Told : ℕ → List Entry → List ℕ → List Bool → Few → ℕ → Bool → Type 0
+Told p row bounds marks few i x = Ready p row bounds marks few → i < entries row → Tells p row bounds marks i x
 
 -- the references before entry i give no step
 pub record Searching (p : ℕ) (row : List Entry) (bounds : List ℕ) (marks : List Bool) (few : Few) (i : ℕ) : Type 0 where
@@ -153,14 +153,14 @@ module _ {p : ℕ} {row : List Entry} {bounds : List ℕ} {marks : List Bool} {f
   searched h = tried_none _ _ _ _ _ T.tried h
 
   -- what is told of entry i
-  module _ (more : i < entries row) {x : Bool} (tells : Told p row marks few i x) where
+  module _ (more : i < entries row) {x : Bool} (tells : Told p row bounds marks few i x) where
     pub searching_on : x ≡ false → Searching p row bounds marks few (i + 1)
     searching_on e =
-        record { ready = T.ready; some = omega arith; tried = tried_on _ _ _ _ _ T.tried more _ (tells bounds T.ready more) e }
+        record { ready = T.ready; some = omega arith; tried = tried_on _ _ _ _ _ T.tried more _ (tells T.ready more) e }
 
     pub found : x ≡ true → (n : ℕ) (K : Constraint) → Prime p → Row p n K row
         → FirstReference p n (reduced p K) (bound_in p bounds) (mark_in marks) (signal_on row i)
-    found e = tried_found _ _ _ _ _ T.tried more _ (tells bounds T.ready more) e T.some _ refl
+    found e = tried_found _ _ _ _ _ T.tried more _ (tells T.ready more) e T.some _ refl
 
 -- The walk over the constraints
 
@@ -273,7 +273,7 @@ module _ {c table ends : List ℕ} {rows : List Entry} {z : Sizes} (D : Prepared
     loose_tried h = none_left (searched T h)
 
     -- the signal of entry i does
-    pub loose_found : i < entries row → {t : Bool} → Told z.p row marks few i t → t ≡ true → {key : Key} → key_in key ≡ found_key (Some candidate)
+    pub loose_found : i < entries row → {t : Bool} → Told z.p row bounds marks few i t → t ≡ true → {key : Key} → key_in key ≡ found_key (Some candidate)
         → key_in key < least_of lowest → Narrow key → {r : ℕ} → r ≡ signal_on row i
         → Sweeping (circuit_of c) (bound_in z.p bounds) (mark_in marks) x (k + 1) (Some (record { key = key; constraint = k + 1; reference = r }))
         (set after (k + 1) (Some (Some (record { target = candidate.target; kind = candidate.kind; reference = Some r }))))

@@ -19,6 +19,7 @@ use crate::keys::{Choice, Kept, Key, known};
 use crate::search::product_target;
 use crate::table::Table;
 use circuit::reader::Sizes;
+use rules::added::DigitTerms;
 use rules::constraint::is_linear;
 use rules::digits::{first_live, prepare, separates_at};
 use rules::rows::Entry;
@@ -149,6 +150,7 @@ pub(crate) fn lowest_key(
     let sizes = table.constraints.file.sizes;
     let marks = &standing.marks;
     let mut lowest = zero_step(standing, sizes);
+    let mut room = DigitTerms::NONE;
     'constraints: for passed in 0..sizes.m {
         let k = passed + 1;
         let place = k as usize;
@@ -173,7 +175,7 @@ pub(crate) fn lowest_key(
             continue;
         };
         for i in 1..row.len() {
-            if separates_at(row, marks, &few, sizes.p, i) {
+            if separates_at(row, &standing.bounds, marks, &few, sizes.p, i, &mut room) {
                 let reference = row[i].signal;
                 kept[place] = Some(Some(Candidate {
                     reference: Some(reference),
