@@ -90,7 +90,7 @@ fn idle(rows: &mut Vec<Row>) {
         rows.push(renewing(&format!("renew {name}, 4,096 steps, all idle but the first"), &circuit, &sheet, &repeated(first)));
     }
     let padded = repeated(&solution(&decoys, NO_TAGS)[7..]);
-    rows.push(refused("mark bits behind decoys, 4,096 steps, refused at the first idle one", &decoys, &padded));
+    rows.push(refused("mark bits behind decoys, 4,096 steps, refused at the first idle one", &decoys, &padded, 29, 1));
 }
 
 /// Sheets of 256 tags: solving and marking, where bounds fall only because of them too, and a pair whose inputs have them all.
@@ -106,11 +106,14 @@ fn tagged(largest: &Planted, rows: &mut Vec<Row>) {
     solving("case c, 4 tags", &small, &write_sheet(&tags), rows);
 }
 
-/// The widest digits tests: renewing 4,096 steps of which most are idle, and solving circuits with more and more sums that nothing settles.
+/// The widest digits tests: renewing 4,096 steps of which most are idle, marking a step that is refused at the second signal, and solving circuits with more and
+/// more sums that nothing settles.
 fn wide_digits(rows: &mut Vec<Row>) {
     for padded in wide_digits::all_padded() {
         rows.push(renewing(&format!("renew digits on {}, 4,096 steps", padded.name), &padded.circuit, NO_TAGS, &padded.derivation));
     }
+    let (circuit, derivation) = wide_digits::reached_at_second();
+    rows.push(refused("mark a digits step on 64 signals, p reached at the second, 4,096 times", &circuit, &derivation, 17, 4096));
     for sums in [35, 71, wide_digits::MOST_SUMS] {
         rows.push(solved(&format!("{sums} broken sums"), &wide_digits::broken_sums(sums), NO_TAGS).0);
     }
@@ -136,15 +139,15 @@ fn marking(name: &str, circuit: &[u8], sheet: &[u8], derivation: &[u8]) -> Row {
     row(name, || yolqushek::check_derivation(circuit, sheet, derivation, &mut one), || second::check_derivation(circuit, sheet, derivation, &mut two))
 }
 
-/// Marking a derivation that is refused with 29 by both.
-fn refused(name: &str, circuit: &[u8], derivation: &[u8]) -> Row {
+/// Marking, so many times, a derivation that both refuse with this number.
+fn refused(name: &str, circuit: &[u8], derivation: &[u8], number: u32, times: usize) -> Row {
     let (mut one, mut two) = (vec![9; signals(circuit)], vec![9; signals(circuit)]);
-    assert_eq!(yolqushek::check_derivation(circuit, NO_TAGS, derivation, &mut one).map_err(|refusal| refusal.number).err(), Some(29));
-    assert_eq!(second::check_derivation(circuit, NO_TAGS, derivation, &mut two).map_err(|refusal| refusal.number).err(), Some(29));
+    assert_eq!(yolqushek::check_derivation(circuit, NO_TAGS, derivation, &mut one).map_err(|refusal| refusal.number).err(), Some(number));
+    assert_eq!(second::check_derivation(circuit, NO_TAGS, derivation, &mut two).map_err(|refusal| refusal.number.into()).err(), Some(number));
     row(
         name,
-        || yolqushek::check_derivation(circuit, NO_TAGS, derivation, &mut one),
-        || second::check_derivation(circuit, NO_TAGS, derivation, &mut two),
+        || (0..times).map(|_| black_box(yolqushek::check_derivation(circuit, NO_TAGS, derivation, &mut one))).last(),
+        || (0..times).map(|_| black_box(second::check_derivation(circuit, NO_TAGS, derivation, &mut two))).last(),
     )
 }
 

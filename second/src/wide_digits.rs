@@ -1,5 +1,5 @@
-//! Circuits whose sums name as many signals as a form can, most of them with bound 0, so that a digits test has the most to look at; and derivations of
-//! 4,096 steps that make the test again and again, most of them idle.
+//! Circuits whose sums name as many signals as a form can, most of them with bound 0, so that a digits test has the most to look at; derivations of 4,096 steps
+//! that make the test again and again, most of them idle; and digits steps whose adding ends early, at the last signal, or not at all.
 
 use std::collections::BTreeSet;
 
@@ -35,6 +35,50 @@ impl Padded {
 /// The derivations of this module with their circuits.
 pub fn all_padded() -> [Padded; 3] {
     [zeros_alone(), bits_and_zeros(), sums_in_turn()]
+}
+
+/// A circuit and a derivation of which the last step, a digits step, is met or not; all before it are.
+pub struct Judged {
+    pub name: String,
+    pub circuit: Vec<u8>,
+    pub derivation: Vec<u8>,
+    pub met: bool,
+}
+
+impl Judged {
+    /// One sum of bits with these weights, a root step for each bit, and a digits step.
+    fn bits(p: u32, weights: &[i64], met: bool) -> Judged {
+        let count = weights.len() as u16;
+        let mut draft = Draft::new(p, count, 0, count);
+        wide_sum(&mut draft, &(1..).zip(weights.iter().copied()).collect::<Terms>());
+        (1..=count).for_each(|signal| bit(&mut draft, signal));
+        let mut steps: Vec<Step> = (1..=count).map(|signal| Step::new(ROOT, signal, signal + 1, 0)).collect();
+        steps.push(Step::new(DIGITS, 1, 1, 1));
+        Judged { name: format!("{count} bits, p = {p}"), circuit: draft.bytes(), derivation: write_steps(&steps), met }
+    }
+}
+
+/// Digits steps whose adding ends early or doesn't: p reached at the second of 64 signals; bits that add up to p at the last one, where p is a power of 2 less 1, and
+/// one bit fewer; more than 31 bits that don't reach p.
+pub fn judged() -> Vec<Judged> {
+    let (circuit, derivation) = reached_at_second();
+    let mut all = vec![Judged { name: "p reached at the second".into(), circuit, derivation, met: false }];
+    for count in [5, 7, 13, 17, 19, 31] {
+        let (p, powers) = ((1u64 << count) - 1, (0..count).map(|index| 1 << index).collect::<Vec<i64>>());
+        all.push(Judged::bits(p as u32, &powers, false));
+        all.push(Judged::bits(p as u32, &powers[1..], true));
+    }
+    all.extend([32, 40, 64].map(|count| Judged::bits(P, &(1..=count).collect::<Vec<i64>>(), false)));
+    all
+}
+
+/// A sum of 64 signals, the most that a linear form names, none of them bounded, and a digits step by signal 1, which adds p - 1, so that p is reached at the
+/// second. The coefficients differ and stand in no order.
+pub fn reached_at_second() -> (Vec<u8>, Vec<u8>) {
+    let mut draft = Draft::new(65_521, 64, 0, 64);
+    let terms: Terms = (1..=64).map(|signal| (signal, 1 + i64::from(signal) * 40_503 % 65_521)).collect();
+    wide_sum(&mut draft, &terms);
+    (draft.bytes(), write_steps(&[Step::new(DIGITS, 1, 1, 1)]))
 }
 
 /// The root of this constraint is 0.

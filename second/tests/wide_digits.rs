@@ -1,10 +1,10 @@
-//! The widest digits tests: the circuits are what they are said to be, and every step of the derivations is met.
+//! The widest digits tests: the circuits are what they are said to be, and the steps of the derivations are met, but for those that are said not to be.
 
 use second::marker::{read_steps, MOST_STEPS};
 use second::rules::{Rules, Standing, Step, DIGITS, ROOT, ZERO};
 use second::sheet::NO_TAGS;
 use second::solver::derive;
-use second::wide_digits::{all_padded, broken_sums, MOST_SUMS};
+use second::wide_digits::{all_padded, broken_sums, judged, reached_at_second, MOST_SUMS};
 use second::{check_derivation, read_circuit, renew};
 
 #[test]
@@ -45,5 +45,34 @@ fn broken_sums_mark_no_bit_before_the_last_zero() {
     assert!(steps[..256].iter().all(|&step| rules.take(&mut standing, step)));
     for (constraint, reference) in (1..=35).flat_map(|constraint| (1..=256).map(move |reference| (constraint, reference))) {
         assert!(!rules.take(&mut standing, Step::new(DIGITS, 1, constraint, reference)));
+    }
+}
+
+/// Signal 1 weighs 1 and may be p - 1; the others weigh what they are said to, all differently.
+#[test]
+fn p_is_reached_at_the_second_of_64_signals() {
+    let (bytes, _) = reached_at_second();
+    let circuit = read_circuit(&bytes).unwrap();
+    let constraint = &circuit.constraints[0];
+    assert_eq!(constraint.b.signals().len() + constraint.c.signals().len(), 64);
+    let (p, scale) = (circuit.field.prime(), circuit.field.inverse(1 + 40_503));
+    let mut weights: Vec<u64> = (1..=64).map(|signal| circuit.field.mul((1 + signal * 40_503) % p, scale)).collect();
+    assert_eq!(weights[0], 1);
+    assert!((p - 1) * weights[0] < p && (p - 1) * (weights[0] + weights[1]) >= p);
+    assert!(!weights.is_sorted());
+    weights.sort_unstable();
+    weights.dedup();
+    assert_eq!((weights.len(), weights[0]), (64, 1));
+}
+
+#[test]
+fn digits_steps_are_met_or_not_where_the_adding_ends() {
+    for step in judged() {
+        let steps = read_steps(&step.derivation).unwrap().len() as u32;
+        let judgement = check_derivation(&step.circuit, NO_TAGS, &step.derivation, &mut [9; 64]);
+        match judgement {
+            Ok(_) => assert!(step.met, "{}", step.name),
+            Err(refusal) => assert_eq!((refusal.number, refusal.place, step.met), (17, steps, false), "{}", step.name),
+        }
     }
 }

@@ -8,10 +8,10 @@ use second::compose::{compose, compose_random, WITH_WORST};
 use second::falling::{self, Falling};
 use second::sheet::NO_TAGS;
 use second::vectors::{bytes_of, Record, DERIVATION, FIRST_RUN, NEXT_RUN, RENEW, SOLVE};
-use second::wide_digits::{all_padded, broken_sums, MOST_SUMS};
+use second::wide_digits::{all_padded, broken_sums, judged, MOST_SUMS};
 use second::worst_runs;
 
-/// Solving where the digits test is widest; marking and renewing 4,096 steps, most of them idle or none; listing runs where every candidate is looked at.
+/// Solving where the digits test is widest; digits steps whose adding ends early or not; marking and renewing 4,096 steps, most of them idle or none; listing runs where every candidate is looked at.
 fn longest() -> Vec<Record> {
     let mut records: Vec<Record> = [1, 35, MOST_SUMS].map(|sums| Record::answered(SOLVE, &broken_sums(sums), NO_TAGS, &[], 7 + 14 * 256)).into();
     let padded = all_padded().map(|padded| (padded.circuit, padded.derivation));
@@ -20,6 +20,7 @@ fn longest() -> Vec<Record> {
         records.push(Record::answered(DERIVATION, &circuit, NO_TAGS, &derivation, 256));
         records.push(Record::answered(RENEW, &circuit, NO_TAGS, &derivation, derivation.len()));
     }
+    records.extend(judged().iter().map(|step| Record::answered(DERIVATION, &step.circuit, NO_TAGS, &step.derivation, 64)));
     for (_, circuit) in worst_runs::all() {
         let n = second::read_circuit(&circuit).expect("worst circuits are valid").signals.into();
         records.push(Record::answered(FIRST_RUN, &circuit, &[], &[], n));
