@@ -106,8 +106,8 @@ fn tagged(largest: &Planted, rows: &mut Vec<Row>) {
     solving("case c, 4 tags", &small, &write_sheet(&tags), rows);
 }
 
-/// The widest digits tests: renewing 4,096 steps of which most are idle, marking a step that is refused at the second signal, and solving circuits with more and
-/// more sums that nothing settles.
+/// The widest digits tests: renewing 4,096 steps of which most are idle, marking a step that is refused at the second signal, and solving circuits with more
+/// and more sums that nothing settles.
 fn wide_digits(rows: &mut Vec<Row>) {
     for padded in wide_digits::all_padded() {
         rows.push(renewing(&format!("renew digits on {}, 4,096 steps", padded.name), &padded.circuit, NO_TAGS, &padded.derivation));

@@ -58,8 +58,8 @@ impl Judged {
     }
 }
 
-/// Digits steps whose adding ends early or doesn't: p reached at the second of 64 signals; bits that add up to p at the last one, where p is a power of 2 less 1, and
-/// one bit fewer; more than 31 bits that don't reach p.
+/// Digits steps whose adding ends early or doesn't: p reached at the second of 64 signals; bits that add up to p at the last one, where p is a power of 2
+/// less 1, and one bit fewer; more than 31 bits that don't reach p.
 pub fn judged() -> Vec<Judged> {
     let (circuit, derivation) = reached_at_second();
     let mut all = vec![Judged { name: "p reached at the second".into(), circuit, derivation, met: false }];
