@@ -1,4 +1,5 @@
--- Numbers taken until their sum reaches a limit, and the lists of a form's unmarked signals: what each turn of a loop adds to them, and their sums by place.
+-- Numbers taken until their sum reaches a limit; a row's unmarked entries and its digits as lists: what each turn of the loops that gather and add does to
+-- them, and their sums by place.
 use Prim.Native.Nat.{ℕ, zero, suc, ◌+◌, ◌-◌, ◌*◌, ◌%◌, ◌≤◌, ◌<◌, min}
 use mathlib.Core.Path.{◌≡◌, refl, sym, ap, ◌∙◌}
 use mathlib.Core.Bool.{Bool, true, false}
@@ -376,7 +377,7 @@ module _ (p : ℕ) (bounds : List ℕ) (marks : List Bool) (scale : ℕ) where
             products_wide = P.products_wide;
           }
 
-      -- a digit, of which weight and product are kept if there is room
+      -- a digit, whose weight and product are put into the room while it is free
       module _ (e : is_live marks x ≡ true) (short : total < p) (some : bound_in p bounds x.signal ≡ 0 → ⊥)
           (w y : ℕ) (w-is : w ≡ weight_by p scale x) (y-is : y ≡ share p bounds scale x) where
         is_one : is_digit p bounds marks x ≡ true
@@ -445,6 +446,6 @@ module _ (p : ℕ) (bounds : List ℕ) (marks : List Bool) (scale : ℕ) where
     pub passed_kept : a.total < p → Holds p bounds scale (digits_in row) a.digit_count room
     passed_kept l = rw (take_all i row end) at (P.holds l)
 
--- the slice that is read of them is the digits
+-- the slice that `Few::gathered` answers is the row's digits
 pub gathered_is : {digits : List Entry} {few : Few} → Gathered digits few → {xs : List Entry} → xs ≡ take (min few.count 31) few.entries → xs ≡ digits
 gathered_is G is = is ∙ rw (min-eq_left G.room) G.held

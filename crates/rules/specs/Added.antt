@@ -62,7 +62,7 @@ is_digit p bounds marks x = ltb 0 (live_bound p bounds marks x)
 unfoldable pub digits_of : ℕ → List ℕ → List Bool → List Entry → List Entry
 digits_of p bounds marks row = filter (is_digit p bounds marks) row
 
--- the weights of so many digits, and weight times bound, where they are 31 at most
+-- how many the digits are; where they are 31 at most, what is kept begins with their weights, and with weight times bound
 pub record Holds (p : ℕ) (bounds : List ℕ) (scale : ℕ) (digits : List Entry) (count : ℕ) (kept : DigitTerms) : Type 0 where
   pub counted : count ≡ length digits
   pub weighed : count ≤ 31 → take count kept.weights ≡ map (weight_by p scale) digits

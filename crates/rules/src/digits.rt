@@ -1,6 +1,6 @@
 // The digits rule over a row: whether the weights of its unmarked signals separate their values, as those of a mixed-radix numeral do.
-// What doesn't turn on the reference is tested once in a search: modulo a prime weights differ exactly if coefficients do. Sums run over the entries with
-// a bound above 0, of which a row that passes has fewer than 32, since 2 to their number is at most p.
+// What doesn't turn on the reference is tested once in a search: modulo a prime weights differ exactly if coefficients do. What a weight must exceed is
+// summed up over the digits, the entries with a bound above 0, of which a row that passes has fewer than 32, since 2 to their number is at most p.
 // Stays: that a row is one of a constraint (`Row`) is a premise of promises, here and for sums, and no type: the functions take any slice.
 
 ghost use Rattle.std.specs.Prelude.{◌≡◌, true, false, List, ℕ, ◌≤◌, ◌<◌, take, nat_eq};
@@ -208,7 +208,7 @@ fn stand_out(
 
 // Whether the reference at entry i separates the unmarked signals of the row, of which those with a bound above 0 are gathered. What the lent room holds
 // afterwards is free.
-// Stays: lent, since clearing it for each reference made solving sums over tagged inputs take 1.12 times as long as before, and 1.09 so.
+// Stays: lent; cleared for each reference, solving sums over tagged inputs took 1.12 times as long as before, and takes 1.07 (docs/BENCHMARKS.md).
 pub fn separates_at(
     row: &[Entry],
     bounds: &[u32],

@@ -21,7 +21,7 @@ pub struct Few {
 }
 
 impl Few {
-    // The entries that are gathered; for all counts.
+    // The entries that are gathered; of a count above 31, the first 31.
     pub(crate) fn gathered(&self) -> &[Entry]
         ensures { result.now ≡ take (min self.entry.now.count 31) self.entry.now.entries }
     {
