@@ -7,7 +7,7 @@ use native.Mathlib.Omega.{arith}
 use lib.Dec.{ltb, eqb}
 use borrow.Author.Tests.{ltb-true, ltb-false, le-ltb, eq-eqb, ne_eqb, eqb-true, lt-leb, leb-false}
 use Rattle.laws.specs.Problem.{Problem, Subject, subject}
-use Rattle.laws.specs.Standing.{Standing, Change, bounds}
+use Rattle.laws.specs.Standing.{Standing, Change, bounds, nonzeros}
 use Rattle.laws.specs.Step.{names_of, Kind, Step, within, inside, constraints, references, rule, rule_of, in_range, met, change, adds}
 use Rattle.laws.specs.Solver.{
   step,
@@ -35,7 +35,7 @@ use Rattle.laws.proofs.Sum.{
   by_equal,
 }
 use Rattle.laws.proofs.Order.{at_least_refl, bounds_is}
-use Rattle.laws.proofs.Monotone.{Sorted, root, sum, marker, grows}
+use Rattle.laws.proofs.Monotone.{Sorted, root, sum, marker, excluder, grows}
 use Rattle.laws.proofs.Turns.{within_says, target_within, adds_says, adds_holds}
 use Rattle.laws.proofs.Optimum.{fits_says, fits_holds}
 
@@ -94,6 +94,14 @@ pub bounding : {q : Kind} {c : Change} → Sorted q c → bounds c ≡ true → 
 bounding root e = by_root
 bounding sum e = by_sum
 bounding marker e = true_or_false false e refl
+bounding excluder e = true_or_false false e refl
+
+-- the kind that gives nonzero marks
+pub excluding_kind : {q : Kind} {c : Change} → Sorted q c → nonzeros c ≡ true → q ≡ Kind.Nonzero
+excluding_kind root e = true_or_false false e refl
+excluding_kind sum e = true_or_false false e refl
+excluding_kind marker e = true_or_false false e refl
+excluding_kind excluder e = refl
 
 module _ (P : Problem) (S : Standing) where
   pub lowers_says : (x : Step) → lowers P S x ≡ true → Lowering P S x

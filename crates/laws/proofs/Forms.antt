@@ -9,7 +9,7 @@ use lib.Dec.{eqb}
 use borrow.Author.Tests.{eq-eqb, ne_eqb, eqb-true, not-true}
 use Rattle.circuit.specs.Circuit.{Term, Form, Rises, no_more, more, coef, names, eval}
 use Rattle.laws.specs.Sum.{sum, keep}
-use Rattle.laws.specs.Rules.{names_none, is_zero, names_only, others_marked}
+use Rattle.laws.specs.Rules.{names_none, is_zero, names_only, others_marked, single}
 use Rattle.laws.proofs.Sum.{and_left, and_right, and_both, or_cases, or_left, or_right, true_or_false, by_test, false_by, by_equal}
 use Rattle.laws.proofs.Sum.{keep_true, keep_false, keep_same, none_times, sum_cong, sum_zeros, sum_one, sum_out, sum_first}
 
@@ -158,6 +158,38 @@ pub eval_zero : (f : Form) → is_zero f ≡ true → (v : ℕ → ℕ) → eval
 unfolding is_zero eval
 eval_zero [] e v = refl
 eval_zero (x ∷ f) e v = true_or_false false e refl
+
+-- a form of exactly one term, on s
+pub record Single (p s : ℕ) (f : Form) : Type 0 where
+  pub factor : ℕ
+  pub positive : 0 < factor
+  pub below : factor < p
+  pub value : (v : ℕ → ℕ) → eval f v ≡ factor * v s
+
+pub single_says : {n p least s : ℕ} {f : Form} → Rises n p least f → single s f ≡ true → Single p s f
+unfolding single is_zero eval
+single_says no_more e = true_or_false false e refl
+single_says {s = s} (more {t = x} {f = []} l m c d r) e =
+    record {
+      factor = x.coefficient;
+      positive = c;
+      below = d;
+      value = λ v. add-zero _ ∙ ap (λ (u : ℕ). x.coefficient * v u) (eqb-true x.signal s (and_left (eqb x.signal s) true e));
+    }
+single_says {s = s} (more {t = x} {f = y ∷ f} l m c d r) e = true_or_false false (and_right (eqb x.signal s) false e) refl
+
+pub single_names : (s : ℕ) (f : Form) → single s f ≡ true → names f s ≡ true
+unfolding single names
+single_names s [] e = e
+single_names s (x ∷ f) e = or_left _ (names f s) (and_left (eqb x.signal s) (is_zero f) e)
+
+pub single_only : (s u : ℕ) (f : Form) → single s f ≡ true → names f u ≡ true → u ≡ s
+unfolding single is_zero names
+single_only s u [] e h = true_or_false false e refl
+single_only s u (x ∷ []) e h =
+    or_cases (eqb x.signal u) false h (λ i. sym (eqb-true x.signal u i) ∙ eqb-true x.signal s (and_left (eqb x.signal s) true e))
+    (λ i. true_or_false false i refl)
+single_only s u (x ∷ y ∷ f) e h = true_or_false false (and_right (eqb x.signal s) false e) refl
 
 module _ {n p least : ℕ} {f : Form} (r : Rises n p least f) where
   -- one signal taken out

@@ -10,14 +10,14 @@ use lib.Dec.{eqb}
 use Rattle.circuit.specs.Circuit.{Constraint}
 use Rattle.laws.specs.Problem.{Problem, Subject, subject}
 use Rattle.laws.specs.Sum.{keep}
-use Rattle.laws.specs.Standing.{Standing, add, lower, start, bounds, value}
+use Rattle.laws.specs.Standing.{Standing, add, none_of, lower, start, bounds, value}
 use Rattle.laws.specs.Rules.{reduced, ceiling, sum_weight, sum_term, sum_bound}
 use Rattle.laws.specs.Step.{names_of, Kind, Step, Rule, rule, rule_of, met, change, after}
 use Rattle.laws.specs.Solver.{new_bound, lowers, best_bound, bound_steps, bounded}
 use Rattle.laws.proofs.Sum.{true_or_false, false_by, by_equal, by_order, sum_mono, sum_at}
 use Rattle.laws.proofs.Order.{add_all, bounds_is, lower_at, lower_other, after_adds}
 use Rattle.laws.proofs.Monotone.{sum_met_from}
-use Rattle.laws.proofs.Turns.{none_done, Turn, Phase, Ends, phase_ends}
+use Rattle.laws.proofs.Turns.{Turn, Phase, Ends, phase_ends}
 use Rattle.laws.proofs.Best.{
   Lowering,
   Bounding,
@@ -102,8 +102,8 @@ pub record Reached (P : Problem) (done : ℕ → Bool) (S : Standing) : Type 0 w
   pub low : (s : ℕ) → done s ≡ true → S.bound s ≤ level
   pub high : (y : Step) → lowers P S y ≡ true → level ≤ new_bound P S y
 
-pub reached_start : (P : Problem) (S : Standing) → Reached P none_done S
-unfolding none_done
+pub reached_start : (P : Problem) (S : Standing) → Reached P none_of S
+unfolding none_of
 reached_start P S = record { level = 0; low = λ s e. true_or_false false e refl; high = λ y e. omega arith }
 
 -- the turn of the step with the smallest new bound

@@ -9,7 +9,7 @@ use lib.Dec.{eqb}
 use lib.ListN.{length}
 use borrow.Author.Tests.{eq-eqb, ne_eqb, le-leb, leb-true}
 use Rattle.laws.specs.Problem.{Problem}
-use Rattle.laws.specs.Standing.{Standing, put, add, lower, mark, Change, at_most, fixed, apply, idle}
+use Rattle.laws.specs.Standing.{Standing, put, add, lower, mark, exclude_zero, Change, at_most, fixed, not_zero, apply, idle}
 use Rattle.laws.specs.Step.{Step, change, fits, is_idle, adds, after, replay, each, accepted, formerly, unless, less_idle}
 use Rattle.laws.proofs.Sum.{and_left, and_right, and_both, by_equal}
 use Rattle.laws.proofs.Order.{add_same}
@@ -26,18 +26,20 @@ unfolding add
 add_here m t e = fun_ext (λ s. by_equal s t (λ q. rw (eq-eqb s t q) (sym (ap m q ∙ e))) (λ d. rw (ne_eqb s t d)))
 
 pub idle_stays : (c : Change) (S : Standing) (t : ℕ) → idle c S t ≡ true → apply c S t ≡ S
-unfolding lower mark
+unfolding lower mark exclude_zero
 idle_stays (at_most x) S t e =
-    ap (λ (f : ℕ → ℕ). record { bound = f; marked = S.marked }) (put_same S.bound t _ (omega (arith, leb-true (S.bound t) x e)))
-idle_stays fixed S t e = ap (λ (m : ℕ → Bool). record { bound = S.bound; marked = m }) (add_here S.marked t e)
+    ap (λ (f : ℕ → ℕ). record { bound = f; marked = S.marked; nonzero = S.nonzero }) (put_same S.bound t _ (omega (arith, leb-true (S.bound t) x e)))
+idle_stays fixed S t e = ap (λ (m : ℕ → Bool). record { bound = S.bound; marked = m; nonzero = S.nonzero }) (add_here S.marked t e)
+idle_stays not_zero S t e = ap (λ (z : ℕ → Bool). record { bound = S.bound; marked = S.marked; nonzero = z }) (add_here S.nonzero t e)
 
 pub stays_idle : (c : Change) (S : Standing) (t : ℕ) → apply c S t ≡ S → idle c S t ≡ true
-unfolding lower mark put
+unfolding lower mark exclude_zero put
 stays_idle (at_most x) S t e =
     let same : cond (eqb t t) (min (S.bound t) x) (S.bound t) ≡ S.bound t = ap (λ (Z : Standing). Z.bound t) e in
     let least : min (S.bound t) x ≡ S.bound t = rw (eq-eqb t t refl) at same in
     le-leb (S.bound t) x (omega (arith, least))
 stays_idle fixed S t e = sym (ap (λ (Z : Standing). Z.marked t) e) ∙ add_same S.marked t
+stays_idle not_zero S t e = sym (ap (λ (Z : Standing). Z.nonzero t) e) ∙ add_same S.nonzero t
 
 module _ (P : Problem) (S : Standing) (x : Step) where
   pub idle_same : is_idle P S x ≡ true → after P S x ≡ S

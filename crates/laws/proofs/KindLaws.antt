@@ -6,7 +6,7 @@ use mathlib.Core.List.{List, [], ◌∷◌}
 use native.Mathlib.Omega.{arith}
 use lib.Dec.{ltb}
 use borrow.Author.Tests.{ltb-true}
-use Rattle.laws.specs.Step.{Kind, Root, Sum, Zero, Product, Digits, kinds, kind_number}
+use Rattle.laws.specs.Step.{Kind, Root, Sum, Zero, Product, Digits, Nonzero, Quotient, kinds, kind_number}
 use Rattle.laws.proofs.Sum.{and_left, and_right}
 
 -- a kind in the list, after kinds with smaller numbers
@@ -21,6 +21,13 @@ listed Sum = there Root (omega arith) here
 listed Zero = there Root (omega arith) (there Sum (omega arith) here)
 listed Product = there Root (omega arith) (there Sum (omega arith) (there Zero (omega arith) here))
 listed Digits = there Root (omega arith) (there Sum (omega arith) (there Zero (omega arith) (there Product (omega arith) here)))
+listed Nonzero =
+    there Root (omega arith)
+    (there Sum (omega arith) (there Zero (omega arith) (there Product (omega arith) (there Digits (omega arith) here))))
+listed Quotient =
+    there Root (omega arith)
+    (there Sum (omega arith)
+    (there Zero (omega arith) (there Product (omega arith) (there Digits (omega arith) (there Nonzero (omega arith) here)))))
 
 -- kinds of a list with the same number are the same
 same_listed : {q q' : Kind} {qs : List Kind} → Listed q qs → Listed q' qs → kind_number q ≡ kind_number q' → q ≡ q'

@@ -6,6 +6,8 @@ pub mod SumRule
 pub mod ProductRule
 pub mod Digits
 pub mod DigitsRule
+pub mod NonzeroRule
+pub mod QuotientRule
 pub mod Order
 pub mod Sound
 pub mod Monotone

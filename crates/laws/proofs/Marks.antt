@@ -1,17 +1,18 @@
--- Phases that add by one sort of change: each turn takes a step that adds, as long as there is one. So n turns suffice. The marks phase is one.
+-- Phases that add by one sort of change: each turn takes a step that adds, as long as there is one. So n turns suffice. The phases of nonzero marks and
+-- of marks are such.
 use Prim.Native.Nat.{ℕ}
 use mathlib.Core.Path.{◌≡◌, refl}
 use mathlib.Core.Bool.{Bool, true, false}
 use mathlib.Core.List.{List}
 use mathlib.Core.Option.{some}
 use Rattle.laws.specs.Problem.{Problem}
-use Rattle.laws.specs.Standing.{Standing, add, mark, Change, apply, idle, marks}
+use Rattle.laws.specs.Standing.{Standing, add, none_of, mark, exclude_zero, Change, apply, idle, marks, nonzeros}
 use Rattle.laws.specs.Step.{Step, change, adds, after, replay}
 use Rattle.laws.specs.Solver.{adds_by, first_adding, turns}
 use Rattle.laws.proofs.Sum.{and_left, and_right, true_or_false, false_by}
-use Rattle.laws.proofs.Order.{add_mono, marks_is}
+use Rattle.laws.proofs.Order.{add_mono, marks_is, nonzeros_is}
 use Rattle.laws.proofs.First.{first_some, first_none}
-use Rattle.laws.proofs.Turns.{adds_says, none_done, Turn, Phase, Ends, phase_ends}
+use Rattle.laws.proofs.Turns.{adds_says, Turn, Phase, Ends, phase_ends}
 
 -- changes of sort c add to `held`, and keep `Same`
 pub record Adding (c : Change → Bool) (held : Standing → ℕ → Bool) (Same : Standing → Standing → Type 0) : Type 0 where
@@ -46,8 +47,8 @@ module _ {c : Change → Bool} {held : Standing → ℕ → Bool} {Same : Standi
                 };
           }
 
-  held_start : Held none_done S₁
-  unfolding none_done
+  held_start : Held none_of S₁
+  unfolding none_of
   held_start = record { all_held = λ s e. true_or_false false e refl; same = A.same_refl S₁ }
 
   abbrev steps : List Step
@@ -60,17 +61,34 @@ module _ {c : Change → Bool} {held : Standing → ℕ → Bool} {Same : Standi
   pub nothing_added : (x : Step) → adds_by c P (replay P S₁ steps) x ≡ false
   nothing_added = first_none c P _ steps_end.none_left
 
--- Marks
+-- Nonzero marks, then marks
 
+-- what both phases leave as it was ..
 pub record SameBounds (S₁ S : Standing) : Type 0 where
   pub bounds_stay : (s : ℕ) → S.bound s ≡ S₁.bound s
 
-pub marking : Adding marks (λ S. S.marked) SameBounds
+-- .. and the second besides
+pub record SameNonzeros (S₁ S : Standing) : Type 0 where
+  pub same_bounds : SameBounds S₁ S
+  pub nonzeros_stay : S.nonzero ≡ S₁.nonzero
+
+pub excluding : Adding nonzeros (λ S. S.nonzero) SameBounds
+unfolding exclude_zero
+excluding =
+    record {
+      was_not = λ d S t e i. rw (nonzeros_is d e) at i;
+      now = λ d S t e. rw (nonzeros_is d e);
+      same_refl = λ S. record { bounds_stay = λ s. refl };
+      same_step = λ d S₁ S t e h. rw (nonzeros_is d e) (record { bounds_stay = h.bounds_stay });
+    }
+
+pub marking : Adding marks (λ S. S.marked) SameNonzeros
 unfolding mark
 marking =
     record {
       was_not = λ d S t e i. rw (marks_is d e) at i;
       now = λ d S t e. rw (marks_is d e);
-      same_refl = λ S. record { bounds_stay = λ s. refl };
-      same_step = λ d S₁ S t e h. rw (marks_is d e) (record { bounds_stay = h.bounds_stay });
+      same_refl = λ S. record { same_bounds = record { bounds_stay = λ s. refl }; nonzeros_stay = refl };
+      same_step = λ d S₁ S t e h.
+          rw (marks_is d e) (record { same_bounds = record { bounds_stay = h.same_bounds.bounds_stay }; nonzeros_stay = h.nonzeros_stay });
     }

@@ -1,4 +1,5 @@
--- MONOTONE: a step that is met at a standing is met at every standing with at least its bounds and marks, and gives at least as much there.
+-- MONOTONE: a step that is met at a standing is met at every standing with at least its bounds and marks of both sorts, and gives at least as much
+-- there.
 use Prim.Native.Nat.{ℕ, zero, suc, ◌≤◌}
 use mathlib.Core.Path.{◌≡◌, refl, ap}
 use mathlib.Core.Bool.{Bool, true, false, not, ◌&&◌, ◌||◌}
@@ -30,9 +31,12 @@ use Rattle.laws.specs.Rules.{
   live_term,
   digits_met,
   separated,
+  divisor,
+  divides,
+  quotient_met,
 }
 use Rattle.laws.specs.Problem.{Problem, Subject, subject}
-use Rattle.laws.specs.Standing.{Standing, Change, at_most, fixed}
+use Rattle.laws.specs.Standing.{Standing, Change, at_most, fixed, not_zero}
 use Rattle.laws.specs.Step.{names_of, Kind, Step, Rule, rule, rule_of, met, change, after}
 use Rattle.laws.specs.Sound.{AtLeast}
 use Rattle.laws.proofs.Sum.{
@@ -141,12 +145,16 @@ module _ {m m' : ℕ → Bool} (more : (s : ℕ) → m s ≡ true → m' s ≡ t
   others_marked_mono t [] = λ e. refl
   others_marked_mono t (x ∷ f) = and_mono (or_mono (same (eqb x.signal 0 || eqb x.signal t)) (more x.signal)) (others_marked_mono t f)
 
+  all_marked_mono : (K : Constraint) (t : ℕ) → (others_marked m t K.a && others_marked m t K.b && others_marked m t K.c) ≡ true
+      → (others_marked m' t K.a && others_marked m' t K.b && others_marked m' t K.c) ≡ true
+  all_marked_mono K t = and_mono (and_mono (others_marked_mono t K.a) (others_marked_mono t K.b)) (others_marked_mono t K.c)
+
   product_met_mono : (K : Constraint) (t : ℕ) → product_met K m t ≡ true → product_met K m' t ≡ true
   unfolding product_met
   product_met_mono K t =
       and_mono
       (same (not (linear K) && (names K.c t && not (names K.a t) && not (names K.b t))))
-      (and_mono (and_mono (others_marked_mono t K.a) (others_marked_mono t K.b)) (others_marked_mono t K.c))
+      (all_marked_mono K t)
 
   live_mono : (p : ℕ) (K : Constraint) (s : ℕ) → live (reduced p K) m' s ≡ true → live (reduced p K) m s ≡ true
   unfolding live
@@ -154,11 +162,22 @@ module _ {m m' : ℕ → Bool} (more : (s : ℕ) → m s ≡ true → m' s ≡ t
   live_mono p K (suc s) =
       and_mono (same (occurs (reduced p K) (suc s))) (not_mono (m (suc s)) (m' (suc s)) (more (suc s)))
 
+module _ {m m' z z' : ℕ → Bool} (more : (s : ℕ) → m s ≡ true → m' s ≡ true) (others : (s : ℕ) → z s ≡ true → z' s ≡ true) where
+  divisor_mono : (t r : ℕ) → divisor m z t r ≡ true → divisor m' z' t r ≡ true
+  unfolding divisor
+  divisor_mono t r = and_mono (and_mono (more r) (others r)) (same (not (eqb r t)))
+
+  quotient_met_mono : (K : Constraint) (t r : ℕ) → quotient_met K m z t r ≡ true → quotient_met K m' z' t r ≡ true
+  unfolding quotient_met
+  quotient_met_mono K t r =
+      and_mono (and_mono (divisor_mono t r) (same (divides K.a K.b t r && not (names K.c t)))) (all_marked_mono more K t)
+
 -- what each kind gives
 pub data Sorted : Kind → Change → Type 0 where
   root : {x : ℕ} → Sorted Kind.Root (at_most x)
   sum : {x : ℕ} → Sorted Kind.Sum (at_most x)
   marker : {q : Kind} → Sorted q fixed
+  excluder : Sorted Kind.Nonzero not_zero
 
 -- what holds of every kind
 pub record Grows (q : Kind) (r r' : Rule) : Type 0 where
@@ -178,6 +197,8 @@ grows Kind.Zero J g t r = marker_grows (zero_met_mono _ _ g.bounds t)
 grows Kind.Product J g t r = marker_grows (product_met_mono g.marks J.equation t)
 grows Kind.Digits J g t r =
     marker_grows (digits_met_from J.p J.equation _ _ _ _ g.bounds (live_mono g.marks J.p J.equation) J.n t r)
+grows Kind.Nonzero J g t r = record { still_met = λ e. e; stronger = same_change; sort = excluder }
+grows Kind.Quotient J g t r = marker_grows (quotient_met_mono g.marks g.nonzeros J.equation t r)
 
 module _ (P : Problem) {S S' : Standing} (g : AtLeast S S') (x : Step) where
   step_grows : Grows x.kind (rule_of P S x) (rule_of P S' x)

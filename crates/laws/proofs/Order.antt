@@ -1,14 +1,30 @@
 -- The order of standings: it is a preorder, a step only adds, and a step that gives nothing new is idle. What holds of each sort of change.
 use Prim.Native.Nat.{ℕ, ◌≤◌, min}
 use mathlib.Core.Path.{◌≡◌, refl, sym, ◌∙◌}
-use mathlib.Core.Logic.{◌⊎◌, inl, inr}
 use mathlib.Core.Bool.{Bool, true, false}
 use mathlib.Core.List.{List, [], ◌∷◌, ◌++◌}
 use native.Mathlib.Omega.{arith}
 use lib.Dec.{eqb}
 use borrow.Author.Tests.{eq-eqb, ne_eqb, leb-true}
 use Rattle.laws.specs.Problem.{Problem}
-use Rattle.laws.specs.Standing.{Standing, put, add, lower, mark, Change, at_most, fixed, apply, idle, bounds, marks, value}
+use Rattle.laws.specs.Standing.{
+  Standing,
+  put,
+  add,
+  lower,
+  mark,
+  exclude_zero,
+  Change,
+  at_most,
+  fixed,
+  not_zero,
+  apply,
+  idle,
+  bounds,
+  marks,
+  nonzeros,
+  value,
+}
 use Rattle.laws.specs.Step.{Step, change, after, replay, each}
 use Rattle.laws.specs.Sound.{AtLeast}
 use Rattle.laws.proofs.Sum.{and_left, and_right, and_both, or_right, true_or_false, by_equal}
@@ -61,22 +77,29 @@ add_mono {m} {m'} t g = add_all (λ s. add m' t s ≡ true) m t (add_same m' t) 
 -- Standings
 
 pub at_least_refl : (S : Standing) → AtLeast S S
-at_least_refl S = record { bounds = λ s. omega arith; marks = λ s e. e }
+at_least_refl S = record { bounds = λ s. omega arith; marks = λ s e. e; nonzeros = λ s e. e }
 
 pub at_least_trans : {S T U : Standing} → AtLeast S T → AtLeast T U → AtLeast S U
 at_least_trans g h =
     record {
       bounds = λ s. omega (arith, g.bounds s, h.bounds s);
       marks = λ s e. h.marks s (g.marks s e);
+      nonzeros = λ s e. h.nonzeros s (g.nonzeros s e);
     }
 
--- other bounds, and other marks, in standings of which one has at least what the other has
+-- other bounds, other marks, and other nonzero marks in standings of which one has at least what the other has
 module _ {S S' : Standing} (g : AtLeast S S') where
-  with_bounds : (b b' : ℕ → ℕ) → Below b b' → AtLeast (record { bound = b; marked = S.marked }) (record { bound = b'; marked = S'.marked })
-  with_bounds b b' h = record { bounds = h; marks = g.marks }
+  with_bounds : (b b' : ℕ → ℕ) → Below b b'
+      → AtLeast (record { bound = b; marked = S.marked; nonzero = S.nonzero }) (record { bound = b'; marked = S'.marked; nonzero = S'.nonzero })
+  with_bounds b b' h = record { bounds = h; marks = g.marks; nonzeros = g.nonzeros }
 
-  with_marks : (m m' : ℕ → Bool) → More m m' → AtLeast (record { bound = S.bound; marked = m }) (record { bound = S'.bound; marked = m' })
-  with_marks m m' h = record { bounds = g.bounds; marks = h }
+  with_marks : (m m' : ℕ → Bool) → More m m'
+      → AtLeast (record { bound = S.bound; marked = m; nonzero = S.nonzero }) (record { bound = S'.bound; marked = m'; nonzero = S'.nonzero })
+  with_marks m m' h = record { bounds = g.bounds; marks = h; nonzeros = g.nonzeros }
+
+  with_nonzeros : (z z' : ℕ → Bool) → More z z'
+      → AtLeast (record { bound = S.bound; marked = S.marked; nonzero = z }) (record { bound = S'.bound; marked = S'.marked; nonzero = z' })
+  with_nonzeros z z' h = record { bounds = g.bounds; marks = g.marks; nonzeros = h }
 
 pub lower_at : (S : Standing) (t x : ℕ) → (lower S t x).bound t ≡ min (S.bound t) x
 unfolding lower
@@ -91,15 +114,23 @@ lower_other S t x s h = put_other _ t _ s h
 pub bounds_is : (c : Change) → bounds c ≡ true → c ≡ at_most (value c)
 bounds_is (at_most x) e = refl
 bounds_is fixed e = true_or_false false e refl
+bounds_is not_zero e = true_or_false false e refl
 
 pub marks_is : (c : Change) → marks c ≡ true → c ≡ fixed
 marks_is (at_most x) e = true_or_false false e refl
 marks_is fixed e = refl
+marks_is not_zero e = true_or_false false e refl
 
--- every change gives a bound or a mark
-pub sorts : (c : Change) → (bounds c ≡ true) ⊎ (marks c ≡ true)
-sorts (at_most x) = inl refl
-sorts fixed = inr refl
+pub nonzeros_is : (c : Change) → nonzeros c ≡ true → c ≡ not_zero
+nonzeros_is (at_most x) e = true_or_false false e refl
+nonzeros_is fixed e = true_or_false false e refl
+nonzeros_is not_zero e = refl
+
+-- every change gives a bound, a mark or a nonzero mark
+pub by_sort : {A : Type 0} (c : Change) → (bounds c ≡ true → A) → (marks c ≡ true → A) → (nonzeros c ≡ true → A) → A
+by_sort (at_most x) f g h = f refl
+by_sort fixed f g h = g refl
+by_sort not_zero f g h = h refl
 
 -- the second gives at least as much
 pub data Stronger : Change → Change → Type 0 where
@@ -107,23 +138,26 @@ pub data Stronger : Change → Change → Type 0 where
   same_change : {c : Change} → Stronger c c
 
 pub apply_adds : (c : Change) (S : Standing) (t : ℕ) → AtLeast S (apply c S t)
-unfolding lower mark
+unfolding lower mark exclude_zero
 apply_adds (at_most x) S t =
     with_bounds (at_least_refl S) _ _ (put_all (λ (s y : ℕ). y ≤ S.bound s) S.bound t _ (omega arith) (λ s. omega arith))
 apply_adds fixed S t = with_marks (at_least_refl S) _ _ (add_keeps S.marked t)
+apply_adds not_zero S t = with_nonzeros (at_least_refl S) _ _ (add_keeps S.nonzero t)
 
 pub apply_idle : (c : Change) (S : Standing) (t : ℕ) → idle c S t ≡ true → AtLeast (apply c S t) S
-unfolding lower mark
+unfolding lower mark exclude_zero
 apply_idle (at_most x) S t e =
     with_bounds (at_least_refl S) _ _
     (put_all (λ (s y : ℕ). S.bound s ≤ y) S.bound t _ (omega (arith, leb-true (S.bound t) x e)) (λ s. omega arith))
 apply_idle fixed S t e = with_marks (at_least_refl S) _ _ (add_all (λ s. S.marked s ≡ true) S.marked t e (λ s i. i))
+apply_idle not_zero S t e = with_nonzeros (at_least_refl S) _ _ (add_all (λ s. S.nonzero s ≡ true) S.nonzero t e (λ s i. i))
 
 pub apply_mono : {c d : Change} {S S' : Standing} (t : ℕ) → AtLeast S S' → Stronger c d → AtLeast (apply c S t) (apply d S' t)
-unfolding lower mark
+unfolding lower mark exclude_zero
 apply_mono t g (lower_bound {x} {y} h) = with_bounds g _ _ (put_mono t x y g.bounds h)
 apply_mono t g (same_change {c = at_most x}) = with_bounds g _ _ (put_mono t x x g.bounds (omega arith))
 apply_mono t g (same_change {c = fixed}) = with_marks g _ _ (add_mono t g.marks)
+apply_mono t g (same_change {c = not_zero}) = with_nonzeros g _ _ (add_mono t g.nonzeros)
 
 -- Rule 3.3: bounds never rise, marks stay
 

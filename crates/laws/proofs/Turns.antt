@@ -8,10 +8,10 @@ use mathlib.Core.Option.{Option, none, some}
 use native.Mathlib.Omega.{arith}
 use lib.Dec.{leb, eqb}
 use lib.ListN.{length}
-use borrow.Author.Tests.{leb-true, eq-eqb, ne_eqb, not-true}
+use borrow.Author.Tests.{leb-true, le-leb, eq-eqb, ne_eqb, not-true}
 use Rattle.laws.specs.Problem.{Problem}
 use Rattle.laws.specs.Sum.{sum, keep}
-use Rattle.laws.specs.Standing.{Standing, add}
+use Rattle.laws.specs.Standing.{Standing, add, none_of}
 use Rattle.laws.specs.Step.{Step, within, in_range, fits, is_idle, adds, after, replay, each, accepted}
 use Rattle.laws.specs.Solver.{taken, turns, steps_for}
 use Rattle.laws.proofs.Sum.{and_left, and_right, and_both, by_equal, keep_true, keep_false, keep_le, sum_mono, sum_out}
@@ -20,6 +20,10 @@ use Rattle.laws.proofs.Order.{add_same, add_other}
 pub within_says : (n s : ℕ) → within n s ≡ true → (1 ≤ s) × (s ≤ n)
 unfolding within
 within_says n s e = (leb-true 1 s (and_left _ (leb s n) e), leb-true s n (and_right (leb 1 s) _ e))
+
+pub within_holds : (n s : ℕ) → 1 ≤ s → s ≤ n → within n s ≡ true
+unfolding within
+within_holds n s a b = and_both (leb 1 s) (leb s n) (le-leb 1 s a) (le-leb s n b)
 
 pub target_within : (P : Problem) (x : Step) → in_range P x ≡ true → (1 ≤ x.target) × (x.target ≤ P.n)
 unfolding in_range
@@ -38,9 +42,6 @@ unfolding fits
 adds_target P S x e = target_within P x (and_left _ _ (adds_says P S x e).0)
 
 -- The targets that are not done
-
-unfoldable pub none_done : ℕ → Bool
-none_done s = false
 
 open_at : (ℕ → Bool) → ℕ → ℕ
 open_at done s = keep (not (done (suc s))) 1
@@ -140,31 +141,31 @@ module _ {P : Problem} {choose : Standing → Option Step} {Holds : (ℕ → Boo
       (λ fuel done S x xs u r. omega arith)
 
   -- a phase of n turns from where no target is done
-  pub phase_ends : (S : Standing) → Holds none_done S → Ends P choose Holds S (turns choose P P.n S)
-  unfolding each replay steps_for none_done
+  pub phase_ends : (S : Standing) → Holds none_of S → Ends P choose Holds S (turns choose P P.n S)
+  unfolding each replay steps_for none_of
   phase_ends S h =
       record {
         are_accepted =
             turns_by (λ fuel done S xs. accepted P S xs ≡ true) (λ done S h. refl) (λ fuel done S h e. refl)
             (λ fuel done S x xs u r. and_both _ _ u.is_new r)
-            P.n none_done S h;
+            P.n none_of S h;
         held =
             turns_by (λ fuel done S xs. (last : ℕ → Bool) × Holds last (replay P S xs)) (λ done S h. (done, h)) (λ fuel done S h e. (done, h))
             (λ fuel done S x xs u r. r)
-            P.n none_done S h;
+            P.n none_of S h;
         once = λ t.
             omega (
               arith,
               turns_by (λ fuel done S xs. steps_for t xs + keep (done t) 1 ≤ 1) (λ done S h. omega (arith, keep_le (done t) 1))
                   (λ fuel done S h e. omega (arith, keep_le (done t) 1))
                   (λ fuel done S x xs u r. omega (arith, add_counts done x.target t u.new))
-                  P.n none_done S h,
+                  P.n none_of S h,
             );
-        short = turns_short P.n none_done S h;
+        short = turns_short P.n none_of S h;
         none_left =
             turns_by (λ fuel done S xs. open_count P.n done ≤ fuel → choose (replay P S xs) ≡ none)
             (λ done S h l. finished done S h (omega arith) (choose S) refl)
             (λ fuel done S h e l. e)
             (λ fuel done S x xs u r l. r (omega (arith, turn_less done S x u)))
-            P.n none_done S h (open_most P.n none_done);
+            P.n none_of S h (open_most P.n none_of);
       }

@@ -47,11 +47,15 @@ pub record Sensible (P : Problem) : Type 0 where
   pub prime : Prime P.p
   pub each : (k : ℕ) → WellFormedConstraint P.n P.p (P.constraint k)
 
--- What soundness asks of a run (a witness): values below p and within the first bounds, and all m constraints satisfied.
-pub record Obeys (P : Problem) (run : List ℕ) : Type 0 where
+-- What soundness asks of a satisfying run (a witness): values below p, and all m constraints satisfied.
+pub record Solves (P : Problem) (run : List ℕ) : Type 0 where
   pub below : (s : ℕ) → 1 ≤ s → s ≤ P.n → value_of run s < P.p
-  pub within_first : (s : ℕ) → 1 ≤ s → s ≤ P.n → value_of run s ≤ P.first s
   pub holds : (k : ℕ) → 1 ≤ k → k ≤ P.m → Satisfies P.p (P.constraint k) (value_of run)
+
+-- .. and of an allowed one: that it satisfies, and is within the first bounds.
+pub record Obeys (P : Problem) (Satisfying : List ℕ → Type 0) (run : List ℕ) : Type 0 where
+  pub satisfies : Satisfying run
+  pub within_first : (s : ℕ) → 1 ≤ s → s ≤ P.n → value_of run s ≤ P.first s
 
 -- Rule 1.6: the runs share their inputs.
 abbrev pub SameInputs : Problem → List ℕ → List ℕ → Type 0

@@ -1,4 +1,4 @@
--- The five rules, each over one constraint and over bounds and marks as functions of the signal: whether it is met, and the bound that it gives.
+-- The seven rules, each over one constraint and over bounds and marks of both sorts as functions of the signal: whether it is met, and the bound that it gives.
 use Rattle.std.specs.Prelude.{ℕ, zero, suc, ◌+◌, ◌*◌, ◌%◌, max, Bool, true, false, not, ◌&&◌, ◌||◌, [], ◌∷◌, ltb, eqb}
 use Rattle.field.specs.Residue.{opposite}
 use Rattle.field.specs.Inverse.{inverse}
@@ -138,3 +138,31 @@ separated p n R b m r = all (suc n) (separate p n R b m r) && ltb (sum (suc n) (
 -- Rule 4.7: linear, target and reference occur, and the reference separates the unmarked signals.
 unfoldable pub digits_met : ℕ → ℕ → Constraint → (ℕ → ℕ) → (ℕ → Bool) → ℕ → ℕ → Bool
 digits_met p n K b m t r = linear K && (occurs (reduced p K) t && occurs (reduced p K) r) && separated p n (reduced p K) b m r
+
+-- Nonzero
+
+-- the form has exactly one term, and it is on s
+unfoldable pub single : ℕ → Form → Bool
+single s [] = false
+single s (x ∷ f) = eqb x.signal s && is_zero f
+
+-- Rule 4.8: C is a constant other than 0, and A or B is one term on t.
+unfoldable pub nonzero_met : Constraint → ℕ → Bool
+nonzero_met K t = single 0 K.c && (single t K.a || single t K.b)
+
+-- Quotient
+
+-- r is marked and never 0, and isn't t
+unfoldable pub divisor : (ℕ → Bool) → (ℕ → Bool) → ℕ → ℕ → Bool
+divisor m z t r = m r && z r && not (eqb r t)
+
+-- one of two forms is a single term on r, and t is in the other
+unfoldable pub divides : Form → Form → ℕ → ℕ → Bool
+divides f g t r = (single r f && names g t) || (single r g && names f t)
+
+-- Rule 4.9: r is marked, never 0, and not t; one of A and B is a single term on r, and t is in the other; t isn't in C; all other signals are marked.
+unfoldable pub quotient_met : Constraint → (ℕ → Bool) → (ℕ → Bool) → ℕ → ℕ → Bool
+quotient_met K m z t r =
+    divisor m z t r
+    && (divides K.a K.b t r && not (names K.c t))
+    && (others_marked m t K.a && others_marked m t K.b && others_marked m t K.c)

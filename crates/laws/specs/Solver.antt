@@ -1,9 +1,9 @@
--- The solver as a list of steps: first bounds, then marks.
+-- The solver as a list of steps: first bounds, then nonzero marks, then marks.
 use Rattle.std.specs.Prelude.{ℕ, zero, suc, ◌+◌, Bool, true, false, cond, ◌&&◌, ◌||◌, List, [], ◌∷◌, ◌++◌, ltb, eqb}
 use Rattle.std.proofs.Math.Option.{Option, none, some}
 use Rattle.laws.specs.Sum.{keep}
 use Rattle.laws.specs.Problem.{Problem}
-use Rattle.laws.specs.Standing.{Standing, Change, bounds, marks, value, start}
+use Rattle.laws.specs.Standing.{Standing, Change, bounds, marks, nonzeros, value, start}
 use Rattle.laws.specs.Step.{
   Kind,
   Root,
@@ -73,7 +73,7 @@ best_of_constraints P S (suc k) = best_of_targets P S (suc k) P.n (best_of_const
 unfoldable pub best_bound : Problem → Standing → Option Step
 best_bound P S = best_of_constraints P S P.m
 
--- Marks
+-- Marks of both sorts
 
 -- the step where the test holds, else what is found later
 abbrev pub pick : Bool → Step → Option Step → Option Step
@@ -99,18 +99,18 @@ try_references c P S t q k later = first_in (references q P) (try c P S t q k) l
 unfoldable pub try_kind : (Change → Bool) → Problem → Standing → ℕ → Kind → Option Step → Option Step
 try_kind c P S t q later = first_in (constraints q P) (try_references c P S t q) later
 
--- Rule 5.2: by kind, then constraint, then reference.
+-- Rules 5.2 and 5.4: by kind, then constraint, then reference.
 unfoldable pub try_kinds : (Change → Bool) → Problem → Standing → List Kind → ℕ → Option Step → Option Step
 try_kinds c P S [] t later = later
 try_kinds c P S (q ∷ qs) t later = try_kind c P S t q (try_kinds c P S qs t later)
 
--- Rule 5.2: the order of steps by target, kind, constraint and reference. That the search takes the first in this order is a theorem.
+-- Rules 5.2 and 5.4: the order of steps by target, kind, constraint and reference. That the search takes the first in this order is a theorem.
 unfoldable pub earlier : Step → Step → Bool
 earlier x y =
     first_by x.target y.target
     (first_by (kind_number x.kind) (kind_number y.kind) (first_by x.constraint y.constraint (ltb x.reference y.reference)))
 
--- Rule 5.2: the lowest target to which some step adds by a change of this sort.
+-- Rules 5.2 and 5.4: the lowest target to which some step adds by a change of this sort.
 unfoldable pub first_adding : (Change → Bool) → Problem → Standing → Option Step
 first_adding c P S = first_up 0 P.n (try_kinds c P S kinds) none
 
@@ -131,12 +131,18 @@ bound_steps P = turns (best_bound P) P P.n (start P)
 abbrev pub bounded : Problem → Standing
 bounded P = replay P (start P) (bound_steps P)
 
-unfoldable pub mark_steps : Problem → List Step
-mark_steps P = turns (first_adding marks P) P P.n (bounded P)
+unfoldable pub nonzero_steps : Problem → List Step
+nonzero_steps P = turns (first_adding nonzeros P) P P.n (bounded P)
 
--- Rules 5.1 and 5.2: first bounds, then marks.
+abbrev pub excluded : Problem → Standing
+excluded P = replay P (bounded P) (nonzero_steps P)
+
+unfoldable pub mark_steps : Problem → List Step
+mark_steps P = turns (first_adding marks P) P P.n (excluded P)
+
+-- Rules 5.1, 5.4 and 5.2: first bounds, then nonzero marks, then marks.
 unfoldable pub solution : Problem → List Step
-solution P = bound_steps P ++ mark_steps P
+solution P = bound_steps P ++ (nonzero_steps P ++ mark_steps P)
 
 -- how many of the steps have target t
 unfoldable pub steps_for : ℕ → List Step → ℕ

@@ -1,18 +1,18 @@
 -- Steps: the one table of kinds, what a step gives, and a derivation as steps taken one after the other.
 use Rattle.std.specs.Prelude.{ℕ, Bool, true, false, not, ◌&&◌, List, [], ◌∷◌, leb, eqb}
 use Rattle.laws.specs.Problem.{Problem, Subject, subject, Names, nothing, a_constraint}
-use Rattle.laws.specs.Standing.{Standing, Change, at_most, fixed, apply, idle}
-use Rattle.laws.specs.Rules.{reduced, root_met, root_bound, sum_met, sum_bound, zero_met, product_met, digits_met}
+use Rattle.laws.specs.Standing.{Standing, Change, at_most, fixed, not_zero, apply, idle}
+use Rattle.laws.specs.Rules.{reduced, root_met, root_bound, sum_met, sum_bound, zero_met, product_met, digits_met, nonzero_met, quotient_met}
 
 -- Rule 2.2.
 pub data Kind : Type 0 where
-  Root Sum Zero Product Digits : Kind
+  Root Sum Zero Product Digits Nonzero Quotient : Kind
 
 -- The table of kinds
 
 -- in the order of their numbers
 abbrev pub kinds : List Kind
-kinds = Root ∷ Sum ∷ Zero ∷ Product ∷ Digits ∷ []
+kinds = Root ∷ Sum ∷ Zero ∷ Product ∷ Digits ∷ Nonzero ∷ Quotient ∷ []
 
 abbrev pub kind_number : Kind → ℕ
 kind_number Root = 1
@@ -20,6 +20,8 @@ kind_number Sum = 2
 kind_number Zero = 3
 kind_number Product = 4
 kind_number Digits = 5
+kind_number Nonzero = 6
+kind_number Quotient = 7
 
 -- Rule 2.3: what the constraint field names ..
 abbrev pub names_of : Kind → Names
@@ -28,6 +30,8 @@ names_of Sum = a_constraint
 names_of Zero = nothing
 names_of Product = a_constraint
 names_of Digits = a_constraint
+names_of Nonzero = a_constraint
+names_of Quotient = a_constraint
 
 -- .. and whether the reference field names a signal
 abbrev pub refers : Kind → Bool
@@ -36,13 +40,15 @@ refers Sum = false
 refers Zero = false
 refers Product = false
 refers Digits = true
+refers Nonzero = false
+refers Quotient = true
 
 -- whether a rule is met, and what it then gives its target
 pub record Rule : Type 0 where
   pub met : Bool
   pub change : Change
 
--- Rules 4.3 to 4.7, for target t and reference r.
+-- Rules 4.3 to 4.9, for target t and reference r.
 abbrev pub rule : Kind → Subject → Standing → ℕ → ℕ → Rule
 rule Root J S t r = record { met = root_met J.equation t; change = at_most (root_bound J.p J.equation t) }
 rule Sum J S t r =
@@ -53,6 +59,8 @@ rule Sum J S t r =
 rule Zero J S t r = record { met = zero_met S.bound t; change = fixed }
 rule Product J S t r = record { met = product_met J.equation S.marked t; change = fixed }
 rule Digits J S t r = record { met = digits_met J.p J.n J.equation S.bound S.marked t r; change = fixed }
+rule Nonzero J S t r = record { met = nonzero_met J.equation t; change = not_zero }
+rule Quotient J S t r = record { met = quotient_met J.equation S.marked S.nonzero t r; change = fixed }
 
 -- What follows from the table
 
@@ -117,7 +125,7 @@ replay P S (x ∷ xs) = replay P (after P S x) xs
 unfoldable pub fits : Problem → Standing → Step → Bool
 fits P S x = in_range P x && met P S x
 
--- Rule 3.4: the step lowers no bound and marks nothing.
+-- Rule 3.4: the step lowers no bound and adds no mark of either sort.
 abbrev pub is_idle : Problem → Standing → Step → Bool
 is_idle P S x = idle (change P S x) S x.target
 
