@@ -1,4 +1,5 @@
--- TAGGED: a circuit with a sheet as a problem is sensible, and the allowed runs obey it. So derivations of met steps, idle or not, are sound over them.
+-- TAGGED: a circuit with a sheet as a problem is sensible, and the allowed runs obey it. So derivations of met steps, idle or not,
+-- are sound over them, and in nonzero marks over all that satisfy.
 use Prim.Native.Nat.{ℕ, zero, suc, ◌-◌, ◌≤◌, ◌<◌, min}
 use mathlib.Core.Path.{◌≡◌, refl}
 use mathlib.Core.Bool.{Bool, true, false, cond}
@@ -6,7 +7,7 @@ use mathlib.Core.List.{List}
 use native.Mathlib.Omega.{arith}
 use borrow.Author.Tests.{leb-true}
 use lib.Dec.{leb, eqb}
-use Rattle.circuit.specs.Circuit.{Circuit, WellFormed, value_of}
+use Rattle.circuit.specs.Circuit.{Circuit, Satisfying, WellFormed, value_of}
 use Rattle.laws.specs.Problem as laws
 use Rattle.laws.specs.Problem.{Sensible}
 use Rattle.laws.specs.Standing.{is_input, start}
@@ -47,13 +48,15 @@ module _ {C : Circuit} (W : WellFormed C) (T : Sheet) where
       least_above T.tag s (C.p - 1) (value_of run s) T.count h
       (λ j first last e. (obeys_exactly (T.tag j) (value_of run s)).0 (rw e at (a.obeys j first last (rw e l) (rw e m))))
 
-  obeys : (run : List ℕ) → Allowed C T run → laws.Obeys (tagged C T) run
+  solves : (run : List ℕ) → Satisfying C run → laws.Solves (tagged C T) run
+  solves run s = record { below = s.is_run.below; holds = s.holds }
+
+  obeys : (run : List ℕ) → Allowed C T run → laws.Obeys (tagged C T) (Satisfying C) run
   unfolding first_bound lowered is_input
   obeys run a =
       record {
-        below = a.satisfies.is_run.below;
+        satisfies = a.satisfies;
         within_first = λ s l m. go s l (a.satisfies.is_run.below s l m) (is_input C.i s) refl;
-        holds = a.satisfies.holds;
       }
     where
       go : (s : ℕ) → 1 ≤ s → value_of run s < C.p → (b : Bool) → is_input C.i s ≡ b
@@ -62,5 +65,5 @@ module _ {C : Circuit} (W : WellFormed C) (T : Sheet) where
       go s l h false e = omega arith
 
   pub steps_sound : (xs : List Step) → formerly (tagged C T) (start (tagged C T)) xs ≡ true
-      → Sound (tagged C T) (Allowed C T) (replay (tagged C T) (start (tagged C T)) xs)
-  steps_sound xs e = sound sensible obeys (start (tagged C T)) (start_sound sensible obeys) xs e
+      → Sound (tagged C T) (Satisfying C) (Allowed C T) (replay (tagged C T) (start (tagged C T)) xs)
+  steps_sound xs e = sound sensible solves obeys (start (tagged C T)) (start_sound sensible solves obeys) xs e
