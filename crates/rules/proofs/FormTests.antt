@@ -1,18 +1,23 @@
--- Tests on the forms of a constraint as the code asks them: what a form names, linear, root and product, and the roots.
+-- Tests on the forms of a constraint as the code asks them: what a form names, linear, root, product and quotient, a form's one term, and the roots.
 use Prim.Native.Nat.{ℕ, ◌+◌, ◌-◌, ◌*◌, ◌%◌, ◌<◌}
-use mathlib.Core.Path.{◌≡◌, refl, sym, ◌∙◌}
+use mathlib.Core.Path.{◌≡◌, refl, sym, ap, ◌∙◌}
 use mathlib.Core.Bool.{Bool, true, false, not, ◌&&◌, ◌||◌, or_self}
 use mathlib.Core.List.{[], ◌∷◌}
 use native.Mathlib.Nat.{zero-add, zero-mod, mul-zero, mod-mod}
 use native.Mathlib.Omega.{arith}
 use lib.Dec.{eqb}
-use borrow.Author.Tests.{le-ltb}
+use Rattle.std.specs.Prelude.{None, Some}
+use Rattle.std.specs.Option.{option_eq}
+use Rattle.std.specs.Cmp.{both_ways}
+use borrow.Author.Tests.{le-ltb, eqb-true, eqb-false, ne_eqb, not-true}
 use Rattle.field.specs.Residue.{opposite}
 use Rattle.field.specs.Inverse.{inverse}
 use Rattle.circuit.specs.Circuit.{Form, Constraint, coef, names}
-use Rattle.laws.specs.Rules.{names_none, linear, is_zero, names_only, root, others_marked, product_met}
-use Rattle.laws.proofs.Sum.{or_false}
+use Rattle.laws.specs.Rules.{names_none, linear, is_zero, names_only, root, others_marked, product_met, single, divisor, divides, quotient_met}
+use Rattle.laws.proofs.Sum.{and_left, and_right, and_both, or_cases, and-true, or_left, or_right, or_false, true_or_false, by_test}
+use Rattle.laws.proofs.QuotientRule.{QuotientMet, quotient_met_lem, quotient_met_from}
 use Rattle.rules.specs.View.{mark_in}
+use Rattle.rules.specs.Steps.{sole}
 
 -- where nothing is marked, the signals but t are marked if none but t is named
 pub unmarked_only : (t : ℕ) (f : Form) → others_marked (mark_in []) t f ≡ names_only t f
@@ -60,6 +65,82 @@ product_is K m t =
     go false false false true true false false = refl
     go false false false true false y true = refl
     go false false false true false y false = refl
+
+-- the quotient rule, form by form: where a form is a single term on r, which is marked, its other signals are
+single_marked : (m : ℕ → Bool) (t r : ℕ) (f : Form) → m r ≡ true → single r f ≡ true → others_marked m t f ≡ true
+unfolding single is_zero others_marked
+single_marked m t r [] i e = cc
+single_marked m t r (x ∷ []) i e =
+    let on : x.signal ≡ r = eqb-true x.signal r (and_left (eqb x.signal r) true e) in
+    and_both _ true (or_right (eqb x.signal 0 || eqb x.signal t) (m x.signal) (ap m on ∙ i)) refl
+single_marked m t r (x ∷ y ∷ f) i e = true_or_false false (and_right (eqb x.signal r) false e) refl
+
+module _ (K : Constraint) (m z : ℕ → Bool) (t r : ℕ) where
+  abbrev by_divisor : Form → Form → Bool
+  by_divisor f g = single r f && (names g t && others_marked m t g)
+
+  abbrev as_asked : Bool
+  as_asked = divisor m z t r && (by_divisor K.a K.b || by_divisor K.b K.a) && (not (names K.c t) && others_marked m t K.c)
+
+  asked_from : QuotientMet K m z t r → as_asked ≡ true
+  unfolding divides divisor
+  asked_from M =
+      and_both _ _
+      (and_both _ _ (and_both _ _ (and_both _ _ M.marked M.nonzero) (ap not (ne_eqb r t M.apart)))
+      (or_cases (single r K.a && names K.b t) (single r K.b && names K.a t) M.divided
+      (λ i. or_left _ _ (and_both _ _ (and_left (single r K.a) _ i) (and_both _ _ (and_right (single r K.a) _ i) M.marked_b)))
+      (λ i. or_right (by_divisor K.a K.b) _ (and_both _ _ (and_left (single r K.b) _ i) (and_both _ _ (and_right (single r K.b) _ i) M.marked_a)))))
+      (and_both _ _ (ap not M.not_in_c) M.marked_c)
+
+  -- .. and back, where the forms are known
+  met_from : as_asked ≡ true → divides K.a K.b t r ≡ true → others_marked m t K.a ≡ true
+      → others_marked m t K.b ≡ true → QuotientMet K m z t r
+  unfolding divisor
+  met_from e v a b =
+      let d = and_left (divisor m z t r) _ (and_left (divisor m z t r && (by_divisor K.a K.b || by_divisor K.b K.a)) _ e) in
+      let out = and_right (divisor m z t r && (by_divisor K.a K.b || by_divisor K.b K.a)) _ e in
+      record {
+        marked = and_left (m r) (z r) (and_left (m r && z r) _ d);
+        nonzero = and_right (m r) (z r) (and_left (m r && z r) _ d);
+        apart = eqb-false r t (not-true _ (and_right (m r && z r) _ d));
+        divided = v;
+        not_in_c = not-true _ (and_left _ (others_marked m t K.c) out);
+        marked_a = a;
+        marked_b = b;
+        marked_c = and_right (not (names K.c t)) _ out;
+      }
+
+  asked_says : as_asked ≡ true → QuotientMet K m z t r
+  unfolding divides divisor
+  asked_says e =
+      let first = and_left (divisor m z t r && (by_divisor K.a K.b || by_divisor K.b K.a)) _ e in
+      let marked : m r ≡ true = and_left (m r) (z r) (and_left (m r && z r) _ (and_left (divisor m z t r) _ first)) in
+      or_cases (by_divisor K.a K.b) (by_divisor K.b K.a) (and_right (divisor m z t r) _ first)
+      (λ i.
+      let one = and_left (single r K.a) _ i in
+      let other = and_right (single r K.a) _ i in
+      met_from e (or_left _ _ (and_both _ _ one (and_left (names K.b t) _ other))) (single_marked m t r K.a marked one) (and_right (names K.b t) _ other))
+      (λ i.
+      let one = and_left (single r K.b) _ i in
+      let other = and_right (single r K.b) _ i in
+      met_from e (or_right (single r K.a && names K.b t) _ (and_both _ _ one (and_left (names K.a t) _ other))) (and_right (names K.a t) _ other)
+      (single_marked m t r K.b marked one))
+
+  pub quotient_is : quotient_met K m z t r ≡ as_asked
+  quotient_is = both_ways _ as_asked (λ e. asked_from (quotient_met_lem K m z t r e)) (λ e. quotient_met_from (asked_says e))
+
+-- the signal of a form's one term
+pub sole_single : (s : ℕ) (f : Form) → single s f ≡ option_eq eqb (sole f) (Some s)
+unfolding single is_zero sole
+sole_single s [] = refl
+sole_single s (x ∷ []) = and-true (eqb x.signal s)
+sole_single s (x ∷ y ∷ f) = by_test (eqb x.signal s) (λ e. rw e refl) (λ e. rw e refl)
+
+pub sole_none : (f : Form) → None ≡ sole f → (s : ℕ) → single s f ≡ false
+sole_none f e s = sole_single s f ∙ rw (sym e) refl
+
+pub sole_some : (f : Form) (t : ℕ) → Some t ≡ sole f → (s : ℕ) → single s f ≡ eqb t s
+sole_some f t e s = sole_single s f ∙ rw (sym e) refl
 
 -- Roots
 

@@ -1,4 +1,5 @@
--- Laws of arrays viewed as functions of the signal, over the length of the array: a store is `lower` or `mark`, and what stands past the end.
+-- Laws of arrays viewed as functions of the signal, over the length of the array: a store is `lower`, `mark` or `exclude_zero`, and what stands past
+-- the end.
 use Prim.Native.Nat.{ℕ, zero, suc, ◌-◌, ◌≤◌, ◌<◌, min}
 use mathlib.Core.Path.{◌≡◌, refl, sym, ap, ◌∙◌, fun_ext}
 use mathlib.Core.Bool.{Bool, true, false}
@@ -7,7 +8,7 @@ use native.Mathlib.Omega.{arith}
 use lib.ListN.{length, get_or, set, replicate, get_or-eq_default, length-replicate, get_or-replicate}
 use lib.Seq.{get_or-set_same, get_or-set_other}
 use Rattle.laws.specs.Problem.{largest}
-use Rattle.laws.specs.Standing.{put, add, lower, mark}
+use Rattle.laws.specs.Standing.{put, add, lower, mark, exclude_zero}
 use Rattle.laws.proofs.Sum.{by_equal, by_order}
 use Rattle.laws.proofs.Order.{put_same, put_other, add_same, add_other}
 use Rattle.rules.specs.View.{bound_in, mark_in, view_of}
@@ -58,14 +59,17 @@ mark_set marks t h =
     by_equal s t (λ e. rw e (get_or-set_same marks t true false h ∙ sym (add_same _ t)))
     (λ d. get_or-set_other marks t s true false d ∙ sym (add_other _ t s d)))
 
-pub view_lower : (p : ℕ) (bounds : List ℕ) (marks : List Bool) (t x : ℕ) → t < length bounds
-    → view_of p (set bounds t (min (bound_in p bounds t) x)) marks ≡ lower (view_of p bounds marks) t x
-unfolding view_of lower
-view_lower p bounds marks t x h =
-    ap (λ (f : ℕ → ℕ). record { bound = f; marked = mark_in marks }) (bound_set p bounds t _ h)
+module _ (p : ℕ) (bounds : List ℕ) (marks nonzeros : List Bool) (t : ℕ) where
+  pub view_lower : (x : ℕ) → t < length bounds
+      → view_of p (set bounds t (min (bound_in p bounds t) x)) marks nonzeros ≡ lower (view_of p bounds marks nonzeros) t x
+  unfolding view_of lower
+  view_lower x h =
+      ap (λ (f : ℕ → ℕ). record { bound = f; marked = mark_in marks; nonzero = mark_in nonzeros }) (bound_set p bounds t _ h)
 
-pub view_mark : (p : ℕ) (bounds : List ℕ) (marks : List Bool) (t : ℕ) → t < length marks
-    → view_of p bounds (set marks t true) ≡ mark (view_of p bounds marks) t
-unfolding view_of mark
-view_mark p bounds marks t h =
-    ap (λ (f : ℕ → Bool). record { bound = bound_in p bounds; marked = f }) (mark_set marks t h)
+  pub view_mark : t < length marks → view_of p bounds (set marks t true) nonzeros ≡ mark (view_of p bounds marks nonzeros) t
+  unfolding view_of mark
+  view_mark h = ap (λ (f : ℕ → Bool). record { bound = bound_in p bounds; marked = f; nonzero = mark_in nonzeros }) (mark_set marks t h)
+
+  pub view_nonzero : t < length nonzeros → view_of p bounds marks (set nonzeros t true) ≡ exclude_zero (view_of p bounds marks nonzeros) t
+  unfolding view_of exclude_zero
+  view_nonzero h = ap (λ (f : ℕ → Bool). record { bound = bound_in p bounds; marked = mark_in marks; nonzero = f }) (mark_set nonzeros t h)

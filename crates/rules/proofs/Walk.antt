@@ -1,14 +1,16 @@
--- Walks over the terms of a form in its bytes: what is left of the form at an offset, what one turn does, and the walks that ask of a signal whether
--- it is named, and for its coefficient.
+-- Walks over the terms of a form in its bytes: what is left of the form at an offset, what one turn does, and the walks that find the one term, ask of a
+-- signal whether it is named, and for its coefficient.
 use Prim.Native.Nat.{ℕ, suc, ◌+◌, ◌*◌, ◌-◌, ◌≤◌, ◌<◌}
 use mathlib.Core.Path.{◌≡◌, refl, sym, ap, ◌∙◌}
 use mathlib.Core.Bool.{Bool, true, false, cond, ◌&&◌, ◌||◌, or_assoc}
 use mathlib.Core.List.{List, []}
-use Rattle.std.specs.Prelude.{Some, None}
+use Rattle.std.specs.Prelude.{Option, Some, None}
+use Rattle.std.specs.Option.{is_some}
 use native.Mathlib.Nat.{add-zero, zero-add}
 use native.Mathlib.Omega.{arith}
 use lib.Dec.{leb, eqb}
 use lib.ListN.{drop}
+use borrow.Author.Tests.{le-leb, lt-leb}
 use lib.Seq.{drop-drop}
 use Rattle.circuit.specs.Bytes.{byte_at, u16_at, u32_at}
 use Rattle.circuit.specs.Circuit.{Form, coef, names}
@@ -17,8 +19,8 @@ use Rattle.circuit.proofs.ByteLaws.{u16_drop, u32_drop}
 use Rattle.circuit.proofs.ReaderLaws.{one_more}
 use Rattle.laws.specs.Sum.{keep}
 use Rattle.laws.specs.Rules.{others_marked}
-use Rattle.laws.proofs.Sum.{by_test, or_false}
-use Rattle.rules.specs.Steps.{allowed}
+use Rattle.laws.proofs.Sum.{true_or_false, by_test, or_false}
+use Rattle.rules.specs.Steps.{allowed, sole_after}
 
 -- the terms that are left from an offset on
 unfoldable pub terms_from : List ℕ → ℕ → ℕ → Form
@@ -88,7 +90,7 @@ module _ (part : List ℕ) (count : ℕ) where
   left_end i none = terms_end part (count - i) (1 + 6 * i) (omega arith)
 
   module _ (i : ℕ) (more : i < count) (signal : ℕ) (known : signal ≡ u16_at part (1 + 6 * i)) where
-    left_next : terms_from part (count - i - 1) (1 + 6 * i + 6) ≡ left_of part count (i + 1)
+    pub left_next : terms_from part (count - i - 1) (1 + 6 * i + 6) ≡ left_of part count (i + 1)
     left_next =
         let left : count - i - 1 ≡ count - (i + 1) = omega arith in
         let offset : 1 + 6 * i + 6 ≡ 1 + 6 * (i + 1) = omega arith in
@@ -104,6 +106,24 @@ module _ (part : List ℕ) (count : ℕ) where
     pub coef_next : (t : ℕ) → coef (left_of part count i) t
         ≡ keep (leb signal signals_most && eqb signal t) (u32_at part (1 + 6 * i + 2)) + coef (left_of part count (i + 1)) t
     coef_next t = coef_turn part (count - i) (1 + 6 * i) (omega arith) signal known t ∙ rw left_next
+
+-- the walk that finds the one term, and ends at a second
+module _ (part : List ℕ) (count i : ℕ) (more : i < count) (signal : ℕ) (known : signal ≡ u16_at part (1 + 6 * i)) where
+  left_turn : left_of part count i
+      ≡ term_kept (leb signal signals_most) (record { signal = signal; coefficient = u32_at part (1 + 6 * i + 2) }) (left_of part count (i + 1))
+  left_turn = turn part (count - i) (1 + 6 * i) (omega arith) signal known ∙ rw (left_next part count i more signal known)
+
+  pub sole_passed : (found : Option ℕ) → signals_most < signal → sole_after found (left_of part count i) ≡ sole_after found (left_of part count (i + 1))
+  sole_passed found l = rw (left_turn, lt-leb signal signals_most l)
+
+  pub sole_second : (found : Option ℕ) → is_some found ≡ true → signal ≤ signals_most → None ≡ sole_after found (left_of part count i)
+  sole_second None e l = true_or_false false e refl
+  sole_second (Some s) e l = rw (left_turn, le-leb signal signals_most l)
+
+  pub sole_first : (found : Option ℕ) → is_some found ≡ false → signal ≤ signals_most
+      → sole_after found (left_of part count i) ≡ sole_after (Some signal) (left_of part count (i + 1))
+  sole_first None e l = rw (left_turn, le-leb signal signals_most l)
+  sole_first (Some s) e l = true_or_false true refl e
 
 -- the walk that says whether t is named, and ends where another signal isn't marked
 pub record Naming (part : List ℕ) (m : ℕ → Bool) (t count i : ℕ) (found : Bool) : Type 0 where

@@ -1,8 +1,8 @@
 -- What single functions of the code give: how the rules run, not what they mean.
-use Rattle.std.specs.Prelude.{ℕ, ◌≤◌, ◌<◌, ◌≡◌, Bool, true, cond, not, ◌||◌, Option, None, Some, IfSome, MatchOption, leb, eqb}
+use Rattle.std.specs.Prelude.{ℕ, ◌≤◌, ◌<◌, ◌≡◌, Bool, true, cond, not, ◌||◌, [], ◌∷◌, Option, None, Some, IfSome, MatchOption, leb, eqb}
 use Rattle.field.specs.Residue.{opposite}
 use Rattle.field.specs.Inverse.{inverse}
-use Rattle.circuit.specs.Circuit.{Constraint}
+use Rattle.circuit.specs.Circuit.{Form, Constraint}
 use Rattle.circuit.specs.Reader.{signals_most}
 use Rattle.laws.specs.Sum.{sum}
 use Rattle.laws.specs.Rules.{reduced, occurs, sum_term, sum_bound, sum_met}
@@ -11,6 +11,16 @@ use Rattle.rules.specs.declared.sums.Lowering.{Lowering}
 -- a term on this signal is passed over, or leaves all signals but t marked
 unfoldable pub allowed : (ℕ → Bool) → ℕ → ℕ → Bool
 allowed m t signal = not (leb signal signals_most) || (eqb signal 0 || eqb signal t || m signal)
+
+-- the signal of a form's one term, if no term has been found before; that which was found, if the form has none
+abbrev pub sole_after : Option ℕ → Form → Option ℕ
+sole_after found [] = found
+sole_after None (x ∷ f) = sole_after (Some x.signal) f
+sole_after (Some s) (x ∷ f) = None
+
+-- the signal of a form that has exactly one term, 0 for the constant; None of other forms
+unfoldable pub sole : Form → Option ℕ
+sole f = sole_after None f
 
 -- the bound that the sum rule gives, None where the rule isn't met
 abbrev pub sum_step : ℕ → ℕ → Constraint → (ℕ → ℕ) → ℕ → Option ℕ

@@ -1,4 +1,5 @@
--- Arrays of the code as functions of the signal: how it runs, not what it means. Past the end a coefficient is 0, a bound p - 1, and a signal unmarked.
+-- Arrays of the code as functions of the signal: how it runs, not what it means. Past the end a coefficient is 0, a bound p - 1, and a
+-- signal has no mark of either sort.
 use Rattle.std.specs.Prelude.{ℕ, ◌-◌, Bool, false, List, get_or}
 use Rattle.laws.specs.Standing.{Standing}
 
@@ -11,6 +12,6 @@ bound_in p bounds s = get_or bounds s (p - 1)
 unfoldable pub mark_in : List Bool → ℕ → Bool
 mark_in marks s = get_or marks s false
 
--- two arrays as a standing
-unfoldable pub view_of : ℕ → List ℕ → List Bool → Standing
-view_of p bounds marks = record { bound = bound_in p bounds; marked = mark_in marks }
+-- three arrays as a standing
+unfoldable pub view_of : ℕ → List ℕ → (marks nonzeros : List Bool) → Standing
+view_of p bounds marks nonzeros = record { bound = bound_in p bounds; marked = mark_in marks; nonzero = mark_in nonzeros }

@@ -1,14 +1,16 @@
-// What the rules ask of one constraint, whose part of the circuit bytes starts at it: linear, root and product.
+// What the rules ask of one constraint, whose part of the circuit bytes starts at it: linear, root, product, nonzero and quotient.
 // Stays: part, marks, t and p as parameters, here and for forms: each function reads up to three of them, and no fact joins them.
 
-ghost use Rattle.std.specs.Prelude.{◌≡◌, not, ◌&&◌};
+ghost use Rattle.std.specs.Prelude.{◌≡◌, not, ◌&&◌, ◌||◌};
 ghost use Rattle.circuit.specs.Circuit.{names};
 ghost use Rattle.circuit.specs.Reader.{form_in, constraint_in};
 ghost use Rattle.laws.specs.Rules.{names_none, linear, is_zero, names_only, root_met, root, root_bound, others_marked, product_met};
+ghost use Rattle.laws.specs.Rules.{nonzero_met, divisor, single, quotient_met};
 ghost use Rattle.rules.specs.View.{mark_in};
 
 use crate::arith::multiply_add;
-use crate::form::{coefficients, names_beside};
+use crate::form::{coefficients, is_single, names_beside};
+use crate::view::mark_at;
 use circuit::form::Forms;
 use circuit::reader::after_form;
 use field::modular::inverse;
@@ -97,4 +99,40 @@ pub fn product_met(part: &[u8], marks: &[bool], t: u32) -> bool
 {
     let Forms { a, b, c } = Forms::of(part);
     !is_linear(part) && stands_in(c, marks, t) && stays_out(a, marks, t) && stays_out(b, marks, t)
+}
+
+// Rule 4.8: whether the nonzero rule is met for target t.
+#[tactic(auto, unfolding(laws::specs::Rules::nonzero_met, circuit::specs::Reader::constraint_in))]
+pub fn nonzero_met(part: &[u8], t: u32) -> bool
+    ensures { result ≡ nonzero_met (constraint_in part.now) t }
+{
+    let Forms { a, b, c } = Forms::of(part);
+    is_single(c, 0) && (is_single(a, t) || is_single(b, t))
+}
+
+// Whether r is marked, has a nonzero mark and isn't t.
+#[tactic(auto, unfolding(laws::specs::Rules::divisor))]
+fn is_divisor(marks: &[bool], nonzeros: &[bool], t: u32, r: u32) -> bool
+    ensures { result ≡ divisor (mark_in marks.now) (mark_in nonzeros.now) t r }
+{
+    mark_at(marks, r as usize) && mark_at(nonzeros, r as usize) && r != t
+}
+
+// Whether the first form is a single term on r, and the other names t, and all its other signals are marked.
+fn divides_by(first: &[u8], other: &[u8], marks: &[bool], t: u32, r: u32) -> bool
+    ensures { result ≡ (single r (form_in first.now)
+        && (names (form_in other.now) t && others_marked (mark_in marks.now) t (form_in other.now))) }
+{
+    is_single(first, r) && stands_in(other, marks, t)
+}
+
+// Rule 4.9: whether the quotient rule is met for target t and reference r.
+#[tactic(auto, using(crate::proofs::FormTests::quotient_is), unfolding(circuit::specs::Reader::constraint_in))]
+pub fn quotient_met(part: &[u8], marks: &[bool], nonzeros: &[bool], t: u32, r: u32) -> bool
+    ensures { result ≡ quotient_met (constraint_in part.now) (mark_in marks.now) (mark_in nonzeros.now) t r }
+{
+    let Forms { a, b, c } = Forms::of(part);
+    is_divisor(marks, nonzeros, t, r)
+        && (divides_by(a, b, marks, t, r) || divides_by(b, a, marks, t, r))
+        && stays_out(c, marks, t)
 }

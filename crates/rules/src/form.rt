@@ -1,13 +1,13 @@
 // Forms in bytes: what a form names, and its coefficients.
 // Stays: parameters, as in constraint.rt.
 
-ghost use Rattle.std.specs.Prelude.{◌≡◌, Some, None, cond, ◌&&◌, ◌%◌, ◌<◌, leb, eqb};
+ghost use Rattle.std.specs.Prelude.{◌≡◌, Some, None, IfSome, cond, ◌&&◌, ◌%◌, ◌<◌, ◌≤◌, leb, eqb};
 ghost use Rattle.circuit.specs.Circuit.{coef, names};
 ghost use Rattle.circuit.specs.Reader.{signals_most, form_in};
 ghost use Rattle.laws.specs.Sum.{keep};
-ghost use Rattle.laws.specs.Rules.{others_marked};
+ghost use Rattle.laws.specs.Rules.{others_marked, single};
 ghost use Rattle.rules.specs.View.{mark_in};
-ghost use Rattle.rules.specs.Steps.{allowed};
+ghost use Rattle.rules.specs.Steps.{allowed, sole};
 
 use crate::view::mark_at;
 use circuit::form::{Term, term_at, term_count};
@@ -42,6 +42,33 @@ pub(crate) fn names_beside(part: &[u8], marks: &[bool], t: u32) -> Option<bool>
         names |= is_on(term.signal, t);
     }
     Some(names)
+}
+
+// The signal of the form that the part starts with, if it has exactly one term; 0 is the constant. Signals above 256 are passed over.
+pub fn sole_signal(part: &[u8]) -> Option<u32>
+    ensures is { result ≡ sole (form_in part.now) }
+    ensures most { IfSome result (λ s. s ≤ signals_most) }
+{
+    let mut found = None;
+    for i in 0..term_count(part) {
+        let term = term_at(part, i);
+        if SIGNALS_MOST < term.signal {
+            continue;
+        }
+        if found.is_some() {
+            return None;
+        }
+        found = Some(term.signal);
+    }
+    found
+}
+
+// Whether it has exactly one term, on s.
+#[tactic(auto, using(crate::proofs::FormTests::sole_single))]
+pub fn is_single(part: &[u8], s: u32) -> bool
+    ensures { result ≡ single s (form_in part.now) }
+{
+    sole_signal(part) == Some(s)
 }
 
 // The coefficient of a term, if that is on t, else 0.

@@ -1,4 +1,4 @@
-// The five rules (4.1 to 4.7) as code over one constraint's part of the circuit bytes and the standing's arrays.
+// The seven rules (4.1 to 4.9) as code over one constraint's part of the circuit bytes and the standing's arrays.
 
 #![tactic(auto)]
 
@@ -6,7 +6,7 @@ pub mod added;
 mod arith;
 pub mod constraint;
 pub mod digits;
-mod form;
+pub mod form;
 pub mod gathered;
 mod reduced;
 pub mod rows;

@@ -1,14 +1,14 @@
-// The standing: a bound and a mark for each of up to 256 signals, and a method for each rule that gives the next standing.
+// The standing: a bound, a mark and a nonzero mark for each of up to 256 signals, and a method for each rule that gives the next standing.
 
-ghost use Rattle.std.specs.Prelude.{◌≡◌, List, [], ℕ, Bool, cond, ◌<◌, min};
+ghost use Rattle.std.specs.Prelude.{◌≡◌, List, [], ℕ, Bool, cond, ◌<◌, min, length};
 ghost use Rattle.laws.specs.Problem.{largest};
-ghost use Rattle.laws.specs.Standing.{is_input, at_most, fixed};
+ghost use Rattle.laws.specs.Standing.{is_input, none_of, at_most, fixed, not_zero};
 ghost use Rattle.laws.specs.Step as laws;
 ghost use Rattle.laws.specs.Step.{rule};
 ghost use Rattle.rules.specs.View.{view_of};
-ghost use Rattle.rules.specs.Promise.{view, subject_in, Told, Gives, bound_given, kind_of, reduces, Asked};
+ghost use Rattle.rules.specs.Promise.{view, subject_in, Told, Flagged, Gives, bound_given, kind_of, reduces, Asked};
 
-use crate::constraint::{product_met, root_bound, root_met};
+use crate::constraint::{nonzero_met, product_met, quotient_met, root_bound, root_met};
 use crate::digits::digits_met;
 use crate::rows::Entry;
 use crate::sums::sum_step;
@@ -16,12 +16,13 @@ use crate::view::bound_at;
 use circuit::reader::SIGNALS_MOST;
 use std::fmt;
 
-// Rule 3.1. Signal 0 is the constant one; bounds and marks of signals above 256 are those of the start.
-// Stays: two arrays by value, a form of docs/DECISIONS.md.
+// Rule 3.1. Signal 0 is the constant one; bounds and marks of both sorts of signals above 256 are those of the start.
+// Stays: three arrays by value, a form of docs/DECISIONS.md.
 #[derive(Clone, Copy, Debug, PartialEq, Eq)]
 pub struct Standing {
     pub bounds: [u32; 257],
     pub marks: [bool; 257],
+    pub nonzeros: [bool; 257],
 }
 
 // What a step gives: the next standing, and whether the step is idle; None where it doesn't meet its rule, and the standing is then as it was.
@@ -41,6 +42,8 @@ pub enum Kind {
     Zero,
     Product,
     Digits,
+    Nonzero,
+    Quotient,
 }
 
 impl Kind {
@@ -63,13 +66,15 @@ impl fmt::Display for Kind {
             Kind::Zero => "zero",
             Kind::Product => "product",
             Kind::Digits => "digits",
+            Kind::Nonzero => "nonzero",
+            Kind::Quotient => "quotient",
         })
     }
 }
 
 // Rule 4.3: the bound that the root rule gives, if it is met.
 fn root_step(part: &[u8], p: u32, t: u32) -> Option<u32>
-    ensures { result ≡ bound_given (rule laws.Root (subject_in p 0 part.now) (view_of p [] []) t 0) }
+    ensures { result ≡ bound_given (rule laws.Root (subject_in p 0 part.now) (view_of p [] [] []) t 0) }
 {
     if !root_met(part, t) {
         return None;
@@ -77,15 +82,36 @@ fn root_step(part: &[u8], p: u32, t: u32) -> Option<u32>
     Some(root_bound(part, p, t))
 }
 
+// Rule 3.3: sets the flag of t, if the rule is met, and tells whether it was set.
+fn set_flag(flags: &mut [bool], t: u32, met: bool) -> Option<bool>
+    ensures { t < length flags.old → Flagged result flags.new flags.old t met }
+{
+    if !met {
+        return None;
+    }
+    let at = t as usize;
+    let mut was = true;
+    // Stays: as in `lower`.
+    if at < flags.len() {
+        was = flags[at];
+        flags[at] = true;
+    }
+    Some(was)
+}
+
 impl Standing {
-    // Rule 3.2: every bound is p - 1, and exactly the inputs 1 to i are marked.
+    // Rule 3.2: every bound is p - 1, exactly the inputs 1 to i are marked, and there are no nonzero marks.
     pub fn start(p: u32, i: u32) -> Standing
-        ensures { view p result ≡ record { bound = largest p; marked = is_input (min i 256) } }
+        ensures { view p result ≡ record { bound = largest p; marked = is_input (min i 256); nonzero = none_of } }
     {
         let bounds = if p == 0 { [0; 257] } else { [p - 1; 257] };
         let mut marks = [false; 257];
         marks[1..=i.min(SIGNALS_MOST) as usize].fill(true);
-        Standing { bounds, marks }
+        Standing {
+            bounds,
+            marks,
+            nonzeros: [false; 257],
+        }
     }
 
     // Rules 3.3 and 3.4: t's bound becomes at most what the rule gives, if it is met; idle where it is already.
@@ -109,20 +135,17 @@ impl Standing {
     fn mark(&mut self, t: u32, met: bool) -> Option<bool>
         ensures { (p : ℕ) → t < 257 → Told result (view p self.new) (view p self.old) t (record { met = met; change = fixed }) }
     {
-        if !met {
-            return None;
-        }
-        let at = t as usize;
-        let mut idle = true;
-        // Stays: as in `lower`.
-        if at < self.marks.len() {
-            idle = self.marks[at];
-            self.marks[at] = true;
-        }
-        Some(idle)
+        set_flag(&mut self.marks, t, met)
     }
 
-    // Rules 4.3 to 4.7, in place, by the constraint at the start of the part and its row, at which only some rules look. No target in range is above 256.
+    // Rules 3.3 and 3.4: t gets a nonzero mark, if the rule is met; idle where it has one already.
+    fn exclude_zero(&mut self, t: u32, met: bool) -> Option<bool>
+        ensures { (p : ℕ) → t < 257 → Told result (view p self.new) (view p self.old) t (record { met = met; change = not_zero }) }
+    {
+        set_flag(&mut self.nonzeros, t, met)
+    }
+
+    // Rules 4.3 to 4.9, in place, by the constraint at the start of the part and its row, at which only some rules look. No target in range is above 256.
     // Stays: six parameters here and in `step`: just what a rule looks at, and each method takes its part of them (docs/DECISIONS.md, Forms).
     fn change(
         &mut self,
@@ -157,16 +180,30 @@ impl Standing {
                 let met = digits_met(part, row, &self.bounds, &self.marks, p, t, r);
                 self.mark(t, met)
             }
+            Kind::Nonzero => {
+                let met = nonzero_met(part, t);
+                self.exclude_zero(t, met)
+            }
+            Kind::Quotient => {
+                let met = quotient_met(part, &self.marks, &self.nonzeros, t, r);
+                self.mark(t, met)
+            }
         }
     }
 
-    // A step of any kind. Fast where the caller's loop calls it itself: a function that is called for each step and holds the Outcome clears its 1.3 kB first.
-    pub fn step(mut self, kind: Kind, part: &[u8], row: &[Entry], p: u32, t: u32, r: u32) -> Outcome
+    // A step of any kind. Fast where the caller's loop calls it itself: a function that is called for each step and holds the Outcome clears its 1.5 kB first.
+    // Inlined, so that the standing is copied twice a step and not four times.
+    #[inline(always)]
+    pub fn step(self, kind: Kind, part: &[u8], row: &[Entry], p: u32, t: u32, r: u32) -> Outcome
         ensures { (n : ℕ) → Asked (kind_of kind) p n part.now row.now t r
             → Gives p result (view p self) t (rule (kind_of kind) (subject_in p n part.now) (view p self) t r) }
     {
-        let idle = self.change(kind, part, row, p, t, r);
-        Outcome { next: self, idle }
+        let mut outcome = Outcome {
+            next: self,
+            idle: None,
+        };
+        outcome.idle = outcome.next.change(kind, part, row, p, t, r);
+        outcome
     }
 
     // A method for each kind, by its row in the table of rules.
@@ -208,6 +245,25 @@ impl Standing {
             → Gives p result (view p self) t (rule laws.Digits (subject_in p n part.now) (view p self) t r) }
     {
         self.step(Kind::Digits, part, row, p, t, r)
+    }
+
+    // Stays: as `product`, and so does `quotient`.
+    pub fn nonzero(mut self, part: &[u8], t: u32) -> Outcome
+        ensures { (p n r : ℕ) (row : List Entry) → Asked laws.Nonzero p n part.now row t r
+            → Gives p result (view p self) t (rule laws.Nonzero (subject_in p n part.now) (view p self) t r) }
+    {
+        let met = nonzero_met(part, t);
+        let idle = self.exclude_zero(t, met);
+        Outcome { next: self, idle }
+    }
+
+    pub fn quotient(mut self, part: &[u8], t: u32, r: u32) -> Outcome
+        ensures { (p n : ℕ) (row : List Entry) → Asked laws.Quotient p n part.now row t r
+            → Gives p result (view p self) t (rule laws.Quotient (subject_in p n part.now) (view p self) t r) }
+    {
+        let met = quotient_met(part, &self.marks, &self.nonzeros, t, r);
+        let idle = self.mark(t, met);
+        Outcome { next: self, idle }
     }
 }
 

@@ -26,3 +26,7 @@ returns-in-Digits c n B =
     let A = rw e at B in
     let met = c.digits_met-met.ensures n A.prime (A.by_row refl refl) A.least A.most (A.reference refl).0 (A.reference refl).1 in
     rw e (rw met at (c.mark-in-Digits.ensures c.args.p (omega (arith, A.few, A.most))))
+
+pub returns-in-Quotient : goal.returns-in-Quotient
+unfolding view_of
+returns-in-Quotient c n A = rw c.in-Quotient.is (rw c.quotient_met-met.ensures at (c.mark-in-Quotient.ensures c.args.p (omega (arith, A.few, A.most))))

@@ -5,6 +5,7 @@ use Rattle.rules.proofs.standing.Standing.lower.Goals as goal
 
 pub returns-then-at-lt257 : goal.returns-then-at-lt257
 returns-then-at-lt257 c p v met e h =
-    let sized : length c.args.self.now.bounds ≡ 257 = search rules in
+    let self = c.args.self.now in
+    let sized : length self.bounds ≡ 257 = search rules in
     let given = some_given met v c.in_ok-most.most (sym c.in_ok-most.was ∙ e) in
-    rw (given.0, given.1) (taken_lower p c.args.self.now.bounds c.args.self.now.marks _ c.in_ok-most.most _ (omega arith) (omega arith))
+    rw (given.0, given.1) (taken_lower p self.bounds self.marks self.nonzeros _ c.in_ok-most.most _ (omega arith) (omega arith))

@@ -1,9 +1,15 @@
--- `rules::standing::Standing::mark`: the mark is stored.
-use Rattle.std.proofs.Common.{rules, ◌≡◌, length, arith}
-use Rattle.rules.proofs.Outcomes.{taken_mark}
+-- `rules::standing::Standing::mark`: the flag is a mark.
+use Rattle.std.proofs.Common.{rules, ◌≡◌, ◌<◌, refl, length, arith}
+use Rattle.laws.specs.Standing.{fixed}
+use Rattle.rules.specs.View.{view_of}
+use Rattle.rules.proofs.ViewLaws.{view_mark}
+use Rattle.rules.proofs.Outcomes.{told_flag}
 use Rattle.rules.proofs.standing.Standing.mark.Goals as goal
 
-pub returns-then-at-lt257 : goal.returns-then-at-lt257
-returns-then-at-lt257 c p h =
-    let sized : length c.args.self.now.marks ≡ 257 = search rules in
-    rw c.if-not-met.false (taken_mark p c.args.self.now.bounds c.args.self.now.marks _ (omega arith))
+pub returns : goal.returns
+unfolding view_of
+returns c p h =
+    let self = c.args.self.now in
+    let sized : length self.marks ≡ 257 = search rules in
+    let fits : c.args.t < length self.marks = omega arith in
+    told_flag (λ x. view_of p self.bounds x self.nonzeros) fixed c.args.t self.marks c.args.met refl (view_mark p self.bounds self.marks self.nonzeros c.args.t fits) _ _ (c.set_flag.ensures fits)

@@ -12,5 +12,5 @@ returns c =
       | then-p-eq0 w ↦ w.bounds-is ∙ laws.start_zero _ 257 (omega arith)
       | else-p-eq0 w ↦ w.bounds-is
     ] in
-    laws.start_view _ 257 inputs _ _ _ bounds_are (omega (arith, c.min.ensures))
+    laws.start_view _ 257 inputs _ 257 _ _ bounds_are (omega (arith, c.min.ensures))
     (laws.start_filled inputs 256 c.fill.new.self (search rules))
