@@ -51,7 +51,7 @@ framed_is d r F = rw (le-leb _ _ F.long, F.mark, eq-eqb _ _ F.version, le-leb _ 
 pub framed_fine : {A : Type 0} {head : Answer A} {done : A} {d : List ℕ} → ((x : Answer Standing) → and_then head (λ done. x) ≡ framed d x) → head ≡ given done
     → Framed d
 framed_fine {d = d} framing fine =
-    let x : Answer Standing = given (record { bound = λ s. 0; marked = λ s. false }) in
+    let x : Answer Standing = given (record { bound = λ s. 0; marked = λ s. false; nonzero = λ s. false }) in
     let on : framed d x ≡ x = sym (framing x) ∙ rw fine in
     (framed_given d x on).0
 

@@ -10,7 +10,7 @@ use lib.Dec.{leb}
 use lib.ListN.{length, get_or}
 use Rattle.circuit.specs.Run.{values_in}
 use Rattle.laws.specs.Problem.{largest}
-use Rattle.laws.specs.Standing.{Standing, is_input}
+use Rattle.laws.specs.Standing.{Standing, is_input, none_of}
 use Rattle.tags.specs.Tag.{Sheet, least_of, lowered, first_bound, shown_by}
 use Rattle.tags.specs.Sheet.{sheet_of, Fitting}
 use Rattle.tags.specs.Answer.{Lowered}
@@ -46,14 +46,15 @@ module _ (p i : ℕ) (T : Sheet) {bounds later : List ℕ} (whole : bound_in p b
           let was : get_or bounds s 0 ≡ p - 1 = bound_within p bounds s (omega arith) ∙ ap (λ (f : ℕ → ℕ). f s) whole in
           sym (bound_within p later s (omega (arith, L.sized))) ∙ L.each s (omega arith) ∙ rw (was, input_within i s (omega arith))
 
-pub first_viewed : (p i : ℕ) (h bounds later : List ℕ) (marks : List Bool)
-    → view_of p bounds marks ≡ record { bound = largest p; marked = is_input (min i 256) } → length bounds ≡ 257 → Lowered i (sheet_of h) bounds later
-    → view_of p later marks ≡ first_view p i h
+pub first_viewed : (p i : ℕ) (h bounds later : List ℕ) (marks nonzeros : List Bool)
+    → view_of p bounds marks nonzeros ≡ record { bound = largest p; marked = is_input (min i 256); nonzero = none_of } → length bounds ≡ 257 → Lowered i (sheet_of h) bounds later
+    → view_of p later marks nonzeros ≡ first_view p i h
 unfolding view_of
-first_viewed p i h bounds later marks e sized L =
+first_viewed p i h bounds later marks nonzeros e sized L =
     let bound = fun_ext (bound_first p i (sheet_of h) (ap (λ (S : Standing). S.bound) e) sized L) in
     let marked = ap (λ (S : Standing). S.marked) e in
-    rw (bound, marked)
+    let nonzero = ap (λ (S : Standing). S.nonzero) e in
+    rw (bound, marked, nonzero)
 
 -- What is shown
 

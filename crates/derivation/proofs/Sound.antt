@@ -7,7 +7,7 @@ use native.Mathlib.Omega.{arith}
 use native.Mathlib.Decide.{dec_le}
 use borrow.Author.Tests.{leb-true, lt-ltb}
 use lib.ListN.{length, drop, get_or, get_or-append}
-use Rattle.circuit.specs.Circuit.{Circuit, value_of}
+use Rattle.circuit.specs.Circuit.{Circuit, Satisfying, value_of}
 use Rattle.circuit.specs.Answer.{given}
 use Rattle.circuit.proofs.WellFormed.{read_well_formed}
 use Rattle.circuit.proofs.SearchLaws.{passed}
@@ -59,7 +59,7 @@ module _ (d : List ℕ) {c h : List ℕ} {C : Circuit} {T : Sheet} (U : Unrefuse
 
   -- an accepted derivation leads to a sound standing
   pub last_sound : (room : ℕ) {judgement : Judgement} → derivation_on (tagged C T) T d room ≡ given judgement
-      → Sound (tagged C T) (Allowed C T) (last_of (tagged C T) d)
+      → Sound (tagged C T) (Satisfying C) (Allowed C T) (last_of (tagged C T) d)
   unfolding last_of
   last_sound room e =
       let P = tagged C T in
@@ -67,7 +67,7 @@ module _ (d : List ℕ) {c h : List ℕ} {C : Circuit} {T : Sheet} (U : Unrefuse
       (accepted_formerly P (start P) (steps_of d) (derivation_accepted P T d room e).adds)
 
   -- tags that are shown are obeyed
-  module _ (B : Sound (tagged C T) (Allowed C T) (last_of (tagged C T) d)) (run : List ℕ) (a : Allowed C T run) (k : ℕ) (l : 1 ≤ k) (m : k ≤ T.count) where
+  module _ (B : Sound (tagged C T) (Satisfying C) (Allowed C T) (last_of (tagged C T) d)) (run : List ℕ) (a : Allowed C T run) (k : ℕ) (l : 1 ≤ k) (m : k ≤ T.count) where
     shown_obeyed : is_shown (last_of (tagged C T) d).bound (T.tag k) ≡ true → Obeys (T.tag k) (value_of run (T.tag k).signal)
     unfolding is_shown
     shown_obeyed e =
@@ -97,6 +97,7 @@ sound_call c h d marks C T judgement U e =
       written = at;
       bounded = H.bounded;
       settled = λ run other a b share s l m one. H.settled run other a b share s l m (bit_one _ (sym (at s l m) ∙ one));
+      never_zero = H.never_zero;
       obeyed = λ run a k l m. shown_obeyed d U H run a k l m;
       all_obeyed = λ none run a k l m.
           let same : judgement.shown.missed ≡ (judged P T (last_of P d)).shown.missed = cc in

@@ -74,7 +74,7 @@ derivation_on P T d room = and_then (framed d (roomy P.n room (walked false P d)
 unfoldable pub derivation_call : List ℕ → List ℕ → List ℕ → ℕ → Answer Judgement
 derivation_call c h d room = on_circuit (read_circuit c) (λ C. and_then (sheet_on (sizes_of C) h) (λ T. derivation_on (tagged C T) T d room))
 
--- Rule 3.5: the standing after the last step, whose bounds and marks are those that the derivation reaches.
+-- Rule 3.5: the standing after the last step, whose bounds and marks of both sorts are those that the derivation reaches.
 unfoldable pub last_of : Problem → List ℕ → Standing
 last_of P d = replay P (start P) (steps_of d)
 

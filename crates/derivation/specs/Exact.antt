@@ -1,9 +1,10 @@
 -- What the derivation call is for. EXACT: a well-formed derivation is accepted exactly if each step meets its rule where it stands and isn't
--- idle. SOUND: what an accepted derivation says of the allowed runs, over the answer and the bytes that the call wrote.
+-- idle. SOUND: what an accepted derivation says of the allowed runs, and in nonzero marks of all satisfying ones, over the answer and the bytes
+-- that the call wrote.
 use Rattle.std.specs.Prelude.{ℕ, ◌+◌, ◌*◌, ◌-◌, ◌≤◌, ◌<◌, ◌≡◌, true, List, length, get_or}
 use Rattle.std.proofs.Math.Option.{some}
 use Rattle.circuit.specs.Bytes.{u16_at}
-use Rattle.circuit.specs.Circuit.{Circuit, ShareInputs, value_of}
+use Rattle.circuit.specs.Circuit.{Circuit, Satisfying, ShareInputs, value_of}
 use Rattle.circuit.specs.Reader.{derivation_letter, has_mark}
 use Rattle.circuit.specs.Answer.{Answer, given}
 use Rattle.laws.specs.Problem.{Problem}
@@ -48,13 +49,14 @@ ExactCall c h d room r =
     (C : Circuit) (T : Sheet) → Unrefused c h C T → WellFormedDerivation (tagged C T) d room → Exact (tagged C T) T d r
 
 -- Rule 7.3: no allowed run is above a bound that the derivation reaches. The byte written for s is 1 exactly if the derivation marks s,
--- and then any two allowed runs that share their inputs agree at s. A tag that is shown is obeyed in every allowed run; if the answer names
--- none that isn't, every tag is.
+-- and then any two allowed runs that share their inputs agree at s. No satisfying run, allowed or not, is 0 at a signal to which the
+-- derivation gives a nonzero mark. A tag that is shown is obeyed in every allowed run; if the answer names none that isn't, every tag is.
 pub record SoundMarks (C : Circuit) (T : Sheet) (d : List ℕ) (judgement : Judgement) (marks : List ℕ) : Type 0 where
   pub written : (s : ℕ) → 1 ≤ s → s ≤ C.n → get_or marks (s - 1) 0 ≡ bit ((last_of (tagged C T) d).marked s)
   pub bounded : (run : List ℕ) → Allowed C T run → (s : ℕ) → 1 ≤ s → s ≤ C.n → value_of run s ≤ (last_of (tagged C T) d).bound s
   pub settled : (run other : List ℕ) → Allowed C T run → Allowed C T other → ShareInputs C run other
       → (s : ℕ) → 1 ≤ s → s ≤ C.n → get_or marks (s - 1) 0 ≡ 1 → value_of run s ≡ value_of other s
+  pub never_zero : (run : List ℕ) → Satisfying C run → (s : ℕ) → 1 ≤ s → s ≤ C.n → (last_of (tagged C T) d).nonzero s ≡ true → value_of run s ≡ 0 → ⊥
   pub obeyed : (run : List ℕ) → Allowed C T run → (k : ℕ) → 1 ≤ k → k ≤ T.count → is_shown (last_of (tagged C T) d).bound (T.tag k) ≡ true
       → Obeys (T.tag k) (value_of run (T.tag k).signal)
   pub all_obeyed : judgement.shown.missed ≡ 0 → (run : List ℕ) → Allowed C T run → (k : ℕ) → 1 ≤ k → k ≤ T.count

@@ -135,7 +135,12 @@ judged_by z h S =
 
 -- the arrays of the start of a problem with first bounds by a sheet, up to 256 inputs
 abbrev pub first_view : ℕ → ℕ → List ℕ → standing.Standing
-first_view p i h = record { bound = first_bound p (min i signals_most) (sheet_of h); marked = standing.is_input (min i signals_most) }
+first_view p i h =
+    record {
+      bound = first_bound p (min i signals_most) (sheet_of h);
+      marked = standing.is_input (min i signals_most);
+      nonzero = standing.none_of;
+    }
 
 -- the part of the circuit bytes that a step looks at, by what its constraint field names
 abbrev pub part_named : laws.Names → List ℕ → List ℕ → ℕ → List ℕ

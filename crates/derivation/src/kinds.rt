@@ -9,12 +9,14 @@ use rules::standing::Kind;
 
 // The kinds, in the order of their numbers.
 // Stays: a list to search, since Rattle derives none of an enum's cases.
-const KINDS: [Kind; 5] = [
+const KINDS: [Kind; 7] = [
     Kind::Root,
     Kind::Sum,
     Kind::Zero,
     Kind::Product,
     Kind::Digits,
+    Kind::Nonzero,
+    Kind::Quotient,
 ];
 
 // What the table says of a kind: whether the constraint field names a constraint, and the reference field a signal.
@@ -29,9 +31,9 @@ pub(crate) fn entry_of(kind: Kind) -> Entry
     ensures { EntryOf kind result }
 {
     let (names, refers) = match kind {
-        Kind::Root | Kind::Sum | Kind::Product => (true, false),
+        Kind::Root | Kind::Sum | Kind::Product | Kind::Nonzero => (true, false),
         Kind::Zero => (false, false),
-        Kind::Digits => (true, true),
+        Kind::Digits | Kind::Quotient => (true, true),
     };
     Entry { names, refers }
 }

@@ -75,7 +75,7 @@ fn note(notes: &mut [bool], k: usize, idle: bool)
 // All steps, from the standing that is lent on, which is then the one that they lead to, or stays if one is refused; of those before it is noted which are
 // idle. Rows are made when a step looks at them. The step is called here, since a function that hands an `Outcome` on clears and copies it once more.
 // Stays: notes and idle steps as parameters, here and in `walk_sized`, as at `walk_file`. And the standing, which is lent, since each function that handed
-// it on by value would clear and copy its 1.3 kB.
+// it on by value would clear and copy its 1.5 kB.
 fn walk(
     file: &CircuitFile,
     derivation: &[u8],

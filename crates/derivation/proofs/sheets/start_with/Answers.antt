@@ -4,4 +4,4 @@ use Rattle.derivation.proofs.SheetViews.{first_viewed}
 use Rattle.derivation.proofs.sheets.start_with.Goals as goal
 
 pub returns : goal.returns
-returns c = first_viewed _ _ _ _ _ _ c.start-start.ensures (search rules) c.lower_inputs.ensures
+returns c = first_viewed _ _ _ _ _ _ _ c.start-start.ensures (search rules) c.lower_inputs.ensures
