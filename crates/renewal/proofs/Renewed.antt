@@ -1,4 +1,4 @@
--- RENEWED: a derivation that was accepted by the former rule gets an answer, and what is written is accepted, reaches the same bounds and marks, has exactly
+-- RENEWED: a derivation that was accepted by the former rule gets an answer, and what is written is accepted, reaches the same, has exactly
 -- the steps that aren't idle, and is the same bytes where none is. TWICE: renewing what was renewed changes nothing more.
 use Prim.Native.Nat.{ℕ, ◌+◌, ◌≤◌, ◌<◌}
 use mathlib.Core.Path.{◌≡◌, refl, sym, ap, ◌∙◌}

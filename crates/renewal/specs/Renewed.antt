@@ -24,7 +24,7 @@ pub record Renewed (P : Problem) (T : Sheet) (d e : List ℕ) (bytes : ℕ) : Ty
   pub is_short : length e ≤ length d
   -- it is accepted, and judged by what d reaches
   pub is_accepted : derivation_on P T e P.n ≡ given (judged P T (last_of P d))
-  -- it reaches the bounds and marks that d reaches
+  -- it reaches the bounds and marks of both sorts that d reaches
   pub reaches : last_of P e ≡ last_of P d
   -- its steps are those of d that aren't idle where they stand
   pub steps : steps_of e ≡ less_idle P (start P) (steps_of d)
