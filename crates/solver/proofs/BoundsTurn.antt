@@ -5,9 +5,10 @@ use mathlib.Core.Bool.{true}
 use mathlib.Core.List.{List}
 use mathlib.Core.Option as math
 use native.Mathlib.Omega.{arith}
+use native.Mathlib.Nat.{zero-add}
 use Rattle.std.specs.Prelude.{Option}
 use Rattle.circuit.specs.Circuit.{Circuit, WellFormed}
-use Rattle.laws.specs.Problem.{Problem, given}
+use Rattle.laws.specs.Problem.{given}
 use Rattle.laws.specs.Standing.{Standing, Change, bounds, apply, lower, value}
 use Rattle.laws.specs.Step.{Step, change, after}
 use Rattle.laws.specs.Solver.{lowers, adds_by, best_bound}
@@ -17,7 +18,8 @@ use Rattle.laws.proofs.Best.{lowers_says, best_some}
 use Rattle.derivation.specs.Steps.{head_size, step_size}
 use Rattle.derivation.specs.Encoded.{step_bytes, stored}
 use Rattle.solver.specs.Links.{Forgotten}
-use Rattle.solver.specs.Bounds.{Keys, SomeKeys, Lowered}
+use Rattle.solver.specs.Bounds.{Keys, SomeKeys}
+use Rattle.solver.specs.Phases.{Lowered}
 use Rattle.solver.specs.Choice.{Adds, TakenBy}
 use Rattle.solver.specs.declared.keys.Key.{Key}
 use Rattle.solver.proofs.Progress as turns
@@ -32,18 +34,13 @@ pub turning_start : (C : Circuit) (S : Standing) (keys : List (Option (Option Ke
     → Turning C S S keys output output 0
 turning_start C S keys output K = record { turned = λ first. turns.turning_start _ _ S output 0; keyed = K }
 
--- what a phase that is over leaves
-lowered : {P : Problem} {S₀ S : Standing} {output₀ output : List ℕ} {count : ℕ} → turns.Ended (best_bound P) P S₀ output₀ output 0 count S
-    → Lowered P S₀ S output₀ output count
-lowered E = record { reached = E.reached; counted = E.counted; written = E.written }
-
 module _ {C : Circuit} {S₀ S : Standing} {keys : List (Option (Option Key))} {output₀ output : List ℕ} {count : ℕ}
     (T : Turning C S₀ S keys output₀ output count) where
   pub turning_all : C.n ≤ count → (first : ℕ → ℕ) → Lowered (given C first) S₀ S output₀ output count
-  turning_all h first = lowered (turns.turning_all (T.turned first) h)
+  turning_all h first = rw (zero-add count) at (turns.turning_all (T.turned first) h)
 
   pub turning_none : ((first : ℕ → ℕ) → best_bound (given C first) S ≡ math.none) → (first : ℕ → ℕ) → Lowered (given C first) S₀ S output₀ output count
-  turning_none e first = lowered (turns.turning_none (T.turned first) (e first))
+  turning_none e first = rw (zero-add count) at (turns.turning_none (T.turned first) (e first))
 
   -- the step that was chosen
   module _ (x : Step) (chosen : (first : ℕ → ℕ) → best_bound (given C first) S ≡ math.some x) where

@@ -13,7 +13,7 @@ use Rattle.field.specs.Inverse.{inverse}
 use Rattle.circuit.specs.Circuit.{Form, Constraint, names}
 use Rattle.laws.specs.Problem.{Problem, Subject, subject}
 use Rattle.laws.specs.Sum.{keep}
-use Rattle.laws.specs.Standing.{Standing, Change, at_most, fixed, bounds, value}
+use Rattle.laws.specs.Standing.{Standing, Change, at_most, fixed, not_zero, bounds, value}
 use Rattle.laws.specs.Rules.{names_none, linear, reduced, occurs, is_zero, names_only, root_met, root, root_bound, sum_weight, ceiling, sum_term, sum_bound, sum_met}
 use Rattle.laws.specs.Step.{Kind, Root, Sum, kind_number, names_of, Step, Rule, within, rule, rule_of, in_range, met, change}
 use Rattle.laws.specs.Solver.{step, new_bound, lowers}
@@ -178,6 +178,7 @@ module _ (P : Problem) (S : Standing) where
   as_bound : (c : Change) → bounds c ≡ true → c ≡ at_most (value c)
   as_bound (at_most x) e = refl
   as_bound fixed e = true_or_false false e refl
+  as_bound not_zero e = true_or_false false e refl
 
   pub lowers_to : (x : Step) → lowers P S x ≡ true
       → LowersTo P.p P.n (P.constraint x.constraint) S.bound x.kind x.target (new_bound P S x)

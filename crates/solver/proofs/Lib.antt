@@ -7,13 +7,15 @@ pub mod Adding
 pub mod KeyLaws
 pub mod Choice
 pub mod KeyWays
-pub mod AloneLaws
+pub mod LoneLaws
+pub mod LoneSearch
 pub mod KeySearch
 pub mod BoundsTurn
 pub mod MarkKeyLaws
 pub mod SweepLaws
 pub mod MarkChoice
 pub mod MarksTurn
+pub mod NonzeroLaws
 pub mod Demand
 pub mod SolveLaws
 pub mod Empty

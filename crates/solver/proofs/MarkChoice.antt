@@ -6,23 +6,23 @@ use mathlib.Core.List.{List}
 use mathlib.Core.Option.{none, some}
 use mathlib.Core.Logic.{⊎_elim}
 use native.Mathlib.Omega.{arith}
-use lib.Dec.{leb, ltb}
-use borrow.Author.Tests.{le-leb, le-ltb, eqb-true}
+use lib.Dec.{ltb}
+use borrow.Author.Tests.{le-ltb, eqb-true}
 use Rattle.circuit.specs.Circuit.{Circuit, constraint_at}
 use Rattle.laws.specs.Problem.{Problem, given}
-use Rattle.laws.specs.Standing.{Standing, Change, at_most, fixed, idle, marks}
-use Rattle.laws.specs.Step.{Kind, Root, Sum, Zero, Product, Digits, kind_number, Step, within, inside, constraints, references, in_range}
+use Rattle.laws.specs.Standing.{Standing, Change, at_most, fixed, not_zero, idle, marks}
+use Rattle.laws.specs.Step.{Kind, Root, Sum, Zero, Product, Digits, Nonzero, Quotient, kind_number, Step, within, inside, constraints, references, in_range}
 use Rattle.laws.specs.Step.{fits, met, change, rule_of, adds}
 use Rattle.laws.specs.Solver.{step, adds_by, first_by, earlier, first_adding}
 use Rattle.laws.proofs.Sum.{and_left, and_right, and_both, true_or_false, by_equal, by_order}
 use Rattle.laws.proofs.Best.{first_by_holds}
-use Rattle.laws.proofs.Turns.{within_says, adds_says, adds_holds, adds_target}
+use Rattle.laws.proofs.Turns.{within_says, within_holds, adds_says, adds_holds, adds_target}
 use Rattle.laws.proofs.First.{first_is, first_not}
 use Rattle.laws.proofs.KindLaws.{number_is}
 use Rattle.std.specs.Prelude.{Option, None, Some}
 use Rattle.rules.specs.Promise.{kind_of}
 use Rattle.solver.specs.Bounds.{key_of, no_key, key_in, Narrow, with_zeroth}
-use Rattle.solver.specs.Marks.{Unmarked, MarksBy, product, digits, MarksZero, mark_key, KeyHolder, FirstKey, Swept}
+use Rattle.solver.specs.Marks.{Unmarked, MarksBy, product, digits, quotient, MarksZero, mark_key, KeyHolder, FirstKey, Swept}
 use Rattle.solver.specs.Marks.{reference_in, known_key, mark_keys, mark_references}
 use Rattle.solver.specs.Marks as key
 use Rattle.solver.specs.Choice.{step_of, choice_of}
@@ -38,6 +38,7 @@ use Rattle.solver.proofs.SweepLaws.{Sweeping}
 fixed_idle : (d : Change) (S : Standing) (t : ℕ) → marks d ≡ true → idle d S t ≡ false → S.marked t ≡ false
 fixed_idle (at_most x) S t e i = true_or_false false e refl
 fixed_idle fixed S t e i = i
+fixed_idle not_zero S t e i = true_or_false false e refl
 
 pub record Marking (P : Problem) (S : Standing) (x : Step) : Type 0 where
   pub target : Unmarked S.marked P.n x.target
@@ -62,15 +63,11 @@ marking P S x a =
       is_mark = is_mark;
     }
 
-within_holds : (n s : ℕ) → 1 ≤ s → s ≤ n → within n s ≡ true
-unfolding within
-within_holds n s a b = and_both (leb 1 s) (leb s n) (le-leb 1 s a) (le-leb s n b)
-
 module _ (P : Problem) (S : Standing) where
   -- the steps at a place: 0 for the zero steps, else by the constraint
   pub data StepAt (k : ℕ) (q : Kind) (t r : ℕ) : Type 0 where
     by_none : k ≡ 0 → MarksZero P.n S.bound S.marked q t r → StepAt k q t r
-    by_one : 1 ≤ k → k ≤ P.m → MarksBy P.p P.n (P.constraint k) S.bound S.marked q t r → StepAt k q t r
+    by_one : 1 ≤ k → k ≤ P.m → MarksBy P.p P.n (P.constraint k) S.bound S.marked S.nonzero q t r → StepAt k q t r
 
   step_at_lem : (q : Kind) (t k r : ℕ) → Marking P S (step q t k r) → StepAt k q t r
   unfolding met change rule_of
@@ -84,6 +81,11 @@ module _ (P : Problem) (S : Standing) where
       let w = within_says P.m k M.names in
       let v = within_says P.n r M.refers in
       by_one w.0 w.1 (digits M.target v.0 v.1 M.meets)
+  step_at_lem Nonzero t k r M = true_or_false false M.is_mark refl
+  step_at_lem Quotient t k r M =
+      let w = within_says P.m k M.names in
+      let v = within_says P.n r M.refers in
+      by_one w.0 w.1 (quotient M.target v.0 v.1 M.meets)
 
   adding_at : (q : Kind) (t k r : ℕ) → adds_by marks P S (step q t k r) ≡ true → StepAt k q t r
   adding_at q t k r a = step_at_lem q t k r (marking P S (step q t k r) a)
@@ -107,6 +109,9 @@ module _ (P : Problem) (S : Standing) where
       adds_mark Product t k 0 (record { target = U; names = within_holds P.m k l h; refers = refl; meets = e; is_mark = refl }) U.free
   at_adding {k = k} (by_one l h (digits {t = t} {r = r} U a c e)) =
       adds_mark Digits t k r
+      (record { target = U; names = within_holds P.m k l h; refers = within_holds P.n r a c; meets = e; is_mark = refl }) U.free
+  at_adding {k = k} (by_one l h (quotient {t = t} {r = r} U a c e)) =
+      adds_mark Quotient t k r
       (record { target = U; names = within_holds P.m k l h; refers = within_holds P.n r a c; meets = e; is_mark = refl }) U.free
 
 -- The order of keys, then constraints, then references, is the order of steps
@@ -132,7 +137,7 @@ key_first x y h g f =
 -- The choice
 
 module _ {C : Circuit} (narrow : C.n < 4294967296) (S : Standing) {x r : ℕ} {kept : List (Option (Option Candidate))}
-    (W : Swept C S.bound S.marked x C.m r kept)
+    (W : Swept C S.bound S.marked S.nonzero x C.m r kept)
     (first : ℕ → ℕ) where
   abbrev P : Problem
   P = given C first
@@ -183,7 +188,7 @@ module _ {C : Circuit} (narrow : C.n < 4294967296) (S : Standing) {x r : ℕ} {k
       zero_at_lem (by_none e M) = M
       zero_at_lem (by_one l h M) = absurd (omega arith)
 
-      one_at : (r ≡ 0 → ⊥) → {q : Kind} {t v : ℕ} → StepAt P S r q t v → MarksBy C.p C.n (constraint_at C r) S.bound S.marked q t v
+      one_at : (r ≡ 0 → ⊥) → {q : Kind} {t v : ℕ} → StepAt P S r q t v → MarksBy C.p C.n (constraint_at C r) S.bound S.marked S.nonzero q t v
       one_at d (by_none e M) = absurd (d e)
       one_at d (by_one l h M) = M
 
@@ -207,11 +212,11 @@ module _ {C : Circuit} (narrow : C.n < 4294967296) (S : Standing) {x r : ℕ} {k
 
 -- The choice of the phase
 module _ {C : Circuit} (narrow : C.n < 4294967296) (S : Standing) {x : ℕ} {lowest : Option Choice} {kept : List (Option (Option Candidate))}
-    (W : Sweeping C S.bound S.marked x C.m lowest kept) (first : ℕ → ℕ) where
+    (W : Sweeping C S.bound S.marked S.nonzero x C.m lowest kept) (first : ℕ → ℕ) where
   pub sweeping_choice : choice_of lowest ≡ first_adding marks (given C first) S
   sweeping_choice = go lowest W
     where
-      go : (lowest : Option Choice) → Sweeping C S.bound S.marked x C.m lowest kept → choice_of lowest ≡ first_adding marks (given C first) S
+      go : (lowest : Option Choice) → Sweeping C S.bound S.marked S.nonzero x C.m lowest kept → choice_of lowest ≡ first_adding marks (given C first) S
       go None W = sym (choice_none narrow S W.swept first (sym W.is_lowest))
       go (Some choice) W =
           sym (choice_some narrow S W.swept first choice W.narrow refl W.is_lowest

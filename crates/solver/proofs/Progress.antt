@@ -27,6 +27,7 @@ use Rattle.derivation.specs.Inner.{part_named, rule_in}
 use Rattle.derivation.proofs.Written.{nothing_stored, written_next}
 use Rattle.derivation.proofs.StepLaws.{constraint_named, rule_is, step_asked}
 use Rattle.solver.specs.Links.{Prepared}
+use Rattle.solver.specs.Phases.{Phased}
 
 -- Turns
 
@@ -50,12 +51,6 @@ pub record Turning (choose : Standing → math.Option Step) (P : Problem) (S₀ 
   pub counted : count ≡ length steps
   pub written : output ≡ stored output₀ (head_size + step_size * base) (steps_bytes steps)
 
--- a phase that is over
-pub record Ended (choose : Standing → math.Option Step) (P : Problem) (S₀ : Standing) (output₀ output : List ℕ) (base count : ℕ) (S : Standing) : Type 0 where
-  pub reached : S ≡ replay P S₀ (turns choose P P.n S₀)
-  pub counted : count ≡ length (turns choose P P.n S₀)
-  pub written : output ≡ stored output₀ (head_size + step_size * base) (steps_bytes (turns choose P P.n S₀))
-
 pub turning_start : (choose : Standing → math.Option Step) (P : Problem) (S : Standing) (output : List ℕ) (base : ℕ) → Turning choose P S output output base 0 S
 unfolding steps_bytes replay
 turning_start choose P S output base =
@@ -70,16 +65,16 @@ turning_start choose P S output base =
 
 module _ {choose : Standing → math.Option Step} {P : Problem} {S₀ : Standing} {output₀ output : List ℕ} {base count : ℕ} {S : Standing}
     (T : Turning choose P S₀ output₀ output base count S) where
-  ended : turns choose P P.n S₀ ≡ T.steps → Ended choose P S₀ output₀ output base count S
-  ended e = record { reached = rw e T.led; counted = rw e T.counted; written = rw e T.written }
+  ended : turns choose P P.n S₀ ≡ T.steps → Phased choose P S₀ S output₀ output base (base + count)
+  ended e = record { reached = rw e T.led; counted = rw (e, T.counted) refl; written = rw e T.written }
 
-  pub turning_all : P.n ≤ count → Ended choose P S₀ output₀ output base count S
+  pub turning_all : P.n ≤ count → Phased choose P S₀ S output₀ output base (base + count)
   unfolding turns
   turning_all h =
       let left : P.n - length T.steps ≡ 0 = omega (arith, T.counted) in
       ended (T.rest ∙ ap (λ (k : ℕ). T.steps ++ turns choose P k S) left ∙ append-nil T.steps)
 
-  pub turning_none : choose S ≡ none → Ended choose P S₀ output₀ output base count S
+  pub turning_none : choose S ≡ none → Phased choose P S₀ S output₀ output base (base + count)
   turning_none e =
       ended (T.rest ∙ ap (λ (ys : List Step). T.steps ++ ys) (turns_none choose P (P.n - length T.steps) S e) ∙ append-nil T.steps)
 

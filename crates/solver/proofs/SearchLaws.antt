@@ -1,4 +1,4 @@
--- Laws of the search for a signal in the bytes of a form.
+-- Laws of the search for a signal in the bytes of a form, and of the signal of its one term.
 use Prim.Native.Nat.{ℕ, zero, suc, ◌+◌, ◌-◌, ◌*◌, ◌≤◌, ◌<◌}
 use mathlib.Core.Path.{◌≡◌, refl, sym, ap, ◌∙◌}
 use mathlib.Core.Bool.{Bool, true, false}
@@ -6,7 +6,7 @@ use mathlib.Core.List.{List, map}
 use native.Mathlib.Omega.{arith}
 use lib.Dec.{leb}
 use lib.ListN.{length}
-use borrow.Author.Tests.{eq-eqb, ne_eqb, leb-true, le-leb}
+use borrow.Author.Tests.{eq-eqb, ne_eqb, eqb-true, leb-true, le-leb}
 use Rattle.std.specs.Prelude.{Option, None, Some, MatchOption}
 use Rattle.std.specs.List.{range_with_len, AllWithin, HoldsAt}
 use Rattle.std.proofs.lemmas.List.FromFn.{get_or-map-range_with_len, length-map-range_with_len}
@@ -14,7 +14,10 @@ use Rattle.circuit.specs.Bytes.{byte_at, u16_at}
 use Rattle.circuit.specs.Circuit.{Form, names}
 use Rattle.circuit.specs.Reader.{form_in}
 use Rattle.laws.proofs.Sum.{true_or_false}
-use Rattle.solver.specs.Search.{SomeNamed}
+use Rattle.laws.specs.Rules.{single}
+use Rattle.rules.specs.Steps.{sole}
+use Rattle.rules.proofs.FormTests.{sole_none, sole_some}
+use Rattle.solver.specs.Search.{SomeNamed, SomeDivisor}
 use Rattle.rules.proofs.Walk.{terms_from, turn, terms_end, form_start}
 
 -- the signals that the form names are those of the terms that are left
@@ -88,3 +91,22 @@ module _ (part : List ℕ) where
         let before : h.1 < count = omega (arith, long, h.2) in
         signal_found _ _ _ _ (passed h.1 (omega arith) h.4) (omega arith) s
         (sym (h.3 0) ∙ get_or-map-range_with_len signal_at 0 count h.1 h.1 0 before (omega arith)) h.0.0 h.0.1
+
+-- The signal of a form's one term
+
+module _ (f : Form) (nz : ℕ → Bool) where
+  pub divisor_none : None ≡ sole f → SomeDivisor f nz None
+  divisor_none e r l i z = true_or_false _ i (sole_none f e r)
+
+  module _ (s : ℕ) (e : Some s ≡ sole f) where
+    only : (r : ℕ) → single r f ≡ true → s ≡ r
+    only r i = eqb-true s r (sym (sole_some f s e r) ∙ i)
+
+    pub divisor_constant : s ≡ 0 → SomeDivisor f nz None
+    divisor_constant z r l i k = omega (arith, only r i)
+
+    pub divisor_free : nz s ≡ false → SomeDivisor f nz None
+    divisor_free free r l i k = true_or_false _ k (ap nz (sym (only r i)) ∙ free)
+
+    pub divisor_some : (s ≡ 0 → ⊥) → nz s ≡ true → SomeDivisor f nz (Some s)
+    divisor_some d k = (omega arith, sole_some f s e s ∙ eq-eqb s s refl, k)

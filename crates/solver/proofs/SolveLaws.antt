@@ -1,8 +1,8 @@
--- The call from what its parts answer: the two phases one after the other, the bytes that they leave, and the answer.
+-- The call from what its parts answer: the three phases one after the other, the bytes that they leave, and the answer.
 use Prim.Native.Nat.{ℕ, ◌+◌, ◌*◌, ◌≤◌, ◌<◌, min}
 use mathlib.Core.Path.{◌≡◌, refl, sym, ap, ◌∙◌}
 use mathlib.Core.Bool.{Bool, true, false}
-use mathlib.Core.List.{List, ◌++◌}
+use mathlib.Core.List.{List, ◌++◌, append_assoc}
 use native.Mathlib.Omega.{arith}
 use lib.Dec.{leb}
 use lib.ListN.{length, drop, replicate, length-append, length-replicate}
@@ -13,8 +13,8 @@ use Rattle.circuit.specs.Call.{circuit_of, circuit_call, Sized}
 use Rattle.circuit.specs.declared.reader.Sizes.{Sizes}
 use Rattle.circuit.proofs.Sized.{call_sized}
 use Rattle.laws.specs.Problem.{Problem, largest}
-use Rattle.laws.specs.Standing.{Standing, start, marks}
-use Rattle.laws.specs.Solver.{best_bound, first_adding, turns, bound_steps, bounded, mark_steps, solution}
+use Rattle.laws.specs.Standing.{Standing, none_of, start, marks, nonzeros}
+use Rattle.laws.specs.Solver.{best_bound, first_adding, turns, bound_steps, bounded, nonzero_steps, excluded, mark_steps, solution}
 use Rattle.laws.proofs.Order.{replay_append}
 use Rattle.laws.proofs.Solution.{solution_length}
 use Rattle.tags.specs.Tag.{Sheet, tagged}
@@ -29,7 +29,7 @@ use Rattle.derivation.proofs.Encoding.{encoded_lists}
 use Rattle.derivation.proofs.Written.{written_append, header_written}
 use Rattle.solver.specs.Call.{Solved, own, reached, solved, room_for, solver_on, solver_call, left_by, solver_output}
 use Rattle.laws.specs.Problem as laws
-use Rattle.laws.proofs.Turns.{none_done, turns_short}
+use Rattle.laws.proofs.Turns.{turns_short}
 use Rattle.laws.proofs.Greedy.{reached_start, bound_phase}
 use Rattle.rules.proofs.ViewLaws.{get_d_repeated}
 use Rattle.rules.specs.Rows.{at}
@@ -37,8 +37,8 @@ use Rattle.rules.specs.declared.rows.Entry.{Entry}
 use Rattle.rules.specs.Rows.{places}
 use Rattle.solver.specs.Links.{Blank, Unlinked}
 use Rattle.solver.specs.declared.links.Link.{Link}
-use Rattle.solver.specs.Bounds.{Lowered}
-use Rattle.solver.specs.Choice.{Marked, Taken}
+use Rattle.laws.specs.Step.{Step, replay}
+use Rattle.solver.specs.Phases.{Lowered, Excluded, Marked, Taken}
 use Rattle.solver.specs.Demand.{Demand}
 use Rattle.solver.specs.Inner.{Solves}
 use Rattle.solver.proofs.Demand.{call_on, output_on, demand}
@@ -85,7 +85,7 @@ module _ {c h : List ℕ} {z : Sizes} (K : Taking c h z) where
   W = Z.formed
 
   -- refusal 25
-  pub room_short : {output : List ℕ} → length output < 7 + 14 * z.n
+  pub room_short : {output : List ℕ} → length output < 7 + 21 * z.n
       → Solves c h output (refused 25 0) output
   room_short {output} short =
       let few : leb (room_for C.n) (length output) ≡ false = lt-leb (room_for C.n) (length output) (omega (arith, Z.is_n)) in
@@ -95,9 +95,9 @@ module _ {c h : List ℕ} {z : Sizes} (K : Taking c h z) where
   pub start_low : {S : Standing} → S ≡ first_view z.p z.i h → (s : ℕ) → S.bound s < z.p
   start_low e s = rw e (omega (arith, first_most z.p (min z.i 256) T s, Z.is_p, W.p_least))
 
-  -- after both phases
+  -- after the phases
   module _ {output output₂ : List ℕ} {S S₂ : Standing} {steps : ℕ} (first : S ≡ first_view z.p z.i h) (L : Taken P S S₂ output output₂ steps)
-      (roomy : 7 + 14 * z.n ≤ length output) where
+      (roomy : 7 + 21 * z.n ≤ length output) where
     begin : S ≡ start P
     begin = start_is c z Z h first
 
@@ -105,35 +105,70 @@ module _ {c h : List ℕ} {z : Sizes} (K : Taking c h z) where
     unfolding bound_steps
     bounds_are = rw begin refl
 
-    bounded_at : L.middle ≡ bounded P
-    bounded_at = L.lowered.reached ∙ rw (bounds_are, begin) refl
+    bounded_at : L.bounded ≡ bounded P
+    bounded_at = L.lowers.reached ∙ rw (bounds_are, begin) refl
 
-    marks_are : turns (first_adding marks P) P P.n L.middle ≡ mark_steps P
+    nonzeros_are : turns (first_adding nonzeros P) P P.n L.bounded ≡ nonzero_steps P
+    unfolding nonzero_steps
+    nonzeros_are = rw bounded_at refl
+
+    excluded_at : L.excluded ≡ excluded P
+    excluded_at = L.excludes.reached ∙ rw (nonzeros_are, bounded_at) refl
+
+    marks_are : turns (first_adding marks P) P P.n L.excluded ≡ mark_steps P
     unfolding mark_steps
-    marks_are = rw bounded_at refl
+    marks_are = rw excluded_at refl
 
-    base_counted : L.base ≡ length (bound_steps P)
-    base_counted = L.lowered.counted ∙ rw bounds_are refl
+    lowerings_counted : L.lowerings ≡ length (bound_steps P)
+    lowerings_counted = omega (arith, L.lowers.counted, ap length bounds_are)
+
+    before_counted : L.before_marks ≡ length (bound_steps P ++ nonzero_steps P)
+    before_counted =
+        omega (arith, L.excludes.counted, ap length nonzeros_are, lowerings_counted, length-append (bound_steps P) (nonzero_steps P))
+
+    -- the steps of all phases
+    in_order : bound_steps P ++ nonzero_steps P ++ mark_steps P ≡ solution P
+    unfolding solution
+    in_order = append_assoc (bound_steps P) (nonzero_steps P) (mark_steps P)
 
     steps_counted : steps ≡ length (solution P)
-    unfolding solution
     steps_counted =
-        omega (arith, L.marked.counted, ap length marks_are, base_counted, length-append (bound_steps P) (mark_steps P))
+        omega (
+          arith,
+          L.marks.counted,
+          ap length marks_are,
+          before_counted,
+          length-append (bound_steps P ++ nonzero_steps P) (mark_steps P),
+          ap length in_order,
+        )
 
-    pub steps_small : steps ≤ 512
+    pub steps_small : steps ≤ 768
     steps_small = omega (arith, steps_counted, solution_length P, W.n_most)
 
     reached_view : S₂ ≡ reached P
-    unfolding reached solution
+    unfolding reached
     reached_view =
-        L.marked.reached ∙ rw (marks_are, bounded_at) (sym (replay_append P (start P) (bound_steps P) (mark_steps P)))
+        L.marks.reached
+        ∙ rw (marks_are, excluded_at) refl
+        ∙ ap (λ (Z : Standing). replay P Z (mark_steps P)) (sym (replay_append P (start P) (bound_steps P) (nonzero_steps P)))
+        ∙ sym (replay_append P (start P) (bound_steps P ++ nonzero_steps P) (mark_steps P))
+        ∙ ap (replay P (start P)) in_order
 
-    both_written : output₂ ≡ stored output 7 (steps_bytes (solution P))
-    unfolding solution
-    both_written =
-        L.marked.written
-        ∙ rw (marks_are, base_counted) refl
-        ∙ written_append output L.half 7 (bound_steps P) (mark_steps P) (L.lowered.written ∙ rw bounds_are refl)
+    first_written : L.lowered_output ≡ stored output 7 (steps_bytes (bound_steps P))
+    first_written = L.lowers.written ∙ rw bounds_are refl
+
+    second_written : L.excluded_output ≡ stored output 7 (steps_bytes (bound_steps P ++ nonzero_steps P))
+    second_written =
+        L.excludes.written
+        ∙ rw (nonzeros_are, lowerings_counted) refl
+        ∙ written_append output L.lowered_output 7 (bound_steps P) (nonzero_steps P) first_written
+
+    all_written : output₂ ≡ stored output 7 (steps_bytes (solution P))
+    all_written =
+        L.marks.written
+        ∙ rw (marks_are, before_counted) refl
+        ∙ written_append output L.excluded_output 7 (bound_steps P ++ nonzero_steps P) (mark_steps P) second_written
+        ∙ ap (λ (xs : List Step). stored output 7 (steps_bytes xs)) in_order
 
     own_length : length (own P) ≡ 7 + 7 * length (solution P)
     unfolding own
@@ -156,7 +191,7 @@ module _ {c h : List ℕ} {z : Sizes} (K : Taking c h z) where
           written =
               w
               ∙ ap (λ (k : ℕ). stored output₂ 0 (header_bytes k)) steps_counted
-              ∙ header_written output output₂ (solution P) both_written room
+              ∙ header_written output output₂ (solution P) all_written room
               ∙ ap (λ (k : ℕ). encoded (solution P) ++ drop k output) (sym own_length)
               ∙ sym (output_on output U ∙ ap (λ (b : Bool). left_by (ask b 25 0 (given (solved P T))) P output) fits);
         }
@@ -172,12 +207,24 @@ pub bounds_few : {c : List ℕ} {z : Sizes} {S S' : Standing} {output output' : 
     → ((f : ℕ → ℕ) → Lowered (laws.given (circuit_of c) f) S S' output output' count) → count ≤ z.n
 bounds_few {c} {z} {S = S} Z L =
     let P = laws.given (circuit_of c) (largest z.p) in
-    omega (arith, (L (largest z.p)).counted, turns_short (bound_phase P) P.n none_done S (reached_start P S), Z.is_n)
+    omega (arith, (L (largest z.p)).counted, turns_short (bound_phase P) P.n none_of S (reached_start P S), Z.is_n)
 
--- both phases, one on what the other left
-pub both_taken : {P : Problem} {S S₁ S₂ : Standing} {output output₁ output₂ : List ℕ} {base steps : ℕ} → Lowered P S S₁ output output₁ base
-    → Marked P S₁ S₂ output₁ output₂ base steps → Taken P S S₂ output output₂ steps
-both_taken L M = record { middle = _; half = _; base = _; lowered = L; marked = M }
+-- the phases, each on what the one before it left
+pub all_taken : {P : Problem} {S S₁ S₂ S₃ : Standing} {output output₁ output₂ output₃ : List ℕ} {base before steps : ℕ}
+    → Lowered P S S₁ output output₁ base → Excluded P S₁ S₂ output₁ output₂ base before → Marked P S₂ S₃ output₂ output₃ before steps
+    → Taken P S S₃ output output₃ steps
+all_taken L E M =
+    record {
+      bounded = _;
+      excluded = _;
+      lowered_output = _;
+      excluded_output = _;
+      lowerings = _;
+      before_marks = _;
+      lowers = L;
+      excludes = E;
+      marks = M;
+    }
 
 -- what making the table asks, of arrays of the call's own
 module _ {c : List ℕ} {z : Sizes} (Z : Sized c z) where

@@ -43,17 +43,17 @@ use Rattle.solver.proofs.KeySearch.{constraint_here, row_here, zeroth, nonzeroth
 
 -- What is kept in a list
 
-module _ {C : Circuit} {b : ℕ → ℕ} {q : ℕ → Bool} where
-  pub no_keys : (size : ℕ) → MarkKeys C b q (replicate size None)
+module _ {C : Circuit} {b : ℕ → ℕ} {q nz : ℕ → Bool} where
+  pub no_keys : (size : ℕ) → MarkKeys C b q nz (replicate size None)
   no_keys size = record { each = λ k l o. inl (get_d_repeated size k None) }
 
-  module _ {kept : List (Option (Option Candidate))} (M : MarkKeys C b q kept) where
+  module _ {kept : List (Option (Option Candidate))} (M : MarkKeys C b q nz kept) where
     -- where a signal is marked, keys are forgotten, but for constraints that don't name it, whose keys and references stay
-    pub keys_kept : (u : ℕ) → 0 < C.p → {after : List (Option (Option Candidate))} → Forgotten C u kept after → MarkKeys C b (add q u) after
+    pub keys_kept : (u : ℕ) → 0 < C.p → {after : List (Option (Option Candidate))} → Forgotten C u kept after → MarkKeys C b (add q u) nz after
     keys_kept u pos {after} G = record { each = each }
       where
         each : (k : ℕ) → 1 ≤ k → k ≤ C.m
-            → (get_or after k None ≡ None) ⊎ Known C.p C.n (constraint_at C k) b (add q u) (mark_keys after k) (mark_references after k)
+            → (get_or after k None ≡ None) ⊎ Known C.p C.n (constraint_at C k) b (add q u) nz (mark_keys after k) (mark_references after k)
         each k l h =
             ⊎_elim inl
             (λ w.
@@ -68,7 +68,7 @@ module _ {C : Circuit} {b : ℕ → ℕ} {q : ℕ → Bool} where
     -- something was known already, or is found and stored
     pub looked_by : {Q : Option Candidate → Type 0} (k : ℕ) → 1 ≤ k → k ≤ C.m → k < length kept → (found : Option Candidate)
         → {after : List (Option (Option Candidate))} → LookedUp Q k found kept after
-        → (Q found → Known C.p C.n (constraint_at C k) b q (found_key found) (found_reference found)) → Looked C b q k found kept after
+        → (Q found → Known C.p C.n (constraint_at C k) b q nz (found_key found) (found_reference found)) → Looked C b q nz k found kept after
     looked_by k l h room found (was.kept e) new =
         record {
           known = ⊎_elim (λ z. cc) (λ N. rw e at N) (M.each k l h);
@@ -84,13 +84,13 @@ module _ {C : Circuit} {b : ℕ → ℕ} {q : ℕ → Bool} where
           sized = length-set kept k (Some found);
         }
 
-    pub looked_keys : {k : ℕ} {found : Option Candidate} {after : List (Option (Option Candidate))} → Looked C b q k found kept after → MarkKeys C b q after
+    pub looked_keys : {k : ℕ} {found : Option Candidate} {after : List (Option (Option Candidate))} → Looked C b q nz k found kept after → MarkKeys C b q nz after
     looked_keys {k} L =
         record { each = λ j l h. by_equal j k (λ e. inr (rw (e, L.here) L.known)) (λ d. rw (L.others j d) (M.each j l h)) }
 
   -- once more, since what is known is in range
-  pub looked_then : {k : ℕ} {found found' : Option Candidate} {kept after : List (Option (Option Candidate))} → Looked C b q k found kept after
-      → Known C.p C.n (constraint_at C k) b q (found_key found') (found_reference found') → Looked C b q k found' kept (set after k (Some found'))
+  pub looked_then : {k : ℕ} {found found' : Option Candidate} {kept after : List (Option (Option Candidate))} → Looked C b q nz k found kept after
+      → Known C.p C.n (constraint_at C k) b q nz (found_key found') (found_reference found') → Looked C b q nz k found' kept (set after k (Some found'))
   looked_then {k} {found} {found'} {kept} {after} L N =
       record {
         known = N;
@@ -105,10 +105,10 @@ module _ {C : Circuit} {b : ℕ → ℕ} {q : ℕ → Bool} where
 -- From the part of constraint k to the constraint
 module _ {c table ends : List ℕ} {rows : List Entry} {z : Sizes} (D : Prepared c table ends rows z) {k : ℕ} (first : 1 ≤ k) (last : k ≤ z.m)
     {row : List Entry} (is_row : row ≡ row_of table ends rows k) where
-  pub known_here : {part : List ℕ} → part ≡ part_of c table k → {b : ℕ → ℕ} {q : ℕ → Bool} {key : ℕ} {reference : Option ℕ}
+  pub known_here : {part : List ℕ} → part ≡ part_of c table k → {b : ℕ → ℕ} {q nz : ℕ → Bool} {key : ℕ} {reference : Option ℕ}
       → ((p n : ℕ) (b : ℕ → ℕ) → 0 < p → WellFormedConstraint n p (constraint_in part) → Row p n (constraint_in part) row
-      → Known p n (constraint_in part) b q key reference)
-      → Known (circuit_of c).p (circuit_of c).n (constraint_at (circuit_of c) k) b q key reference
+      → Known p n (constraint_in part) b q nz key reference)
+      → Known (circuit_of c).p (circuit_of c).n (constraint_at (circuit_of c) k) b q nz key reference
   known_here is-part {b} f =
       let Z = D.sized in
       let same = constraint_here D first last is-part in
@@ -165,8 +165,8 @@ module _ {p : ℕ} {row : List Entry} {bounds : List ℕ} {marks : List Bool} {f
 -- The walk over the constraints
 
 -- the lowest step so far, of the zero steps and of the constraints up to k; x is the key of the zero steps
-pub record Sweeping (C : Circuit) (b : ℕ → ℕ) (q : ℕ → Bool) (x k : ℕ) (lowest : Option Choice) (kept : List (Option (Option Candidate))) : Type 0 where
-  pub swept : Swept C b q x k (place_of lowest) kept
+pub record Sweeping (C : Circuit) (b : ℕ → ℕ) (q nz : ℕ → Bool) (x k : ℕ) (lowest : Option Choice) (kept : List (Option (Option Candidate))) : Type 0 where
+  pub swept : Swept C b q nz x k (place_of lowest) kept
   pub is_lowest : least_of lowest ≡ with_zeroth x (mark_keys kept) (place_of lowest)
   pub by_one : 1 ≤ place_of lowest → reference_of lowest ≡ reference_in (mark_references kept (place_of lowest))
   pub by_none : place_of lowest ≡ 0 → reference_of lowest ≡ 0
@@ -176,8 +176,8 @@ all_small : (lowest : Option Choice) → AllNarrow lowest → least_of lowest �
 all_small None N = omega arith
 all_small (Some choice) N = omega (arith, key_small N)
 
-pub sweeping_start : {C : Circuit} {b : ℕ → ℕ} {q : ℕ → Bool} {kept : List (Option (Option Candidate))} {lowest : Option Choice} → MarkKeys C b q kept
-    → ZeroStep C.n b q lowest → Sweeping C b q (least_of lowest) 0 lowest kept
+pub sweeping_start : {C : Circuit} {b : ℕ → ℕ} {q nz : ℕ → Bool} {kept : List (Option (Option Candidate))} {lowest : Option Choice} → MarkKeys C b q nz kept
+    → ZeroStep C.n b q lowest → Sweeping C b q nz (least_of lowest) 0 lowest kept
 sweeping_start {lowest = lowest} M Z =
     record {
       swept = record { known = M; zeros = Z.first; least = rw Z.place (least_start _); exact = λ l. absurd (omega (arith, Z.place)) };
@@ -188,10 +188,10 @@ sweeping_start {lowest = lowest} M Z =
     }
 
 -- constraint i, the next, is looked at
-module _ {C : Circuit} {b : ℕ → ℕ} {q : ℕ → Bool} {x k : ℕ} {lowest : Option Choice} {kept : List (Option (Option Candidate))}
-    (W : Sweeping C b q x k lowest kept) {i : ℕ} (is_i : i ≡ k + 1) where
-  module _ {found : Option Candidate} {after : List (Option (Option Candidate))} (looks : MarkKeys C b q kept → Looked C b q i found kept after) where
-    R : Looked C b q i found kept after
+module _ {C : Circuit} {b : ℕ → ℕ} {q nz : ℕ → Bool} {x k : ℕ} {lowest : Option Choice} {kept : List (Option (Option Candidate))}
+    (W : Sweeping C b q nz x k lowest kept) {i : ℕ} (is_i : i ≡ k + 1) where
+  module _ {found : Option Candidate} {after : List (Option (Option Candidate))} (looks : MarkKeys C b q nz kept → Looked C b q nz i found kept after) where
+    R : Looked C b q nz i found kept after
     R = looks W.swept.known
 
     earlier : (j : ℕ) → j ≤ k → get_or after j None ≡ get_or kept j None
@@ -204,7 +204,7 @@ module _ {C : Circuit} {b : ℕ → ℕ} {q : ℕ → Bool} {x k : ℕ} {lowest 
     here = nonzeroth x (mark_keys after) i (omega arith) ∙ ap known_key R.here
 
     -- it has no step that is lower
-    pub sweeping_on : least_of lowest ≤ found_key found → Sweeping C b q x i lowest after
+    pub sweeping_on : least_of lowest ≤ found_key found → Sweeping C b q nz x i lowest after
     sweeping_on l =
         let r = place_of lowest in
         let stays = earlier r W.swept.least.within in
@@ -222,14 +222,14 @@ module _ {C : Circuit} {b : ℕ → ℕ} {q : ℕ → Bool} {x k : ℕ} {lowest 
           narrow = W.narrow;
         }
 
-    pub sweeping_none : found ≡ None → Sweeping C b q x i lowest after
+    pub sweeping_none : found ≡ None → Sweeping C b q nz x i lowest after
     sweeping_none e = sweeping_on (rw e (all_small lowest W.narrow))
 
-  module _ {candidate : Candidate} {after : List (Option (Option Candidate))} (looks : MarkKeys C b q kept → Looked C b q i (Some candidate) kept after) where
+  module _ {candidate : Candidate} {after : List (Option (Option Candidate))} (looks : MarkKeys C b q nz kept → Looked C b q nz i (Some candidate) kept after) where
     -- it has an exact step, which is lower
-    pub sweeping_new : FirstKey (MarksBy C.p C.n (constraint_at C i) b q) (found_key (Some candidate)) (reference_in candidate.reference) → {key : Key}
+    pub sweeping_new : FirstKey (MarksBy C.p C.n (constraint_at C i) b q nz) (found_key (Some candidate)) (reference_in candidate.reference) → {key : Key}
         → key_in key ≡ found_key (Some candidate) → key_in key < least_of lowest → Narrow key → {r : ℕ} → r ≡ reference_in candidate.reference
-        → Sweeping C b q x i (Some (record { key = key; constraint = i; reference = r })) after
+        → Sweeping C b q nz x i (Some (record { key = key; constraint = i; reference = r })) after
     sweeping_new F e l narrow is_r =
         let here_is = here looks in
         record {
@@ -247,35 +247,35 @@ module _ {C : Circuit} {b : ℕ → ℕ} {q : ℕ → Bool} {x k : ℕ} {lowest 
         }
 
 -- constraint k + 1 has a loose step, which its row makes exact
-module _ {c table ends : List ℕ} {rows : List Entry} {z : Sizes} (D : Prepared c table ends rows z) (bounds : List ℕ) (marks : List Bool) {x k : ℕ}
-    {lowest : Option Choice} {kept : List (Option (Option Candidate))} (W : Sweeping (circuit_of c) (bound_in z.p bounds) (mark_in marks) x k lowest kept)
+module _ {c table ends : List ℕ} {rows : List Entry} {z : Sizes} (D : Prepared c table ends rows z) (bounds : List ℕ) (marks : List Bool) {nz : ℕ → Bool} {x k : ℕ}
+    {lowest : Option Choice} {kept : List (Option (Option Candidate))} (W : Sweeping (circuit_of c) (bound_in z.p bounds) (mark_in marks) nz x k lowest kept)
     (more : k < z.m) {row : List Entry} (is_row : row ≡ row_of table ends rows (k + 1)) {candidate : Candidate} {after : List (Option (Option Candidate))}
-    (looks : MarkKeys (circuit_of c) (bound_in z.p bounds) (mark_in marks) kept
-    → Looked (circuit_of c) (bound_in z.p bounds) (mark_in marks) (k + 1) (Some candidate) kept after)
+    (looks : MarkKeys (circuit_of c) (bound_in z.p bounds) (mark_in marks) nz kept
+    → Looked (circuit_of c) (bound_in z.p bounds) (mark_in marks) nz (k + 1) (Some candidate) kept after)
     (is_loose : (kind_of candidate.kind ≡ Digits) × (candidate.reference ≡ None)) where
   L : Loose (circuit_of c).p (circuit_of c).n (constraint_at (circuit_of c) (k + 1)) (mark_in marks) (found_key (Some candidate))
   L = known_loose _ _ refl is_loose (looks W.swept.known).known
 
   none_left : ((n : ℕ) (K : Constraint) → Prime z.p → Row z.p n K row → FirstReference z.p n (reduced z.p K) (bound_in z.p bounds) (mark_in marks) 0)
-      → Sweeping (circuit_of c) (bound_in z.p bounds) (mark_in marks) x (k + 1) lowest (set after (k + 1) (Some None))
+      → Sweeping (circuit_of c) (bound_in z.p bounds) (mark_in marks) nz x (k + 1) lowest (set after (k + 1) (Some None))
   none_left f =
       sweeping_none W refl {found = None}
       (λ M. looked_then (looks M) (exact (loose_none L (first_here D (omega arith) (omega arith) is_row f) refl))) refl
 
   -- nothing separates its unmarked signals
   pub loose_hopeless : Hopeless z.p row bounds marks
-      → Sweeping (circuit_of c) (bound_in z.p bounds) (mark_in marks) x (k + 1) lowest (set after (k + 1) (Some None))
+      → Sweeping (circuit_of c) (bound_in z.p bounds) (mark_in marks) nz x (k + 1) lowest (set after (k + 1) (Some None))
   loose_hopeless H = none_left (hopeless_none _ _ _ _ H)
 
   module _ {few : Few} {i : ℕ} (T : Searching z.p row bounds marks few i) where
     -- none of its references does
-    pub loose_tried : entries row ≤ i → Sweeping (circuit_of c) (bound_in z.p bounds) (mark_in marks) x (k + 1) lowest (set after (k + 1) (Some None))
+    pub loose_tried : entries row ≤ i → Sweeping (circuit_of c) (bound_in z.p bounds) (mark_in marks) nz x (k + 1) lowest (set after (k + 1) (Some None))
     loose_tried h = none_left (searched T h)
 
     -- the signal of entry i does
     pub loose_found : i < entries row → {t : Bool} → Told z.p row bounds marks few i t → t ≡ true → {key : Key} → key_in key ≡ found_key (Some candidate)
         → key_in key < least_of lowest → Narrow key → {r : ℕ} → r ≡ signal_on row i
-        → Sweeping (circuit_of c) (bound_in z.p bounds) (mark_in marks) x (k + 1) (Some (record { key = key; constraint = k + 1; reference = r }))
+        → Sweeping (circuit_of c) (bound_in z.p bounds) (mark_in marks) nz x (k + 1) (Some (record { key = key; constraint = k + 1; reference = r }))
         (set after (k + 1) (Some (Some (record { target = candidate.target; kind = candidate.kind; reference = Some r }))))
     loose_found left tells t {key} e l narrow {r} is_r =
         let F = loose_exact L (first_here D (omega arith) (omega arith) is_row (found T left tells t)) (entry_some D (omega arith) (omega arith) is_row T.some left) in

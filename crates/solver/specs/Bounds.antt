@@ -1,14 +1,10 @@
 -- What the bounds phase keeps of each constraint: the one step by which it lowers a bound, as a key. Keys are compared as numbers.
 -- How the solver runs, not what it means.
-use Rattle.std.specs.Prelude.{ℕ, ◌+◌, ◌*◌, ◌≤◌, ◌<◌, ◌≡◌, Bool, true, false, cond, eqb, List, ◌⊎◌, length, get_or, Option, None, Some}
+use Rattle.std.specs.Prelude.{ℕ, ◌+◌, ◌*◌, ◌≤◌, ◌<◌, ◌≡◌, true, cond, eqb, List, ◌⊎◌, length, get_or, Option, None, Some}
 use Rattle.circuit.specs.Circuit.{Circuit, Constraint, constraint_at}
-use Rattle.laws.specs.Problem.{Problem}
-use Rattle.laws.specs.Standing.{Standing, at_most}
-use Rattle.laws.specs.Step.{Kind, kind_number, Rule, rule, replay}
-use Rattle.laws.specs.Solver.{best_bound, turns}
+use Rattle.laws.specs.Standing.{Standing, at_most, none_of}
+use Rattle.laws.specs.Step.{Kind, kind_number, Rule, rule}
 use Rattle.rules.specs.Promise.{kind_of}
-use Rattle.derivation.specs.Steps.{head_size}
-use Rattle.derivation.specs.Encoded.{steps_bytes, stored}
 use Rattle.solver.specs.declared.keys.Key.{Key}
 use Rattle.solver.specs.declared.keys.Choice.{Choice}
 
@@ -69,12 +65,9 @@ pub data Lower (lowest : Option Choice) (k : ℕ) : Option Key → Option Choice
 unfoldable pub with_zeroth : ℕ → (ℕ → ℕ) → ℕ → ℕ
 with_zeroth x keys k = cond (eqb k 0) x (keys k)
 
-unfoldable pub unmarked : ℕ → Bool
-unmarked s = false
-
 -- bounds alone as a standing: the rules that give bounds ask for no marks
 abbrev pub bounds_only : (ℕ → ℕ) → Standing
-bounds_only b = record { bound = b; marked = unmarked }
+bounds_only b = record { bound = b; marked = none_of; nonzero = none_of }
 
 -- the rule of a kind by one constraint, over bounds alone
 abbrev pub rule_by : ℕ → ℕ → Constraint → (ℕ → ℕ) → Kind → ℕ → Rule
@@ -126,11 +119,3 @@ pub record Least (keys : ℕ → ℕ) (m r : ℕ) : Type 0 where
   pub within : r ≤ m
   pub least : (k : ℕ) → k ≤ m → keys r ≤ keys k
   pub first : (k : ℕ) → k < r → keys r < keys k
-
--- What the phase asks and leaves
-
--- Rule 5.1: the phase's steps from S on, written, counted and taken
-pub record Lowered (P : Problem) (S S' : Standing) (output output' : List ℕ) (count : ℕ) : Type 0 where
-  pub reached : S' ≡ replay P S (turns (best_bound P) P P.n S)
-  pub counted : count ≡ length (turns (best_bound P) P P.n S)
-  pub written : output' ≡ stored output head_size (steps_bytes (turns (best_bound P) P P.n S))

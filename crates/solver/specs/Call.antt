@@ -28,9 +28,9 @@ reached P = replay P (start P) (solution P)
 unfoldable pub solved : Problem → Sheet → Solved
 solved P T = record { judgement = judged P T (reached P); bytes = length (own P) }
 
--- the room that refusal 25 asks for: the header, and two steps for each of n signals
+-- the room that refusal 25 asks for: the header, and three steps for each of n signals
 abbrev pub room_for : ℕ → ℕ
-room_for n = 7 + 14 * n
+room_for n = 7 + 21 * n
 
 -- Refusal 25, and then the answer; room is the length of the output buffer.
 unfoldable pub solver_on : Problem → Sheet → ℕ → Answer Solved

@@ -4,7 +4,9 @@ pub mod Search
 pub mod Kept
 pub mod Bounds
 pub mod Marks
+pub mod Nonzeros
 pub mod Choice
+pub mod Phases
 pub mod Call
 pub mod Answer
 pub mod Demand

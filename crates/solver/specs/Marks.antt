@@ -1,8 +1,8 @@
 -- What the marks phase keeps of each constraint: its first step that marks an unmarked signal, as a key. How the solver runs, not what it means.
 use Rattle.std.specs.Prelude.{ℕ, ◌≤◌, ◌≡◌, Bool, true, false, not, ◌&&◌, List, ◌⊎◌, length, get_or, Option, None, Some}
 use Rattle.circuit.specs.Circuit.{Circuit, Constraint, constraint_at}
-use Rattle.laws.specs.Rules.{linear, reduced, zero_met, product_met, digits_met}
-use Rattle.laws.specs.Step.{Kind, Zero, Product, Digits, kind_number}
+use Rattle.laws.specs.Rules.{linear, reduced, zero_met, product_met, digits_met, quotient_met}
+use Rattle.laws.specs.Step.{Kind, Zero, Product, Digits, Quotient, kind_number}
 use Rattle.rules.specs.Promise.{kind_of}
 use Rattle.rules.specs.Weights.{LowestLive}
 use Rattle.solver.specs.Bounds.{key_of, no_key, least_of, place_of, reference_of, AllNarrow, with_zeroth, Least}
@@ -17,10 +17,11 @@ pub record Unmarked (m : ℕ → Bool) (n t : ℕ) : Type 0 where
   pub most : t ≤ n
   pub free : m t ≡ false
 
--- a step of this kind by the constraint marks t, with reference r
-pub data MarksBy (p n : ℕ) (K : Constraint) (b : ℕ → ℕ) (m : ℕ → Bool) : Kind → ℕ → ℕ → Type 0 where
-  product : {t : ℕ} → Unmarked m n t → product_met K m t ≡ true → MarksBy p n K b m Product t 0
-  digits : {t r : ℕ} → Unmarked m n t → 1 ≤ r → r ≤ n → digits_met p n K b m t r ≡ true → MarksBy p n K b m Digits t r
+-- a step of this kind by the constraint marks t, with reference r; nz are the nonzero marks, which stay in this phase
+pub data MarksBy (p n : ℕ) (K : Constraint) (b : ℕ → ℕ) (m nz : ℕ → Bool) : Kind → ℕ → ℕ → Type 0 where
+  product : {t : ℕ} → Unmarked m n t → product_met K m t ≡ true → MarksBy p n K b m nz Product t 0
+  digits : {t r : ℕ} → Unmarked m n t → 1 ≤ r → r ≤ n → digits_met p n K b m t r ≡ true → MarksBy p n K b m nz Digits t r
+  quotient : {t r : ℕ} → Unmarked m n t → 1 ≤ r → r ≤ n → quotient_met K m nz t r ≡ true → MarksBy p n K b m nz Quotient t r
 
 -- .. by no constraint
 pub data MarksZero (n : ℕ) (b : ℕ → ℕ) (m : ℕ → Bool) : Kind → ℕ → ℕ → Type 0 where
@@ -73,9 +74,9 @@ reference_in None = 0
 reference_in (Some r) = r
 
 -- what is kept of a constraint where something is known; there is no reference while the key is loose
-pub data Known (p n : ℕ) (K : Constraint) (b : ℕ → ℕ) (m : ℕ → Bool) (key : ℕ) (reference : Option ℕ) : Type 0 where
-  loose : reference ≡ None → Loose p n K m key → Known p n K b m key reference
-  exact : FirstKey (MarksBy p n K b m) key (reference_in reference) → Known p n K b m key reference
+pub data Known (p n : ℕ) (K : Constraint) (b : ℕ → ℕ) (m nz : ℕ → Bool) (key : ℕ) (reference : Option ℕ) : Type 0 where
+  loose : reference ≡ None → Loose p n K m key → Known p n K b m nz key reference
+  exact : FirstKey (MarksBy p n K b m nz) key (reference_in reference) → Known p n K b m nz key reference
 
 -- What is kept of the constraints
 
@@ -103,25 +104,25 @@ abbrev pub mark_references : List (Option (Option Candidate)) → ℕ → Option
 mark_references kept k = known_reference (get_or kept k None)
 
 -- what is found of constraint k
-abbrev pub IsKnown : Circuit → (ℕ → ℕ) → (ℕ → Bool) → ℕ → Option Candidate → Type 0
-IsKnown C b m k found = Known C.p C.n (constraint_at C k) b m (found_key found) (found_reference found)
+abbrev pub IsKnown : Circuit → (ℕ → ℕ) → (m nz : ℕ → Bool) → ℕ → Option Candidate → Type 0
+IsKnown C b m nz k found = Known C.p C.n (constraint_at C k) b m nz (found_key found) (found_reference found)
 
 -- what is known of each constraint of which something is
-pub record MarkKeys (C : Circuit) (b : ℕ → ℕ) (m : ℕ → Bool) (kept : List (Option (Option Candidate))) : Type 0 where
+pub record MarkKeys (C : Circuit) (b : ℕ → ℕ) (m nz : ℕ → Bool) (kept : List (Option (Option Candidate))) : Type 0 where
   pub each : (k : ℕ) → 1 ≤ k → k ≤ C.m
-      → (get_or kept k None ≡ None) ⊎ Known C.p C.n (constraint_at C k) b m (mark_keys kept k) (mark_references kept k)
+      → (get_or kept k None ≡ None) ⊎ Known C.p C.n (constraint_at C k) b m nz (mark_keys kept k) (mark_references kept k)
 
 -- constraint k has been looked at: something is known of it, and what is known of the others is as before
-pub record Looked (C : Circuit) (b : ℕ → ℕ) (m : ℕ → Bool) (k : ℕ) (found : Option Candidate) (before later : List (Option (Option Candidate)))
+pub record Looked (C : Circuit) (b : ℕ → ℕ) (m nz : ℕ → Bool) (k : ℕ) (found : Option Candidate) (before later : List (Option (Option Candidate)))
     : Type 0 where
-  pub known : Known C.p C.n (constraint_at C k) b m (found_key found) (found_reference found)
+  pub known : Known C.p C.n (constraint_at C k) b m nz (found_key found) (found_reference found)
   pub here : get_or later k None ≡ Some found
   pub others : (j : ℕ) → (j ≡ k → ⊥) → get_or later j None ≡ get_or before j None
   pub sized : length later ≡ length before
 
 -- constraints 1 to k have been looked at, and x is the key of the zero steps: the key at r is exact, the least, and the first of the least
-pub record Swept (C : Circuit) (b : ℕ → ℕ) (m : ℕ → Bool) (x k r : ℕ) (kept : List (Option (Option Candidate))) : Type 0 where
-  pub known : MarkKeys C b m kept
+pub record Swept (C : Circuit) (b : ℕ → ℕ) (m nz : ℕ → Bool) (x k r : ℕ) (kept : List (Option (Option Candidate))) : Type 0 where
+  pub known : MarkKeys C b m nz kept
   pub zeros : FirstKey (MarksZero C.n b m) x 0
   pub least : Least (with_zeroth x (mark_keys kept)) k r
-  pub exact : 1 ≤ r → FirstKey (MarksBy C.p C.n (constraint_at C r) b m) (mark_keys kept r) (reference_in (mark_references kept r))
+  pub exact : 1 ≤ r → FirstKey (MarksBy C.p C.n (constraint_at C r) b m nz) (mark_keys kept r) (reference_in (mark_references kept r))

@@ -7,8 +7,9 @@ ghost use Rattle.laws.specs.Standing as laws;
 ghost use Rattle.laws.specs.Solver.{best_bound};
 ghost use Rattle.rules.specs.View.{bound_in};
 ghost use Rattle.rules.specs.Promise.{view};
-ghost use Rattle.solver.specs.Bounds.{Keys, SomeKeys, IsKeyOf, Found, Lower, Lowered};
+ghost use Rattle.solver.specs.Bounds.{Keys, SomeKeys, IsKeyOf, Found, Lower};
 ghost use Rattle.solver.specs.Choice.{choice_of};
+ghost use Rattle.solver.specs.Phases.{Lowered};
 ghost use Rattle.solver.specs.Table.{circuit_in, sizes_in};
 
 use crate::keys::{Choice, Kept, Key, key_by, known, nothing};
@@ -91,7 +92,8 @@ pub(crate) fn lower_bounds(table: &Table, first: Standing, output: &mut [u8]) ->
         let Some(choice) = least_key(table, &standing.bounds, &mut keys) else {
             return Phase { standing, count };
         };
-        table.take(&mut standing, choice, output, count, &mut keys);
+        table.take(&mut standing, choice, output, count);
+        table.forget(&mut keys, choice.key.target);
     }
     Phase {
         standing,

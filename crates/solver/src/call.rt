@@ -1,4 +1,4 @@
-// The solver call: the circuit, the sheet and the buffer first, then the table of rows and the two phases, then the header and the answer.
+// The solver call: the circuit, the sheet and the buffer first, then the table of rows and the three phases, then the header and the answer.
 
 ghost use Rattle.std.specs.Prelude.{◌≡◌, ℕ, ◌+◌, ◌*◌, ◌≤◌, ◌<◌, length};
 ghost use Rattle.circuit.specs.Answer.{given, answer_by};
@@ -9,14 +9,15 @@ ghost use Rattle.derivation.specs.Inner.{judged_by};
 ghost use Rattle.solver.specs.Answer.{solved_in, paper_of};
 ghost use Rattle.solver.specs.Call.{solver_call, solver_output};
 ghost use Rattle.solver.specs.Demand.{Demand};
+ghost use Rattle.solver.specs.Phases.{Taken};
 ghost use Rattle.solver.specs.Table.{circuit_in, sizes_in};
-ghost use Rattle.solver.specs.Choice.{Taken};
 ghost use Rattle.solver.specs.Inner.{Solves};
 
 use crate::answer::{Solved, SolverAnswer};
 use crate::bounds::{Phase, lower_bounds};
 use crate::links::Link;
 use crate::marks::add_marks;
+use crate::nonzeros::exclude_zeros;
 use crate::table::{Table, make_table};
 use circuit::file::Constraints;
 use circuit::refusal::{Reason, Refusal};
@@ -38,14 +39,15 @@ fn told(tagged: &Tagged, last: &Standing, steps: u32) -> Solved
     }
 }
 
-// The bounds phase, then the marks phase. Steps are written as they are found.
+// The bounds phase, then that of nonzero marks, then the marks phase. Steps are written as they are found.
 fn take_phases(table: &Table, first: Standing, output: &mut [u8]) -> Phase
     requires { (s : ℕ) → (view (sizes_in table.now).p first).bound s < (sizes_in table.now).p }
     ensures { (f : ℕ → ℕ) → Taken (laws.given (circuit_in table.now) f) (view (sizes_in table.now).p first)
         (view (sizes_in table.now).p result.standing) output.old output.new result.count }
 {
     let bounded = lower_bounds(table, first, output);
-    add_marks(table, bounded, output)
+    let excluded = exclude_zeros(table, bounded, output);
+    add_marks(table, excluded, output)
 }
 
 // The call past its refusals, with room for `N` entries of rows, which are enough. The answer is certain, so steps are written as they are found, the
@@ -54,7 +56,7 @@ fn take_phases(table: &Table, first: Standing, output: &mut [u8]) -> Phase
 fn solve_within<const N: usize>(tagged: &Tagged, output: &mut [u8]) -> Solved
     requires enough { places (length tagged.now.file.bytes.now) tagged.now.file.sizes.m ≤ N }
     requires few { N < 65536 }
-    requires room { 7 + 14 * tagged.now.file.sizes.n ≤ length output.old }
+    requires room { 7 + 21 * tagged.now.file.sizes.n ≤ length output.old }
     ensures { Solves tagged.now.file.bytes.now tagged.now.sheet.now output.old (given (solved_in result)) output.new }
 {
     let file = tagged.file;
@@ -84,7 +86,7 @@ fn solved(circuit: &[u8], sheet: &[u8], output: &mut [u8]) -> Result<Solved, Ref
 {
     let tagged = Tagged::read(circuit, sheet)?;
     let file = tagged.file;
-    if output.len() < derivation_size(2 * file.sizes.n) {
+    if output.len() < derivation_size(3 * file.sizes.n) {
         return Err(Reason::OutputRoom.at(0));
     }
     if places(file.bytes.len(), file.sizes.m) <= FEW_ENTRIES {

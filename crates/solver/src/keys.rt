@@ -18,7 +18,7 @@ use rules::standing::Kind;
 use rules::sums::lowering_sum;
 use rules::view::bound_at;
 
-// What orders the steps of a phase: the new bound, which is 0 for a mark, the target, the kind.
+// What orders the steps of a phase: the new bound, which is 0 for a mark of either sort, the target, the kind.
 #[derive(Clone, Copy, Debug, PartialEq, Eq, PartialOrd, Ord)]
 pub(crate) struct Key {
     pub bound: u32,
@@ -58,7 +58,7 @@ pub(crate) fn known<T: Copy, F: Fn() -> Option<T>>(
 
 // A step that a phase takes: its key, its constraint, 0 for a zero step, and its reference, 0 where its kind has none.
 // Stays: 0 where there is none, as the step's bytes have it (rule 2.2); an Option would be opened to 0 by its one reader. And no derivation's `Step`: what
-// finds targets gives 32 bits, so each of the four places that make a choice would cast its target and prove that it fits, and not `take` alone.
+// finds targets gives 32 bits, so each of the five places that make a choice would cast its target and prove that it fits, and not `take` alone.
 #[derive(Clone, Copy, Debug, PartialEq, Eq)]
 pub(crate) struct Choice {
     pub key: Key,

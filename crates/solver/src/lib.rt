@@ -1,4 +1,4 @@
-// The solver call: the table of rows, the two phases, and the whole.
+// The solver call: the table of rows, the three phases, and the whole.
 
 #![tactic(auto)]
 
@@ -9,5 +9,6 @@ mod keys;
 mod links;
 mod marking;
 mod marks;
+mod nonzeros;
 mod search;
 mod table;

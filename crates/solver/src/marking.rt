@@ -16,7 +16,7 @@ ghost use Rattle.solver.specs.Choice.{choice_of};
 ghost use Rattle.solver.specs.Table.{circuit_in, sizes_in};
 
 use crate::keys::{Choice, Kept, Key, known};
-use crate::search::product_target;
+use crate::search::{divisor_beside, lone_entry};
 use crate::table::Table;
 use circuit::reader::Sizes;
 use rules::added::DigitTerms;
@@ -91,11 +91,12 @@ fn zero_step(standing: &Standing, sizes: Sizes) -> Option<Choice>
     })
 }
 
-// The step of a constraint, loose if it is linear: at the lowest unmarked signal with a coefficient. Another has at most a product step.
-fn low_step(part: &[u8], row: &[Entry], marks: &[bool]) -> Option<Candidate>
+// The step of a constraint, loose if it is linear: at the lowest unmarked signal with a coefficient. Another has at most one step, product or quotient, at
+// the one unmarked signal.
+fn low_step(part: &[u8], row: &[Entry], marks: &[bool], nonzeros: &[bool]) -> Option<Candidate>
     ensures { (p n : ℕ) (b : ℕ → ℕ) → 0 < p → WellFormedConstraint n p (constraint_in part.now)
         → Row p n (constraint_in part.now) row.now
-        → Known p n (constraint_in part.now) b (mark_in marks.now) (found_key result) (found_reference result) }
+        → Known p n (constraint_in part.now) b (mark_in marks.now) (mark_in nonzeros.now) (found_key result) (found_reference result) }
 {
     if is_linear(part) {
         let lowest = first_live(row, marks)?;
@@ -105,31 +106,42 @@ fn low_step(part: &[u8], row: &[Entry], marks: &[bool]) -> Option<Candidate>
             reference: None,
         });
     }
-    let target = product_target(row, marks)?;
+    let lone = lone_entry(row, marks)?;
+    let target = u32::from(lone.signal);
+    if lone.forms == Entry::IN_C {
+        return Some(Candidate {
+            target,
+            kind: Kind::Product,
+            reference: None,
+        });
+    }
+    let divisor = divisor_beside(part, lone.forms, nonzeros)?;
     Some(Candidate {
         target,
-        kind: Kind::Product,
-        reference: None,
+        kind: Kind::Quotient,
+        reference: Some(divisor),
     })
 }
 
-// What is known of constraint k. Where nothing was: a loose step if it is linear, else its product step, or none.
+// What is known of constraint k. Where nothing was: a loose step if it is linear, else its product or quotient step, or none.
 fn look_at(
     table: &Table,
     marks: &[bool],
+    nonzeros: &[bool],
     kept: &mut [Kept<Candidate>; 513],
     k: u32,
 ) -> Option<Candidate>
     requires { (1 ≤ k) × (k ≤ (sizes_in table.now).m) }
-    ensures { (b : ℕ → ℕ) → MarkKeys (circuit_in table.now) b (mark_in marks.now) kept.old
-        → Looked (circuit_in table.now) b (mark_in marks.now) k result kept.old kept.new }
+    ensures { (b : ℕ → ℕ) → MarkKeys (circuit_in table.now) b (mark_in marks.now) (mark_in nonzeros.now) kept.old
+        → Looked (circuit_in table.now) b (mark_in marks.now) (mark_in nonzeros.now) k result kept.old kept.new }
 {
     known(
         kept,
         k,
         ||
-            ensures { 1 ≤ k → k ≤ (sizes_in table.entry.now).m → (b : ℕ → ℕ) → IsKnown (circuit_in table.entry.now) b (mark_in marks.entry.now) k result }
-        { low_step(table.part(k), table.row(k), marks) },
+            ensures { 1 ≤ k → k ≤ (sizes_in table.entry.now).m → (b : ℕ → ℕ) → IsKnown (circuit_in table.entry.now) b (mark_in marks.entry.now)
+                (mark_in nonzeros.entry.now) k result }
+        { low_step(table.part(k), table.row(k), marks, nonzeros) },
     )
 }
 
@@ -142,8 +154,10 @@ pub(crate) fn lowest_key(
     standing: &Standing,
     kept: &mut [Kept<Candidate>; 513],
 ) -> Option<Choice>
-    requires { MarkKeys (circuit_in table.now) (bound_in (sizes_in table.now).p standing.now.bounds) (mark_in standing.now.marks) kept.old }
-    ensures known { MarkKeys (circuit_in table.now) (bound_in (sizes_in table.now).p standing.now.bounds) (mark_in standing.now.marks) kept.new }
+    requires { MarkKeys (circuit_in table.now) (bound_in (sizes_in table.now).p standing.now.bounds) (mark_in standing.now.marks)
+        (mark_in standing.now.nonzeros) kept.old }
+    ensures known { MarkKeys (circuit_in table.now) (bound_in (sizes_in table.now).p standing.now.bounds) (mark_in standing.now.marks)
+        (mark_in standing.now.nonzeros) kept.new }
     ensures chosen { (f : ℕ → ℕ) → choice_of result
         ≡ first_adding laws.marks (given (circuit_in table.now) f) (view (sizes_in table.now).p standing.now) }
 {
@@ -154,7 +168,7 @@ pub(crate) fn lowest_key(
     'constraints: for passed in 0..sizes.m {
         let k = passed + 1;
         let place = k as usize;
-        let Some(candidate) = look_at(table, marks, kept, k) else {
+        let Some(candidate) = look_at(table, marks, &standing.nonzeros, kept, k) else {
             continue;
         };
         let key = candidate.key();

@@ -1,4 +1,4 @@
-// The table that both phases work on: the rows of all constraints, made once per call and linked; and how a step is taken with it.
+// The table that the phases work on: the rows of all constraints, made once per call and linked; and how a step is taken with it.
 
 ghost use Rattle.std.specs.Prelude.{◌≡◌, ◌≤◌, ◌<◌, ◌+◌, ◌*◌, length};
 ghost use Rattle.circuit.specs.Call.{circuit_of};
@@ -69,20 +69,18 @@ impl<'a> Table<'a> {
         }
     }
 
-    // Writes a step that adds as number `index`, counted from 0, takes it, and forgets what is kept of the constraints that name its target. It holds
-    // an Outcome, whose 1.3 kB it clears for each step: little beside the choice of the step, which looks at every constraint.
-    pub(crate) fn take<T: Copy>(
+    // Writes a step that adds as number `index`, counted from 0, and takes it. It holds an Outcome, whose 1.5 kB it clears for each step: little beside the
+    // choice of the step, which looks at every constraint.
+    pub(crate) fn take(
         &self,
         standing: &mut Standing,
         choice: Choice,
         output: &mut [u8],
         index: u32,
-        kept: &mut [Option<T>],
     )
-        requires { Adds (circuit_in self.now) (view (sizes_in self.now).p standing.old) (step_of choice) × (index ≤ 512) }
+        requires { Adds (circuit_in self.now) (view (sizes_in self.now).p standing.old) (step_of choice) × (index ≤ 768) }
         ensures written { output.new ≡ stored output.old (head_size + step_size * index) (step_bytes (step_of choice)) }
         ensures taken { TakenBy (circuit_in self.now) (view (sizes_in self.now).p standing.old) (step_of choice) (view (sizes_in self.now).p standing.new) }
-        ensures forgotten { Forgotten (circuit_in self.now) choice.key.target kept.old kept.new }
     {
         let key = choice.key;
         let target = key.target as u16;
@@ -103,7 +101,6 @@ impl<'a> Table<'a> {
             choice.constraint,
         );
         let row = self.row(choice.constraint);
-        self.forget(kept, key.target);
         let outcome = standing.step(
             key.kind,
             part,

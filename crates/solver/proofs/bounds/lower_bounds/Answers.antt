@@ -1,6 +1,8 @@
+-- `solver::bounds::lower_bounds`: each turn takes the step chosen.
 use Rattle.std.proofs.Common.{arith, sym, refl, ◌≡◌}
 use Rattle.rules.specs.View.{view_of}
 use Rattle.solver.specs.Choice.{step_of}
+use Rattle.solver.proofs.Adding.{fields}
 use Rattle.solver.proofs.InTable.{sized_in}
 use Rattle.solver.proofs.KeySearch.{no_keys}
 use Rattle.solver.proofs.BoundsTurn as laws
@@ -27,13 +29,20 @@ take-requires c =
       omega (arith, Z.is_n, Z.formed.n_most),
     )
 
+pub forget-requires : goal.forget-requires
+unfolding view_of
+forget-requires c =
+    let Z = sized_in c.args.table.now in
+    let x = fields Z.formed _ _ (laws.lowering_adds c.loop-count.invariant (step_of c.in-Some.choice) (λ f. sym (c.in-Some.ensures.chosen f _ refl))) in
+    (x.least, x.most)
+
 pub loop-count-preserved : goal.loop-count-preserved
 unfolding view_of
 loop-count-preserved c =
     let Z = sized_in c.args.table.now in
     let taken = c.take.ensures in
     laws.turning_next c.loop-count.invariant (step_of c.in-Some.choice) (λ f. sym (c.in-Some.ensures.chosen f _ refl)) Z.formed taken.taken (omega (arith, Z.is_n))
-    c.in-Some.ensures.known taken.written taken.forgotten
+    c.in-Some.ensures.known taken.written c.forget.ensures
 
 pub returns : goal.returns
 returns c =

@@ -1,3 +1,4 @@
+-- `solver::marking::lowest_key`: each constraint by what is known of it, a loose one by its references.
 use Rattle.std.proofs.Common.{arith, rules, refl, ◌≡◌, ◌≤◌, ◌<◌}
 use Rattle.laws.proofs.Sum.{true_or_false}
 use Rattle.rules.specs.Rows.{nothing, entry_at, signal_on}
@@ -73,4 +74,4 @@ unfolding view_of
 returns-clause-chosen c f =
     let Z = sized_in c.args.table.now in
     let all : c.constraints.passed ≡ (circuit_in c.args.table.now).m = omega (arith, Z.is_m) in
-    sweeping_choice (omega (arith, Z.formed.n_most)) (view_of c.args.table.now.constraints.now.file.sizes.p c.args.standing.now.bounds c.args.standing.now.marks) (rw all at c.constraints.invariant) f
+    sweeping_choice (omega (arith, Z.formed.n_most)) (view_of c.args.table.now.constraints.now.file.sizes.p c.args.standing.now.bounds c.args.standing.now.marks c.args.standing.now.nonzeros) (rw all at c.constraints.invariant) f

@@ -8,7 +8,7 @@ use Rattle.solver.proofs.marking.lowest_key.Given as goal
 
 abbrev pub invariant-constraints : goal.invariant-constraints
 invariant-constraints l =
-    Sweeping (circuit_in l.table) (bound_in l.table.constraints.now.file.sizes.p l.standing.bounds) (mark_in l.standing.marks) (least_of l.initial.lowest) l.passed l.lowest l.kept
+    Sweeping (circuit_in l.table) (bound_in l.table.constraints.now.file.sizes.p l.standing.bounds) (mark_in l.standing.marks) (mark_in l.standing.nonzeros) (least_of l.initial.lowest) l.passed l.lowest l.kept
 
 abbrev pub invariant-loop-i : goal.invariant-loop-i
 invariant-loop-i l =

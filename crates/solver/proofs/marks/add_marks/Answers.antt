@@ -1,6 +1,8 @@
+-- `solver::marks::add_marks`: each turn takes the step chosen.
 use Rattle.std.proofs.Common.{arith, sym, ◌≡◌}
 use Rattle.rules.specs.View.{view_of}
 use Rattle.solver.specs.Choice.{step_of}
+use Rattle.solver.proofs.Adding.{fields}
 use Rattle.solver.proofs.InTable.{sized_in}
 use Rattle.solver.proofs.SweepLaws.{no_keys}
 use Rattle.solver.proofs.MarksTurn as laws
@@ -28,13 +30,20 @@ take-requires c =
       omega (arith, c.requires, Z.is_n, Z.formed.n_most),
     )
 
+pub forget-requires : goal.forget-requires
+unfolding view_of
+forget-requires c =
+    let Z = sized_in c.args.table.now in
+    let x = fields Z.formed _ _ (laws.marking_adds c.loop-turn.invariant (step_of c.in-Some.choice) (λ f. sym (c.in-Some.ensures.chosen f))) in
+    (x.least, x.most)
+
 pub loop-turn-preserved : goal.loop-turn-preserved
 unfolding view_of
 loop-turn-preserved c =
     let Z = sized_in c.args.table.now in
     let taken = c.take.ensures in
     laws.turning_next c.loop-turn.invariant (step_of c.in-Some.choice) (λ f. sym (c.in-Some.ensures.chosen f)) Z.formed taken.taken (omega (arith, Z.is_n))
-    c.in-Some.ensures.known taken.written taken.forgotten
+    c.in-Some.ensures.known taken.written c.forget.ensures
 
 pub overflow_add-result : goal.overflow_add-result
 overflow_add-result c = let Z = sized_in c.args.table.now in record { fits = omega (arith, c.requires, Z.is_n, Z.formed.n_most) }
