@@ -18,11 +18,11 @@ use Rattle.circuit.specs.Run.{holds}
 use Rattle.circuit.specs.Runs.{first_from, satisfied_by, unsatisfied}
 use Rattle.laws.specs.Problem.{Problem, given, Names, nothing, a_constraint, equation_at}
 use Rattle.laws.specs.Rules.{names_none, linear, reduced, occurs, is_zero, names_only, root_met, sum_weight, ceiling, sum_term, sum_bound, sum_met, zero_met}
-use Rattle.laws.specs.Rules.{others_marked, product_met, live, differs, separated, digits_met}
-use Rattle.laws.specs.Solver.{solution, bound_steps, mark_steps, turns, best_bound, best_of_constraints, best_of_targets, consider, adds_by, new_bound}
+use Rattle.laws.specs.Rules.{others_marked, product_met, live, differs, separated, digits_met, single, nonzero_met, divisor, quotient_met}
+use Rattle.laws.specs.Solver.{solution, bound_steps, nonzero_steps, mark_steps, turns, best_bound, best_of_constraints, best_of_targets, consider, adds_by, new_bound}
 use Rattle.laws.specs.Solver.{precedes, first_by, first_up, try, try_references, try_kind, try_kinds, first_adding}
 use Rattle.laws.specs.Sound.{AtLeast, Closed}
-use Rattle.laws.specs.Standing.{Standing, idle, is_input, start}
+use Rattle.laws.specs.Standing.{Standing, idle, is_input, none_of, start}
 use Rattle.laws.specs.Step.{Step, names_of, refers, named, referred, in_range, within, Rule, rule, rule_of, met, change, fits, adds, replay}
 use Rattle.laws.specs.Sum.{sum, all, keep, implies}
 use Rattle.laws.proofs.Idle.{accepted_formerly}
@@ -76,8 +76,8 @@ at_lowest = given circuit_g lowest
 
 no_steps : solution at_lowest ≡ []
 unfolding names_none linear reduced occurs is_zero names_only root_met sum_weight ceiling sum_term sum_bound sum_met zero_met others_marked product_met live
-    differs separated digits_met solution bound_steps mark_steps turns best_bound best_of_constraints best_of_targets consider adds_by new_bound precedes
-    first_by first_up try try_references try_kind try_kinds first_adding is_input start in_range within rule_of met fits adds replay sum all keep implies
+    differs separated digits_met single nonzero_met divisor quotient_met solution bound_steps nonzero_steps mark_steps turns best_bound best_of_constraints best_of_targets consider adds_by new_bound precedes
+    first_by first_up try try_references try_kind try_kinds first_adding is_input none_of start in_range within rule_of met fits adds replay sum all keep implies
     constraint_at coef names opposite inverse_from inverse lowest change
 no_steps = refl
 
@@ -127,7 +127,7 @@ zero_least false x = omega arith
 
 start_below : (T : Sheet) → AtLeast (start (tagged circuit_g T)) (start at_lowest)
 unfolding start first_bound lowered lowest is_input
-start_below T = record { bounds = λ s. zero_least (is_input 1 s) _; marks = λ s e. e }
+start_below T = record { bounds = λ s. zero_least (is_input 1 s) _; marks = λ s e. e; nonzeros = λ s e. e }
 
 no_further : (T : Sheet) (d : List ℕ) → Accepted (tagged circuit_g T) T d → AtLeast (last_of (tagged circuit_g T) d) (start at_lowest)
 unfolding last_of

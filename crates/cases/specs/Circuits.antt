@@ -1,5 +1,6 @@
--- The circuits of the table: those of cases a to g (Rule 7.4), one that nothing satisfies, a copy of an input, headers alone, bits as inputs with their tags.
-use Rattle.std.specs.Prelude.{ℕ, ◌-◌, Bool, true, false, [], ◌∷◌}
+-- The circuits of the table: those of cases a to g (Rule 7.4), one that nothing satisfies, a copy of an input, headers alone, bits as inputs with their tags,
+-- and divisions (Rule 7.13).
+use Rattle.std.specs.Prelude.{ℕ, ◌-◌, Bool, true, false, List, [], ◌∷◌, ◌++◌, length}
 use Rattle.circuit.specs.Circuit.{Term, Form, Constraint, Circuit}
 use Rattle.tags.specs.Tag.{Binary, Maxbit, Maxvalue, Tag}
 
@@ -124,6 +125,85 @@ carry =
           ∷ product (one 1 ∷ []) (times 6 1 ∷ times 1 4 ∷ times 3 5 ∷ []) []
           ∷ [];
     }
+
+-- signals s and u are inverses of each other
+abbrev pub inverses : ℕ → ℕ → Constraint
+inverses s u = product (times 1 s ∷ []) (times 1 u ∷ []) (one 1 ∷ [])
+
+-- two signals, with this many inputs and outputs, over 7
+abbrev pub two : ℕ → ℕ → List Constraint → Circuit
+two i o Ks = record { p = 7; n = 2; i = i; o = o; m = length Ks; constraints = Ks }
+
+-- the inverse gadget: output 2 is the inverse of input 1; or both are outputs
+abbrev pub inverse_of : Circuit
+inverse_of = two 1 1 (inverses 1 2 ∷ [])
+
+abbrev pub inverse_free : Circuit
+inverse_free = two 0 2 (inverses 1 2 ∷ [])
+
+-- output 2 is the inverse of input 1 and equals it
+abbrev pub inverse_equal : Circuit
+inverse_equal = two 1 1 (inverses 1 2 ∷ product (one 1 ∷ []) (times 1 1 ∷ []) (times 1 2 ∷ []) ∷ [])
+
+-- one more than input 1 times output 2 is 1
+abbrev pub shifted : Circuit
+shifted = two 1 1 (product (one 1 ∷ times 1 1 ∷ []) (times 1 2 ∷ []) (one 1 ∷ []) ∷ [])
+
+-- input 1 is its own inverse
+abbrev pub own_inverse : Circuit
+own_inverse = two 1 1 (inverses 1 1 ∷ [])
+
+-- the only signal is 1
+abbrev pub only_one : Circuit
+only_one = record { p = 7; n = 1; i = 0; o = 1; m = 1; constraints = product (one 1 ∷ []) (times 1 1 ∷ []) (one 1 ∷ []) ∷ [] }
+
+-- signal 3 is the inverse of input 1, and input 1 times output 2 is output 2
+abbrev pub times_itself : Circuit
+times_itself =
+    record {
+      p = 7;
+      n = 3;
+      i = 1;
+      o = 1;
+      m = 2;
+      constraints = inverses 1 3 ∷ product (times 1 1 ∷ []) (times 1 2 ∷ []) (times 1 2 ∷ []) ∷ [];
+    }
+
+-- input 1 divided by input 2, whose inverse is signal 4: the quotient is output 3
+abbrev pub quotient_of : Circuit
+quotient_of =
+    record {
+      p = 7;
+      n = 4;
+      i = 2;
+      o = 1;
+      m = 2;
+      constraints = inverses 2 4 ∷ product (times 1 2 ∷ []) (times 1 3 ∷ []) (times 1 1 ∷ []) ∷ [];
+    }
+
+-- the same without the inverse: input 2 may be 0
+abbrev pub quotient_free : Circuit
+quotient_free =
+    record { p = 7; n = 3; i = 2; o = 1; m = 1; constraints = product (times 1 2 ∷ []) (times 1 3 ∷ []) (times 1 1 ∷ []) ∷ [] }
+
+-- twice input 2 times a form is 3, and another form times three times input 2 is a third: no coefficient is 1 where that would do
+abbrev pub wide_quotients : Circuit
+wide_quotients =
+    record {
+      p = 7;
+      n = 4;
+      i = 2;
+      o = 1;
+      m = 2;
+      constraints =
+          product (times 2 2 ∷ []) (one 1 ∷ times 1 1 ∷ times 3 4 ∷ []) (one 3 ∷ [])
+          ∷ product (one 2 ∷ times 1 1 ∷ times 5 3 ∷ []) (times 3 2 ∷ []) (times 1 1 ∷ times 4 4 ∷ [])
+          ∷ [];
+    }
+
+-- case g, the is-zero gadget, with an inverse of its input as signal 4
+abbrev pub guarded : Circuit
+guarded = record { p = 7; n = 4; i = 1; o = 1; m = 3; constraints = circuit_g.constraints ++ inverses 1 4 ∷ [] }
 
 -- tags of a sheet
 abbrev pub is_binary : ℕ → Tag

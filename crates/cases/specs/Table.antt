@@ -1,12 +1,12 @@
--- The shared table of cases a to j (Rule 7.4), of false rules that look sound (Rule 7.5), of tags (Rule 7.6), of idle steps (Rule 7.9) and of runs listed
--- (Rule 7.11): each row names a circuit's bytes, those of a sheet, the call with what is handed in, and what the rules say of it.
+-- The shared table of cases a to j (Rule 7.4), of false rules that look sound (Rule 7.5), of tags (Rule 7.6), of idle steps (Rule 7.9), of runs listed
+-- (Rule 7.11) and of divisions (Rule 7.13): each row names a circuit's bytes, those of a sheet, the call with what is handed in, and what the rules say of it.
 use Rattle.std.specs.Prelude.{ℕ, zero, suc, ◌+◌, ◌*◌, ◌-◌, true, false, List, [], ◌∷◌, ◌++◌, length, take, replicate}
 use Rattle.std.proofs.Math.Option.{none, some}
 use Rattle.circuit.specs.Circuit.{Circuit}
 use Rattle.circuit.specs.Reading.{Reading, whole, fault}
 use Rattle.circuit.specs.Reader.{read_circuit}
 use Rattle.circuit.specs.Answer.{Answer, refused, given}
-use Rattle.laws.specs.Step.{Step, Root, Sum, Zero, Product, Digits}
+use Rattle.laws.specs.Step.{Step, Root, Sum, Zero, Product, Digits, Nonzero, Quotient}
 use Rattle.laws.specs.Solver.{step}
 use Rattle.tags.specs.Tag.{Binary, Tag, tagged}
 use Rattle.tags.specs.Sheet.{sheet_of, empty_sheet}
@@ -19,6 +19,8 @@ use Rattle.solver.specs.Call as solver
 use Rattle.runs.specs.Call as runs
 use Rattle.cases.specs.Encode.{circuit_bytes, sheet_bytes, pair_bytes, one_step}
 use Rattle.cases.specs.Circuits.{circuit_a, circuit_b, circuit_c, circuit_d, circuit_e, circuit_f, circuit_g, never, copy, bare, bits, carry}
+use Rattle.cases.specs.Circuits.{inverse_of, inverse_free, inverse_equal, shifted, own_inverse, only_one, times_itself, quotient_of, quotient_free}
+use Rattle.cases.specs.Circuits.{wide_quotients, guarded}
 use Rattle.cases.specs.Circuits.{is_binary, has_bits, is_most}
 
 -- a call: reading the circuit, solving it, judging a hand-in or renewing one, the first run or the one after a given one, with so much room; or the bounds
@@ -50,9 +52,9 @@ pub record Row : Type 0 where
   pub asked : Asked
   pub said : Said
 
--- buffers of the table: 100 bytes that hold 9
+-- buffers of the table: 112 bytes that hold 9, room for a solution of five signals
 abbrev pub buffer : List ℕ
-buffer = replicate 100 9
+buffer = replicate 112 9
 
 -- .. and one for a run, of so many values
 abbrev pub room_of : ℕ → List ℕ
@@ -97,7 +99,7 @@ solved_as xs count verdict shown missed =
       judgement = record { count = count; verdict = verdict; shown = record { count = shown; missed = missed } };
       bytes = 7 + 7 * length xs;
     }))
-    (encoded xs ++ take (100 - (7 + 7 * length xs)) buffer)
+    (encoded xs ++ take (112 - (7 + 7 * length xs)) buffer)
 
 -- the solver's row for a circuit without tags
 abbrev pub solved_row : Circuit → List Step → ℕ → derivation.Verdict → Row
@@ -112,7 +114,7 @@ turned_row C d number place =
 abbrev pub judged_as : List ℕ → ℕ → derivation.Verdict → ℕ → ℕ → Said
 judged_as marks count verdict shown missed =
     judges (given (record { count = count; verdict = verdict; shown = record { count = shown; missed = missed } }))
-    (marks ++ take (100 - length marks) buffer)
+    (marks ++ take (112 - length marks) buffer)
 
 abbrev pub judged_row : Circuit → List Step → List ℕ → ℕ → derivation.Verdict → Row
 judged_row C xs marks count verdict =
@@ -120,7 +122,7 @@ judged_row C xs marks count verdict =
 
 -- steps of which these are left; the bytes after them stay 9
 abbrev pub renewed_as : List Step → Said
-renewed_as xs = renews (given (7 + 7 * length xs)) (encoded xs ++ take (100 - (7 + 7 * length xs)) buffer)
+renewed_as xs = renews (given (7 + 7 * length xs)) (encoded xs ++ take (112 - (7 + 7 * length xs)) buffer)
 
 abbrev pub renewed_row : Circuit → List Step → List Step → Row
 renewed_row C xs left = record { circuit = circuit_bytes C; sheet = empty_sheet; asked = renewing (encoded xs); said = renewed_as left }
@@ -193,6 +195,13 @@ tags_bits = is_binary 1 ∷ is_binary 2 ∷ is_binary 3 ∷ has_bits 4 3 ∷ is_
 abbrev pub steps_bits : List Step
 steps_bits = step Sum 4 1 0 ∷ step Digits 4 1 4 ∷ []
 
+-- the inverse gadget: both are nonzero, then the output is divided out
+abbrev pub both_nonzero : List Step
+both_nonzero = step Nonzero 1 1 0 ∷ step Nonzero 2 1 0 ∷ []
+
+abbrev pub steps_inverse : List Step
+steps_inverse = both_nonzero ++ step Quotient 2 1 1 ∷ []
+
 abbrev pub table : List Row
 table =
     -- a: one product step marks the output
@@ -224,8 +233,8 @@ table =
     ∷ solved_row circuit_g [] 1 Open
     -- h: one byte after c's last constraint
     ∷ read_row (circuit_bytes circuit_c ++ 0 ∷ []) (unread 10 113)
-    -- i: a step of kind 6, one with target 0, a product step by c's sum
-    ∷ turned_row circuit_a (one_step 6 2 1 0) 15 1
+    -- i: a step of kind 9, one with target 0, a product step by c's sum
+    ∷ turned_row circuit_a (one_step 9 2 1 0) 15 1
     ∷ turned_row circuit_a (one_step 4 0 1 0) 16 1
     ∷ turned_row circuit_c (one_step 4 2 4 0) 17 1
     -- .. and product steps whose only fault is that the constraint is linear, by A and by B; digits marks the output
@@ -276,9 +285,9 @@ table =
     ∷ renewed_row circuit_c steps_c steps_c
     ∷ tagged_row circuit_c (is_most 1 7 ∷ []) (renewing (encoded padded_c)) (renewed_as steps_tagged)
     ∷ tagged_row circuit_b (is_most 1 0 ∷ []) (renewing (one_step 3 1 0 0)) (renewed_as [])
-    -- .. a step that isn't met, after an idle one; and 105 bytes of which 56 would be left, but the buffer has 100
+    -- .. a step that isn't met, after an idle one; and 147 bytes of which 56 would be left, but the buffer has 112
     ∷ unrenewed_row circuit_c (step Root 2 1 0 ∷ step Root 2 1 0 ∷ step Zero 2 0 0 ∷ []) 17 3
-    ∷ unrenewed_row circuit_c (steps_c ++ steps_c) 25 0
+    ∷ unrenewed_row circuit_c (steps_c ++ steps_c ++ steps_tagged) 25 0
     -- runs of g: the first; after a satisfying run the next one, not itself; after one that satisfies nothing the next too; after the last none
     ∷ run_row circuit_g (beginning 3) (0 ∷ 1 ∷ 0 ∷ [])
     ∷ run_row circuit_g (following (0 ∷ 1 ∷ 0 ∷ []) 3) (0 ∷ 1 ∷ 1 ∷ [])
@@ -300,4 +309,34 @@ table =
     ∷ unlisted_row (bare 3 10) (beginning 9) 9 31 0
     ∷ unlisted_row (bare 65537 1) (beginning 2) 2 30 0
     ∷ unlisted_row (bare 3 11) (following [] 11) 11 30 0
+    -- division: an output that is the input's inverse; where neither is an input both stay open, and two runs say why
+    ∷ solved_row inverse_of steps_inverse 2 Fixed
+    ∷ judged_row inverse_of steps_inverse (1 ∷ 1 ∷ []) 2 Fixed
+    ∷ solved_row inverse_free both_nonzero 0 Open
+    ∷ pair_row inverse_free 2 (1 ∷ 1 ∷ []) (2 ∷ 4 ∷ [])
+    -- .. three steps for one target
+    ∷ solved_row only_one (step Sum 1 1 0 ∷ step Nonzero 1 1 0 ∷ step Digits 1 1 1 ∷ []) 1 Fixed
+    -- .. a quotient of two inputs; with other coefficients, constants and signals wherever they may stand; g, once its input has an inverse
+    ∷ solved_row quotient_of (step Nonzero 2 1 0 ∷ step Nonzero 4 1 0 ∷ step Quotient 3 2 2 ∷ step Quotient 4 1 2 ∷ []) 4 Fixed
+    ∷ solved_row wide_quotients (step Nonzero 2 1 0 ∷ step Quotient 4 1 2 ∷ step Quotient 3 2 2 ∷ []) 4 Fixed
+    ∷ solved_row guarded
+    (step Nonzero 1 3 0 ∷ step Nonzero 4 3 0 ∷ step Quotient 2 2 1 ∷ step Quotient 3 1 1 ∷ step Quotient 4 3 1 ∷ []) 4 Fixed
+    -- .. digits come before quotients, though by a higher constraint
+    ∷ solved_row inverse_equal (step Nonzero 1 1 0 ∷ step Nonzero 2 1 0 ∷ step Digits 2 2 2 ∷ []) 2 Fixed
+    -- .. nonzero: 0 is no constant other than 0, a constant beside the target is a second term
+    ∷ turned_row circuit_g (encoded (step Nonzero 1 2 0 ∷ [])) 17 1
+    ∷ turned_row shifted (encoded (step Nonzero 1 1 0 ∷ [])) 17 1
+    ∷ judged_row shifted (step Nonzero 2 1 0 ∷ []) (1 ∷ 0 ∷ []) 1 Open
+    -- .. quotient: by a reference that may be 0, and two runs that say why
+    ∷ turned_row quotient_free (encoded (step Quotient 3 1 2 ∷ [])) 17 1
+    ∷ pair_row quotient_free 3 (0 ∷ 0 ∷ 0 ∷ []) (0 ∷ 0 ∷ 1 ∷ [])
+    -- .. by one that isn't marked, that has no nonzero mark yet, that is the target; where the target is in C too, and two runs that say why
+    ∷ turned_row inverse_free (encoded (both_nonzero ++ step Quotient 2 1 1 ∷ [])) 17 3
+    ∷ turned_row inverse_of (encoded (step Quotient 2 1 1 ∷ [])) 17 1
+    ∷ turned_row own_inverse (encoded (step Nonzero 1 1 0 ∷ step Quotient 1 1 1 ∷ [])) 17 2
+    ∷ turned_row times_itself (encoded (step Nonzero 1 1 0 ∷ step Quotient 2 2 1 ∷ [])) 17 2
+    ∷ pair_row times_itself 2 (1 ∷ 0 ∷ 1 ∷ []) (1 ∷ 1 ∷ 1 ∷ [])
+    -- .. a nonzero mark given twice, and renewed once
+    ∷ turned_row inverse_of (encoded (step Nonzero 1 1 0 ∷ step Nonzero 1 1 0 ∷ [])) 29 2
+    ∷ renewed_row inverse_of (step Nonzero 1 1 0 ∷ step Nonzero 1 1 0 ∷ step Nonzero 2 1 0 ∷ step Quotient 2 1 1 ∷ []) steps_inverse
     ∷ []
