@@ -10,7 +10,7 @@ use std::time::Instant;
 use second::falling::{self, Falling};
 use second::planted::Planted;
 use second::sheet::{write_sheet, Tag, BINARY, MAXBIT, NO_TAGS};
-use second::{wide_digits, worst};
+use second::{solver, wide_digits, worst};
 
 /// One row: what is timed, and the two calls.
 struct Row {
@@ -66,7 +66,7 @@ fn signals(circuit: &[u8]) -> usize {
 
 /// The bytes that a derivation of the solver takes at most.
 fn longest(circuit: &[u8]) -> usize {
-    7 + 14 * signals(circuit)
+    solver::longest(signals(circuit))
 }
 
 /// Solving, marking the derivation, and renewing 4,096 steps, the derivation again and again.
@@ -79,8 +79,8 @@ fn solving(name: &str, circuit: &[u8], sheet: &[u8], rows: &mut Vec<Row>) {
     }
 }
 
-/// Renewing 4,096 steps, all idle but the first, which is the solver's: a product, a root and a sum over 63 signals. And a padded derivation to be marked, which
-/// is refused at its first idle step.
+/// Renewing 4,096 steps, all idle but the first, which is the solver's: a product, a root and a sum over 63 signals. And a padded derivation to be marked,
+/// which is refused at its first idle step.
 fn idle(rows: &mut Vec<Row>) {
     let decoys = worst::bits_behind_decoys();
     let wide = worst::tagged().into_iter().find(|tagged| tagged.name == "sums_over_tagged_inputs").expect("a circuit of that name");
@@ -202,7 +202,7 @@ fn growth(name: &str, timed: &[(usize, f64)]) {
 /// Solving and reading circuits of growing size, marking derivations of growing length with nothing idle, and renewing padded ones.
 fn all_growth() {
     let circuits: Vec<Vec<u8>> = [2, 4, 8].map(worst::numbers_behind_decoys).into();
-    let mut output = vec![0; 7 + 14 * 256];
+    let mut output = vec![0; solver::longest(256)];
     let mut solve = |circuit: &[u8]| shortest(|| yolqushek::solve(circuit, NO_TAGS, &mut output));
     growth("solve: bytes of the circuit", &circuits.iter().map(|circuit| (circuit.len(), solve(circuit))).collect::<Vec<_>>());
     let read = |circuit: &[u8]| shortest(|| yolqushek::read_circuit(circuit));
@@ -233,7 +233,7 @@ fn first_steps(derivation: &[u8], steps: usize) -> Vec<u8> {
 
 /// Keeps the processor busy for a second, so that the first rows find it as fast as the later ones.
 fn warm_up(circuit: &[u8]) {
-    let (start, mut output) = (Instant::now(), vec![0; 7 + 14 * 256]);
+    let (start, mut output) = (Instant::now(), vec![0; solver::longest(256)]);
     while start.elapsed().as_secs() < 1 {
         let _ = black_box(yolqushek::solve(circuit, NO_TAGS, &mut output));
     }

@@ -1,4 +1,4 @@
-//! The small circuits of document 01.
+//! The small circuits of document 01, and those of rule 7.13.
 
 use crate::writer::Draft;
 
@@ -32,4 +32,46 @@ pub fn case_f() -> Vec<u8> {
 /// Case g: x·w = 1 - y; x·y = 0.
 pub fn case_g() -> Vec<u8> {
     Draft::new(7, 3, 1, 1).with(&[(1, 1)], &[(3, 1)], &[(0, 1), (2, -1)]).with(&[(1, 1)], &[(2, 1)], &[]).bytes()
+}
+
+/// The product of two signals is 1; with one input the second is the inverse of it.
+pub fn inverse(p: u32, inputs: u16) -> Vec<u8> {
+    Draft::new(p, 2, inputs, 2 - inputs).with(&[(1, 1)], &[(2, 1)], &[(0, 1)]).bytes()
+}
+
+/// The second signal is the inverse of the first, an input, and equals it.
+pub fn equal_inverse() -> Vec<u8> {
+    Draft::new(7, 2, 1, 1).with(&[(1, 1)], &[(2, 1)], &[(0, 1)]).with(&[(0, 1)], &[(1, 1)], &[(2, 1)]).bytes()
+}
+
+/// Signal 3 is input 1 divided by input 2, unless both are 0.
+pub fn division() -> Vec<u8> {
+    Draft::new(7, 3, 2, 1).with(&[(2, 1)], &[(3, 1)], &[(1, 1)]).bytes()
+}
+
+/// Signal 3 is input 1 divided by input 2, whose inverse is signal 4.
+pub fn guarded_division() -> Vec<u8> {
+    Draft::new(7, 4, 2, 1).with(&[(2, 1)], &[(4, 1)], &[(0, 1)]).with(&[(2, 1)], &[(3, 1)], &[(1, 1)]).bytes()
+}
+
+/// Two divisions by multiples of input 2, which stands in A and in B, of forms with constants and other signals.
+pub fn wide_quotients() -> Vec<u8> {
+    let draft = Draft::new(7, 4, 2, 1).with(&[(2, 2)], &[(0, 1), (1, 1), (4, 3)], &[(0, 3)]);
+    draft.with(&[(0, 2), (1, 1), (3, 5)], &[(2, 3)], &[(1, 1), (4, 4)]).bytes()
+}
+
+/// Signal 3 is the inverse of input 1, and signal 2 is itself times input 1.
+pub fn times_itself() -> Vec<u8> {
+    Draft::new(7, 3, 1, 1).with(&[(1, 1)], &[(3, 1)], &[(0, 1)]).with(&[(1, 1)], &[(2, 1)], &[(2, 1)]).bytes()
+}
+
+/// Case g with signal 4 as the inverse of its input.
+pub fn guarded_is_zero() -> Vec<u8> {
+    let draft = Draft::new(7, 4, 1, 1).with(&[(1, 1)], &[(3, 1)], &[(0, 1), (2, -1)]).with(&[(1, 1)], &[(2, 1)], &[]);
+    draft.with(&[(1, 1)], &[(4, 1)], &[(0, 1)]).bytes()
+}
+
+/// The only signal is 1.
+pub fn constant(p: u32) -> Vec<u8> {
+    Draft::new(p, 1, 0, 1).with(&[(0, 1)], &[(1, 1)], &[(0, 1)]).bytes()
 }

@@ -14,12 +14,12 @@ use crate::reader::{read_circuit, Circuit};
 use crate::rules::Rules;
 use crate::runs::is_small;
 use crate::sheet::{read_sheet, write_sheet, Tag, NO_TAGS};
-use crate::solver::derive;
+use crate::solver::{derive, longest};
 use crate::vectors::{Record, DERIVATION, PAIR, READ, RENEW, SOLVE, WITH_SHEET};
 use crate::{renew, worst};
 
 /// The usual length of all files together, but for the last random calls and those that list runs.
-pub const USUAL_SIZE: usize = 1_420_000;
+pub const USUAL_SIZE: usize = 1_520_000;
 
 /// How many random circuits at the edge of a rule there always are.
 const EDGES: usize = 60;
@@ -113,8 +113,8 @@ impl Maker {
         self.records.push(record);
     }
 
-    /// A derivation, marked with a buffer of this length and renewed, by turns only where the marker's refusal is the renewal's too; and marked without its idle
-    /// steps, where it has such and no other fault.
+    /// A derivation, marked with a buffer of this length and renewed, by turns only where the marker's refusal is the renewal's too; and marked without its
+    /// idle steps, where it has such and no other fault.
     pub fn mark_and_renew(&mut self, circuit: &[u8], sheet: &[u8], derivation: &[u8], marks: usize) {
         self.call_with(DERIVATION, circuit, sheet, derivation, marks);
         let refusal = self.records.last().map_or(0, |record| record.answer.number);
@@ -168,7 +168,7 @@ impl Maker {
         let read = read_circuit(circuit).expect("a valid circuit");
         let n = usize::from(read.signals);
         self.call(READ, circuit, &[], 0);
-        self.call(SOLVE, circuit, &[], 7 + 14 * n);
+        self.call(SOLVE, circuit, &[], longest(n));
         self.mark_and_renew(circuit, NO_TAGS, &write_steps(&derive(&read, &[]).0), n);
     }
 
@@ -181,7 +181,7 @@ impl Maker {
     fn solve_and_mark_under(&mut self, circuit: &[u8], sheet: &[u8]) {
         let read = read_circuit(circuit).expect("a valid circuit");
         let (n, tags) = (usize::from(read.signals), read_sheet(&read, sheet).expect("a valid sheet"));
-        self.call_with(SOLVE, circuit, sheet, &[], 7 + 14 * n);
+        self.call_with(SOLVE, circuit, sheet, &[], longest(n));
         self.call_with(DERIVATION, circuit, sheet, &write_steps(&derive(&read, &tags).0), n);
     }
 
@@ -200,7 +200,7 @@ impl Maker {
             self.call(READ, &circuit, &[], 0);
         }
         if self.rng.once_in(2) {
-            let (lent, sheet) = (self.lent(7 + 14 * usize::from(read.signals)), self.sheet(&read, &tags));
+            let (lent, sheet) = (self.lent(longest(read.signals.into())), self.sheet(&read, &tags));
             self.call_with(SOLVE, &circuit, &sheet, &[], lent);
         }
         if self.rng.once_in(2) {
@@ -248,7 +248,7 @@ impl Maker {
         };
         let lent = match kind {
             DERIVATION => self.lent(n),
-            SOLVE => self.lent(7 + 14 * n),
+            SOLVE => self.lent(longest(n)),
             _ => 0,
         };
         self.call_and_renew(kind, &circuit, &sheet, &hand_in, lent);
@@ -275,7 +275,7 @@ impl Maker {
     /// The solver alone.
     pub fn solve(&mut self, circuit: &[u8]) {
         let n = usize::from(read_circuit(circuit).expect("a valid circuit").signals);
-        self.call(SOLVE, circuit, &[], 7 + 14 * n);
+        self.call(SOLVE, circuit, &[], longest(n));
     }
 
     /// The solver on a small circuit, perhaps from tags.
@@ -283,7 +283,7 @@ impl Maker {
         let circuit = if self.rng.once_in(3) { small(&mut self.rng) } else { tiny(&mut self.rng) };
         let read = read_circuit(&circuit).expect("generated circuits are valid");
         let tags = self.tags(&read);
-        self.call_with(SOLVE, &circuit, &write_sheet(&tags), &[], 7 + 14 * usize::from(read.signals));
+        self.call_with(SOLVE, &circuit, &write_sheet(&tags), &[], longest(read.signals.into()));
     }
 
     /// Runs of a small circuit, now and then of a damaged one.
@@ -299,7 +299,7 @@ impl Maker {
         let circuit = tied(&mut self.rng);
         let read = read_circuit(&circuit).expect("circuits with ties are valid");
         let tags = self.tags(&read);
-        self.call_with(SOLVE, &circuit, &write_sheet(&tags), &[], 7 + 14 * usize::from(read.signals));
+        self.call_with(SOLVE, &circuit, &write_sheet(&tags), &[], longest(read.signals.into()));
     }
 
     fn random_edge(&mut self) {
@@ -315,7 +315,7 @@ impl Maker {
             self.mark_and_renew(&edge.circuit, &sheet, &write_steps(steps), n);
         }
         if solve {
-            self.call_with(SOLVE, &edge.circuit, &sheet, &[], 7 + 14 * n);
+            self.call_with(SOLVE, &edge.circuit, &sheet, &[], longest(n));
         }
     }
 

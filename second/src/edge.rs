@@ -1,6 +1,7 @@
 //! Circuits with derivations at the edge of a rule: sums at p, weights at the sum of the smaller ones, products and roots with one signal
-//! too many; and circuits with ties.
+//! too many; divisions; and circuits with ties.
 
+use crate::divisions;
 use crate::field::is_prime;
 use crate::generate::Weaver;
 use crate::random::Random;
@@ -17,11 +18,13 @@ pub struct Edge {
 
 /// Any of the edges below.
 pub fn any_edge(rng: &mut Random) -> Edge {
-    match rng.below(7) {
+    match rng.below(10) {
         0..=2 => weighted(rng),
         3 => product(rng),
         4 => tagged_sum(rng),
         5 => tagged_digits(rng),
+        6 => divisions::nonzero(rng),
+        7 | 8 => divisions::quotient(rng),
         _ => roots(rng),
     }
 }
@@ -193,10 +196,11 @@ fn product_edge(rng: &mut Random, index: usize) -> Edge {
     Edge { circuit: weaver.draft.bytes(), tags: Vec::new(), derivations: vec![vec![Step::new(PRODUCT, 3, 1, 0); 2]] }
 }
 
-/// The listed weights and products, one after the other.
+/// The listed weights, products and divisions, one after the other.
 pub fn listed_edges(rng: &mut Random) -> Vec<Edge> {
     let mut edges: Vec<Edge> = WEIGHTED.iter().map(|&(p, weights, constant)| weighted_edge(rng, 1, p, weights, constant)).collect();
     edges.extend((0..PRODUCTS.len()).map(|index| product_edge(rng, index)));
+    edges.extend(divisions::listed());
     edges
 }
 
@@ -226,7 +230,7 @@ pub fn tied(rng: &mut Random) -> Vec<u8> {
         let target = weaver.rng.range(3, targets + 2) as u16;
         let (input, other) = (weaver.rng.range(1, 2) as u16, weaver.rng.range(3, targets + 2) as u16);
         let small = weaver.rng.below(3) as i64;
-        match weaver.rng.below(7) {
+        match weaver.rng.below(10) {
             0 | 1 => {
                 let c = [(target, weaver.unit()), (input, small)];
                 weaver.draft.add(&[(1, 1)], &[(2, 1), (0, small)], &c);
@@ -234,6 +238,14 @@ pub fn tied(rng: &mut Random) -> Vec<u8> {
             2 => weaver.linear(&[(target, 1), (input, -1), (0, -small)]),
             3 => weaver.linear(&[(target, 1), (other, -1), (input, small)]),
             4 => weaver.linear(&[(target, 1), (0, -small)]),
+            5 => {
+                let signal = weaver.rng.pick(&[1, 2, input, target]);
+                weaver.nonzero(signal);
+            }
+            6 | 7 => {
+                let (by, b) = (weaver.rng.pick(&[1, 2, other]), [(target, weaver.unit()), (0, small)]);
+                weaver.product_of(&[(by, 1)], &b, &[(0, 1), (input, small)]);
+            }
             _ => weaver.roots(target, 0, small),
         }
     }

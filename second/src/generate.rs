@@ -95,7 +95,7 @@ impl Weaver<'_> {
     /// One piece over random signals.
     fn piece(&mut self) {
         let signal = self.signal();
-        match self.rng.below(16) {
+        match self.rng.below(22) {
             0..=3 => self.bit(signal),
             4 => {
                 let (first, second) = (self.small_number(), self.small_number());
@@ -108,7 +108,8 @@ impl Weaver<'_> {
             12 => self.roots(signal, 0, 0),
             13 => self.repeat(),
             14 => self.noise(),
-            _ => self.near_misses(signal),
+            15 => self.near_misses(signal),
+            _ => self.any_division(),
         }
     }
 
@@ -191,6 +192,68 @@ impl Weaver<'_> {
         let scale = self.unit();
         let (a, c) = (self.scaled(&a, scale), self.scaled(&c, scale));
         self.draft.constraints.push(if self.rng.once_in(2) { [a, b, c] } else { [b, a, c] });
+    }
+
+    /// A constraint with its factors either way round.
+    pub fn product_of(&mut self, a: &[(u16, i64)], b: &[(u16, i64)], c: &[(u16, i64)]) {
+        match self.rng.once_in(2) {
+            true => self.draft.add(a, b, c),
+            false => self.draft.add(b, a, c),
+        }
+    }
+
+    /// A nonzero mark, a quotient, both, or neither but nearly so.
+    pub fn any_division(&mut self) {
+        let signal = self.signal();
+        match self.rng.below(6) {
+            0 | 1 => self.nonzero(signal),
+            2 | 3 => self.division(signal),
+            4 => self.quotient(signal),
+            _ => self.near_divisions(signal),
+        }
+    }
+
+    /// A signal that is never 0, since it times another, a constant or a form is a constant.
+    pub fn nonzero(&mut self, signal: u16) {
+        let other = match self.rng.below(4) {
+            0 => vec![(0, self.unit())],
+            1 | 2 => vec![(self.signal(), self.unit())],
+            _ => self.affine(2),
+        };
+        let (one, c) = ([(signal, self.unit())], [(0, self.unit())]);
+        self.product_of(&one, &other, &c);
+    }
+
+    /// A signal times a form is another form, as where something is divided by it.
+    fn quotient(&mut self, divisor: u16) {
+        let (target, one) = (self.signal(), [(divisor, self.unit())]);
+        let (mut other, c) = (self.affine(1), self.affine(2));
+        other.push((target, self.unit()));
+        self.product_of(&one, &other, &c);
+    }
+
+    /// A signal that is never 0 and a division by it; the signal is perhaps 1, or an input's inverse.
+    fn division(&mut self, divisor: u16) {
+        self.nonzero(divisor);
+        if self.rng.once_in(3) {
+            self.linear(&[(divisor, 1), (0, -1)]);
+        }
+        self.quotient(divisor);
+    }
+
+    /// Constraints from which no nonzero mark, or no quotient, follows though they come close: a constant or a signal beside the divisor, C with more than a
+    /// constant or with nothing, the target in C or on both sides.
+    fn near_divisions(&mut self, signal: u16) {
+        let (other, third, unit) = (self.signal(), self.signal(), self.unit());
+        match self.rng.below(7) {
+            0 => self.product_of(&[(signal, 1), (0, unit)], &[(other, 1)], &[(0, 1)]),
+            1 => self.product_of(&[(signal, 1), (third, unit)], &[(other, 1), (0, unit)], &[(0, 1)]),
+            2 => self.product_of(&[(signal, unit)], &[(other, 1)], &[]),
+            3 => self.product_of(&[(signal, unit)], &[(other, 1)], &[(0, 1), (third, 1)]),
+            4 => self.product_of(&[(signal, unit)], &[(other, 1)], &[(other, 1), (0, 1)]),
+            5 => self.product_of(&[(signal, unit)], &[(signal, 1)], &[(0, 1)]),
+            _ => self.product_of(&[(signal, unit)], &[(other, 1), (third, unit)], &[(0, 1)]),
+        }
     }
 
     fn noise(&mut self) {

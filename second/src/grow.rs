@@ -55,7 +55,7 @@ impl Grower<'_> {
     }
 
     fn piece(&mut self) {
-        match self.weaver.rng.below(10) {
+        match self.weaver.rng.below(13) {
             0..=2 => self.digits(),
             3 => {
                 let target = self.fresh();
@@ -64,7 +64,8 @@ impl Grower<'_> {
             4 | 5 => self.sum(),
             6 | 7 => self.product(),
             8 => self.zero(),
-            _ => self.hint(),
+            9 => self.hint(),
+            _ => self.division(),
         }
     }
 
@@ -111,6 +112,22 @@ impl Grower<'_> {
             0 => self.weaver.linear(&[(target, 1)]),
             _ => self.weaver.roots(target, 0, 0),
         }
+    }
+
+    /// The inverse of an earlier signal, and what earlier signals come to when they are divided by either of the two, less an earlier one.
+    fn division(&mut self) {
+        let (divisor, inverse) = (self.earlier(), self.fresh());
+        let (one, other, c) = ([(divisor, self.weaver.unit())], [(inverse, 1)], [(0, self.weaver.unit())]);
+        self.weaver.product_of(&one, &other, &c);
+        if self.made == self.most {
+            return;
+        }
+        let by = self.weaver.rng.pick(&[divisor, inverse]);
+        let (mut other, mut c) = (self.affine(1), self.affine(2));
+        other.truncate(self.weaver.rng.below(2));
+        c.truncate(self.weaver.rng.below(3));
+        other.push((self.fresh(), self.weaver.unit()));
+        self.weaver.product_of(&[(by, 1)], &other, &c);
     }
 
     /// The signal that says whether an earlier one is 0, with the usual free hint.

@@ -5,13 +5,13 @@ use crate::marker::{write_steps, MOST_STEPS};
 use crate::pair::write_pair;
 use crate::random::Random;
 use crate::reader::{number16, number32, Circuit};
-use crate::rules::{Rules, Standing, Step, ROOT, ZERO};
+use crate::rules::{Rules, Standing, Step, DIGITS, QUOTIENT, ROOT, ZERO};
 use crate::sheet::{write_sheet, Tag, BINARY, MAXBIT, MAXVALUE, MOST_TAGS};
 use crate::solver::derive;
 
 /// A random step with its fields in range, if the circuit has any for the kind drawn.
 pub fn random_step(rng: &mut Random, circuit: &Circuit) -> Option<Step> {
-    let kind = rng.range(1, 5) as u8;
+    let kind = rng.range(ROOT.into(), QUOTIENT.into()) as u8;
     let mut signal = || rng.range(1, usize::from(circuit.signals)) as u16;
     let (target, other) = (signal(), signal());
     if kind == ZERO {
@@ -26,7 +26,7 @@ pub fn random_step(rng: &mut Random, circuit: &Circuit) -> Option<Step> {
     let named: Vec<u16> = forms.iter().flat_map(|form| form.signals()).map(|&(signal, _)| signal).collect();
     let target = if named.is_empty() || rng.once_in(4) { target } else { rng.pick(&named) };
     let other = if named.is_empty() || rng.once_in(4) { other } else { rng.pick(&named) };
-    Some(Step::new(kind, target, constraint as u16 + 1, if kind == 5 { other } else { 0 }))
+    Some(Step::new(kind, target, constraint as u16 + 1, if [DIGITS, QUOTIENT].contains(&kind) { other } else { 0 }))
 }
 
 /// Random steps, each of which meets its rule where it stands; so many are tried.
@@ -86,8 +86,8 @@ fn change_field(rng: &mut Random, circuit: &Circuit, changed: &mut [Step]) {
     let at = rng.below(changed.len());
     let step = &mut changed[at];
     match rng.below(8) {
-        0 => step.kind = rng.pick(&[0, 6, 7, 128, 255]),
-        1 => step.kind = rng.range(1, 5) as u8,
+        0 => step.kind = rng.pick(&[0, 8, 9, 128, 255]),
+        1 => step.kind = rng.range(ROOT.into(), QUOTIENT.into()) as u8,
         2 => step.target = rng.pick(&[0, n + 1, 65_535, step.target.wrapping_add(256)]),
         3 => step.target = rng.range(1, usize::from(n)) as u16,
         4 => step.constraint = rng.pick(&[0, 1, m + 1, 65_535, step.constraint.wrapping_add(256)]),

@@ -159,7 +159,7 @@ impl Maker {
     fn idle_against_other_faults(&mut self) {
         let (c, steps) = (case_c(13), steps_of_c());
         let others = [
-            Step::new(6, 2, 1, 0),
+            Step::new(8, 2, 1, 0),
             Step::new(0, 0, 0, 0),
             Step::new(1, 5, 1, 0),
             Step::new(5, 2, 4, 0),
@@ -190,7 +190,7 @@ impl Maker {
             vec![product],
             vec![product; 2],
             vec![product; 9],
-            vec![product, Step::new(6, 2, 1, 0)],
+            vec![product, Step::new(9, 2, 1, 0)],
             vec![product, Step::new(ZERO, 2, 0, 0)],
         ];
         for steps in short {

@@ -16,14 +16,15 @@
 //!   (1 to 10, 30, 31).
 //!
 //! [`vectors`] is the file format of the test vectors, [`compose`] fills such a file, [`generate`], [`grow`] and [`planted`] make the
-//! circuits for it, [`two_faults`] and [`ties`] what comes first, [`tagged`] where tags count, [`idle`] steps that change nothing, [`worst`] the circuits on
-//! which a solver works longest, [`wide_digits`] those on which the digits rule does, [`worst_runs`] those on which a listing of runs does, [`falling`] those
-//! with the most steps of which none is idle, and [`listed`] what is stored of listings.
+//! circuits for it, [`two_faults`] and [`ties`] what comes first, [`tagged`] where tags count, [`idle`] steps that change nothing, [`divisions`] where a
+//! quotient is marked or nearly so, [`worst`] the circuits on which a solver works longest, [`wide_digits`] those on which the digits rule does, [`worst_runs`]
+//! those on which a listing of runs does, [`falling`] those with the most steps of which none is idle, and [`listed`] what is stored of listings.
 
 pub mod brute;
 pub mod cases;
 pub mod compose;
 pub mod damage;
+pub mod divisions;
 pub mod edge;
 pub mod falling;
 pub mod field;

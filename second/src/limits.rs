@@ -10,9 +10,9 @@ use crate::marker::{write_steps, MOST_STEPS};
 use crate::pair::write_pair;
 use crate::planted::Planted;
 use crate::reader::read_circuit;
-use crate::rules::Step;
+use crate::rules::{Step, DIGITS, QUOTIENT, STEPS, ZERO};
 use crate::sheet::NO_TAGS;
-use crate::solver::derive;
+use crate::solver::{derive, longest};
 use crate::two_faults::{self, Pair};
 use crate::vectors::{DERIVATION, PAIR, READ, RENEW, SOLVE};
 use crate::writer::Draft;
@@ -58,6 +58,7 @@ impl Maker {
         ties::circuits().iter().for_each(|circuit| self.solve(circuit));
         self.tagged_calls();
         self.idle_calls();
+        self.division_calls();
     }
 
     /// Every kind of call but those that list runs, with a derivation without steps, a pair of runs of zeros, and buffers that are long enough for n signals.
@@ -66,7 +67,7 @@ impl Maker {
         self.call(READ, circuit, &[], 0);
         self.call(DERIVATION, circuit, &write_steps(&[]), n);
         self.call(PAIR, circuit, &write_pair(1, &zeros, &zeros), 0);
-        self.call(SOLVE, circuit, &[], 7 + 14 * n);
+        self.call(SOLVE, circuit, &[], longest(n));
         self.call(RENEW, circuit, &write_steps(&[]), 7);
     }
 
@@ -79,9 +80,9 @@ impl Maker {
         self.call(PAIR, &b, &write_pair(2, &[0, 1, 0], &[0, 2, 1]), 0);
         self.call(PAIR, &d, &write_pair(2, &[0, 0, 0, 0], &[0, 1, 1, 1]), 0);
         self.call(PAIR, &f, &write_pair(1, &[0], &[1]), 0);
-        self.call(SOLVE, &c[..112], &[], 63);
-        self.call(SOLVE, &[&c[..], &[0]].concat(), &[], 63);
-        for step in [Step::new(4, 2, 1, 0), Step::new(6, 2, 1, 0), Step::new(4, 0, 1, 0)] {
+        self.call(SOLVE, &c[..112], &[], longest(4));
+        self.call(SOLVE, &[&c[..], &[0]].concat(), &[], longest(4));
+        for step in [Step::new(4, 2, 1, 0), Step::new(9, 2, 1, 0), Step::new(4, 0, 1, 0)] {
             self.mark_and_renew(&a, NO_TAGS, &write_steps(&[step]), 2);
         }
         self.mark_and_renew(&c, NO_TAGS, &write_steps(&[Step::new(4, 2, 4, 0)]), 4);
@@ -131,7 +132,7 @@ impl Maker {
         }
     }
 
-    /// Buffers for marks of n - 1, n and n + 1 bytes, and for the solver of 7 + 14 n - 1 bytes and more.
+    /// Buffers for marks of n - 1, n and n + 1 bytes, and for the solver of 7 + 21 n - 1 bytes and more.
     fn buffer_limits(&mut self) {
         let chain = worst::bits_and_long_sum(9);
         for (circuit, n) in [(case_f(), 1), (case_a(), 2), (case_c(13), 4), (chain, 10), (Draft::new(13, 256, 3, 1).bytes(), 256)] {
@@ -140,7 +141,7 @@ impl Maker {
                 self.call(DERIVATION, &circuit, &steps, lent);
                 self.call(DERIVATION, &circuit, &write_steps(&[Step::new(3, 1, 0, 0)]), lent);
             }
-            for lent in [6, 7, 7 + 7 * n, 7 + 14 * n - 1, 7 + 14 * n, 7 + 14 * n + 1] {
+            for lent in [6, 7, 7 + 14 * n - 1, 7 + 14 * n, longest(n) - 1, longest(n), longest(n) + 1] {
                 self.call(SOLVE, &circuit, &[], lent);
             }
         }
@@ -180,7 +181,7 @@ impl Maker {
                 change(&mut faulty[at]);
                 write_steps(&faulty)
             };
-            let kind = self.rng.pick(&[0, 6, 255]);
+            let kind = self.rng.pick(&[0, 8, 9, 255]);
             let number = self.rng.pick(&[0, 8, 65_535]);
             self.mark_and_renew(&circuit, NO_TAGS, &fault(&|step| step.kind = kind), 7);
             self.mark_and_renew(&circuit, NO_TAGS, &fault(&|step| step.target = number), 7);
@@ -191,8 +192,8 @@ impl Maker {
     /// Steps of each kind with each field at and beyond its limits.
     fn every_field(&mut self) {
         let circuit = case_g();
-        for kind in 1..=5 {
-            let (constraint, reference) = (u16::from(kind != 3), u16::from(kind == 5));
+        for kind in STEPS {
+            let (constraint, reference) = (u16::from(kind != ZERO), u16::from([DIGITS, QUOTIENT].contains(&kind)));
             let mut steps: Vec<Step> = [0, 1, 3, 4, 258].map(|target| Step::new(kind, target, constraint, reference)).to_vec();
             steps.extend([0, 1, 2, 3, 257].map(|number| Step::new(kind, 2, number, reference)));
             steps.extend([0, 1, 3, 4, 257].map(|number| Step::new(kind, 2, constraint, number)));
@@ -245,14 +246,14 @@ impl Maker {
     fn many_steps(&mut self) {
         let c = case_c(13);
         let steps = derive(&read_circuit(&c).expect("a valid circuit"), &[]).0;
-        let longest = padded(&mut self.rng, &steps, MOST_STEPS);
+        let full = padded(&mut self.rng, &steps, MOST_STEPS);
         let unmet = [Step::new(4, 2, 4, 0)];
         let lists = [
-            longest[..MOST_STEPS - 1].to_vec(),
-            longest.clone(),
-            [&longest[..MOST_STEPS - 1], &unmet].concat(),
-            [&longest[..], &steps[..1]].concat(),
-            [&unmet, &longest[..]].concat(),
+            full[..MOST_STEPS - 1].to_vec(),
+            full.clone(),
+            [&full[..MOST_STEPS - 1], &unmet].concat(),
+            [&full[..], &steps[..1]].concat(),
+            [&unmet, &full[..]].concat(),
         ];
         for (steps, marks) in lists.iter().zip([4, 4, 4, 4, 3]) {
             self.call(DERIVATION, &c, &write_steps(steps), marks);
@@ -274,7 +275,7 @@ impl Maker {
         let seed = self.rng.draw();
         let Planted { circuit, q, first, second } = worst::largest(seed);
         self.solve_and_mark(&circuit);
-        self.call(SOLVE, &circuit, &[], 7 + 14 * 256 - 1);
+        self.call(SOLVE, &circuit, &[], longest(256) - 1);
         self.call(DERIVATION, &circuit, &write_steps(&[]), 255);
         self.call(PAIR, &circuit, &write_pair(q, &first, &second), 0);
         let mut broken = second.clone();

@@ -129,9 +129,12 @@ impl Maker {
         self.call(NEXT_RUN, circuit, &bytes_of(given), lent);
     }
 
-    /// More than 65,536 candidates, with and without a fault of a length or a value besides.
+    /// More than 65,536 candidates, with and without a fault of a length or a value besides; with a byte after the last constraint: 10.
     fn too_many(&mut self, p: u32, n: usize) {
         let circuit = Draft::new(p, n as u16, 0, 1).bytes();
+        if n < 4 {
+            self.first_run(&[&circuit[..], &[0]].concat(), n);
+        }
         self.first_run(&circuit, n);
         self.first_run(&circuit, n - 1);
         let mut given = vec![0; n];

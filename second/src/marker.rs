@@ -1,7 +1,7 @@
 //! The derivation file and the derivation call: refusals 11 to 17 and 29.
 
 use crate::reader::{number16, read_circuit, refuse, Circuit, Refusal};
-use crate::rules::{Rules, Standing, Step};
+use crate::rules::{Rules, Standing, Step, STEPS};
 use crate::sheet::{read_sheet, shown, Tag};
 
 /// The largest step count of a derivation.
@@ -50,7 +50,7 @@ pub fn check_derivation(circuit: &[u8], sheet: &[u8], derivation: &[u8], marks: 
 
 /// Checks kind, fields and rule of one step and takes it. False if it is idle.
 pub(crate) fn take_step(rules: &Rules, standing: &mut Standing, step: Step, number: usize) -> Result<bool, Refusal> {
-    if !(1..=5).contains(&step.kind) {
+    if !STEPS.contains(&step.kind) {
         return refuse(15, number);
     }
     if !rules.in_range(step) {

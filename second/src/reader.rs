@@ -34,6 +34,14 @@ impl Form {
         }
     }
 
+    /// The signal of a form that has one term and no constant.
+    pub fn single(&self) -> Option<u16> {
+        match self.terms[..] {
+            [(signal, _)] if signal > 0 => Some(signal),
+            _ => None,
+        }
+    }
+
     /// Whether signal number 1 to n stands in the form.
     pub fn names(&self, signal: u16) -> bool {
         self.signals().iter().any(|&(named, _)| named == signal)

@@ -1,4 +1,4 @@
-//! The standing and its five rules.
+//! The standing and its seven rules.
 
 use std::collections::BTreeSet;
 
@@ -11,6 +11,11 @@ pub const SUM: u8 = 2;
 pub const ZERO: u8 = 3;
 pub const PRODUCT: u8 = 4;
 pub const DIGITS: u8 = 5;
+pub const NONZERO: u8 = 6;
+pub const QUOTIENT: u8 = 7;
+
+/// All kinds of steps.
+pub const STEPS: std::ops::RangeInclusive<u8> = ROOT..=QUOTIENT;
 
 /// One step of a derivation, its fields as they stand in the file.
 #[derive(Clone, Copy, Debug, PartialEq, Eq, PartialOrd, Ord)]
@@ -27,18 +32,19 @@ impl Step {
     }
 }
 
-/// A bound for each signal and the set of marked signals.
+/// A bound for each signal, the set of marked signals, and the set of those with a nonzero mark.
 #[derive(Clone, Debug, PartialEq, Eq)]
 pub struct Standing {
     bounds: Vec<u64>,
     marked: BTreeSet<u16>,
+    nonzero: BTreeSet<u16>,
 }
 
 impl Standing {
-    /// Every bound is p - 1, that of an input no more than the tags on it allow, and exactly the inputs are marked.
+    /// Every bound is p - 1, that of an input no more than the tags on it allow, exactly the inputs are marked, and there are no nonzero marks.
     pub fn start(circuit: &Circuit, tags: &[Tag]) -> Standing {
         let bounds = vec![circuit.field.prime() - 1; usize::from(circuit.signals)];
-        let mut start = Standing { bounds, marked: (1..=circuit.inputs).collect() };
+        let mut start = Standing { bounds, marked: (1..=circuit.inputs).collect(), nonzero: BTreeSet::new() };
         for tag in tags.iter().filter(|tag| tag.signal <= circuit.inputs) {
             start.lower(tag.signal, tag.limit());
         }
@@ -51,6 +57,10 @@ impl Standing {
 
     pub fn is_marked(&self, signal: u16) -> bool {
         self.marked.contains(&signal)
+    }
+
+    pub fn is_nonzero(&self, signal: u16) -> bool {
+        self.nonzero.contains(&signal)
     }
 
     /// How many signals are marked.
@@ -74,6 +84,11 @@ impl Standing {
     /// Marks the signal. False if it is marked already.
     pub(crate) fn mark(&mut self, signal: u16) -> bool {
         self.marked.insert(signal)
+    }
+
+    /// Gives the signal a nonzero mark. False if it has one already.
+    pub(crate) fn mark_nonzero(&mut self, signal: u16) -> bool {
+        self.nonzero.insert(signal)
     }
 }
 
@@ -131,6 +146,19 @@ pub fn larger_root(constraint: &Constraint, target: u16, field: Field) -> Option
     Some(root(&constraint.a)?.max(root(&constraint.b)?))
 }
 
+/// The signals to which a constraint gives a nonzero mark: where C is a constant other than 0, those that are A or B but for a factor.
+pub fn nonzero_signals(constraint: &Constraint) -> impl Iterator<Item = u16> + '_ {
+    let is_constant = matches!(constraint.c.terms[..], [(0, _)]);
+    [&constraint.a, &constraint.b].into_iter().filter(move |_| is_constant).filter_map(Form::single)
+}
+
+/// The reference by which the quotient rule may mark a target: A or B but for a factor, where the target is in the other form and not in C.
+pub fn divisor(constraint: &Constraint, target: u16) -> Option<u16> {
+    let Constraint { a, b, c } = constraint;
+    let by = |divisor: &Form, other: &Form| divisor.single().filter(|&reference| reference != target && other.names(target) && !c.names(target));
+    by(a, b).or_else(|| by(b, a))
+}
+
 /// A circuit with its reduced forms, ready to take steps.
 pub struct Rules<'a> {
     pub circuit: &'a Circuit,
@@ -148,7 +176,7 @@ impl Rules<'_> {
         let target = (1..=self.circuit.signals).contains(&step.target);
         let constraint = (1..=self.circuit.constraints.len()).contains(&usize::from(step.constraint));
         match step.kind {
-            ROOT | SUM | PRODUCT => target && constraint && step.reference == 0,
+            ROOT | SUM | PRODUCT | NONZERO => target && constraint && step.reference == 0,
             ZERO => target && step.constraint == 0 && step.reference == 0,
             _ => target && constraint && (1..=self.circuit.signals).contains(&step.reference),
         }
@@ -159,15 +187,17 @@ impl Rules<'_> {
         self.progress(standing, step).is_some()
     }
 
-    /// Takes a step whose fields are in range: whether it lowers a bound or marks a signal, and none if its rule isn't met. One that is met and does neither
-    /// is idle.
+    /// Takes a step whose fields are in range: whether it lowers a bound or adds a mark of either sort, and none if its rule isn't met. One that is met and
+    /// does neither is idle.
     pub fn progress(&self, standing: &mut Standing, step: Step) -> Option<bool> {
         let Step { kind, target, constraint, reference } = step;
         let marks = match kind {
             ROOT => return larger_root(self.constraint(constraint), target, self.circuit.field).map(|bound| standing.lower(target, bound)),
             SUM => return self.sum(standing, target, constraint).map(|bound| standing.lower(target, bound)),
+            NONZERO => return self.nonzero(target, constraint).then(|| standing.mark_nonzero(target)),
             ZERO => standing.bound(target) == 0,
             PRODUCT => self.product(standing, target, constraint),
+            QUOTIENT => self.quotient(standing, target, constraint, reference),
             _ => self.digits(standing, target, constraint, reference),
         };
         marks.then(|| standing.mark(target))
@@ -195,12 +225,29 @@ impl Rules<'_> {
 
     fn product(&self, standing: &Standing, target: u16, constraint: u16) -> bool {
         let Constraint { a, b, c } = self.constraint(constraint);
-        let mut others = [a, b, c].into_iter().flat_map(|form| form.signals()).filter(|&&(signal, _)| signal != target);
         !self.constraint(constraint).is_linear()
             && c.names(target)
             && !a.names(target)
             && !b.names(target)
-            && others.all(|&(signal, _)| standing.is_marked(signal))
+            && self.others_are_marked(standing, target, constraint)
+    }
+
+    fn nonzero(&self, target: u16, constraint: u16) -> bool {
+        nonzero_signals(self.constraint(constraint)).any(|signal| signal == target)
+    }
+
+    fn quotient(&self, standing: &Standing, target: u16, constraint: u16, reference: u16) -> bool {
+        standing.is_marked(reference)
+            && standing.is_nonzero(reference)
+            && divisor(self.constraint(constraint), target) == Some(reference)
+            && self.others_are_marked(standing, target, constraint)
+    }
+
+    /// Whether all signals of a constraint but the target are marked.
+    fn others_are_marked(&self, standing: &Standing, target: u16, constraint: u16) -> bool {
+        let Constraint { a, b, c } = self.constraint(constraint);
+        let mut others = [a, b, c].into_iter().flat_map(|form| form.signals()).filter(|&&(signal, _)| signal != target);
+        others.all(|&(signal, _)| standing.is_marked(signal))
     }
 
     fn digits(&self, standing: &Standing, target: u16, constraint: u16, reference: u16) -> bool {

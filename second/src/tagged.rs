@@ -5,6 +5,7 @@ use crate::marker::write_steps;
 use crate::pair::write_pair;
 use crate::rules::{Step, DIGITS, ROOT, SUM, ZERO};
 use crate::sheet::{write_sheet, Tag, BINARY, MAXBIT, MAXVALUE, MOST_TAGS, NO_TAGS};
+use crate::solver::longest;
 use crate::vectors::{DERIVATION, PAIR, RENEW, SOLVE};
 use crate::writer::{Draft, Terms};
 
@@ -175,7 +176,7 @@ impl Maker {
         for (index, (circuit, tags)) in first_bounds().into_iter().enumerate() {
             match index % 3 {
                 0 => self.solve_and_mark_with(&circuit, &tags),
-                _ => self.call_with(SOLVE, &circuit, &write_sheet(&tags), &[], 35),
+                _ => self.call_with(SOLVE, &circuit, &write_sheet(&tags), &[], 49),
             }
         }
         for (circuit, tags) in [duplicates(), shown(), sizes()].concat() {
@@ -228,6 +229,14 @@ impl Maker {
                 0,
             );
         }
+        // An input that breaks its tag before one that differs.
+        for at in [0, 2, 5] {
+            let mut first = [1; 8];
+            first[at] = 3;
+            let mut second = first;
+            (second[6], second[7]) = (0, 2);
+            self.call_with(PAIR, &inputs, &write_sheet(&tags), &write_pair(8, &first, &second), 0);
+        }
         // Without inputs no tag is broken.
         self.call_with(PAIR, &Draft::new(5, 1, 0, 1).bytes(), &write_sheet(&[most(1, 0)]), &write_pair(1, &[3], &[4]), 0);
     }
@@ -237,7 +246,7 @@ impl Maker {
         let circuit = Draft::new(p, 4, 2, 1).bytes();
         self.call_with(DERIVATION, &circuit, sheet, &write_steps(&[]), 4);
         self.call_with(PAIR, &circuit, sheet, &write_pair(3, &[0; 4], &[0, 0, 1, 0]), 0);
-        self.call_with(SOLVE, &circuit, sheet, &[], 63);
+        self.call_with(SOLVE, &circuit, sheet, &[], longest(4));
         self.call_with(RENEW, &circuit, sheet, &write_steps(&[]), 7);
     }
 
@@ -258,7 +267,7 @@ impl Maker {
         for (count, entries) in [(255, 255), (256, 256), (257, 257), (256, 255), (256, 257), (0, 256)] {
             let mut bytes = write_sheet(&vec![most(3, 6); entries]);
             bytes[5..7].copy_from_slice(&u16::to_le_bytes(count));
-            self.call_with(SOLVE, &Draft::new(13, 4, 2, 1).bytes(), &bytes, &[], 63);
+            self.call_with(SOLVE, &Draft::new(13, 4, 2, 1).bytes(), &bytes, &[], longest(4));
         }
     }
 
@@ -276,7 +285,7 @@ impl Maker {
                 let sheet = write_sheet(&[&good[..at], &[tag], &good[at..]].concat());
                 match p {
                     13 => self.with_sheet(p, &sheet),
-                    _ => self.call_with(SOLVE, &Draft::new(p, 4, 2, 1).bytes(), &sheet, &[], 63),
+                    _ => self.call_with(SOLVE, &Draft::new(p, 4, 2, 1).bytes(), &sheet, &[], longest(4)),
                 }
             }
         }
@@ -284,6 +293,6 @@ impl Maker {
         self.with_sheet(13, &write_sheet(&[good[0], most(5, 0), most(3, 13), good[1]]));
         self.with_sheet(13, &write_sheet(&[good[0], most(3, 13), good[1], Tag::new(0, BINARY, 0)]));
         let last = [vec![good[1]; MOST_TAGS - 1], vec![most(3, 13)]].concat();
-        self.call_with(SOLVE, &Draft::new(13, 4, 2, 1).bytes(), &write_sheet(&last), &[], 63);
+        self.call_with(SOLVE, &Draft::new(13, 4, 2, 1).bytes(), &write_sheet(&last), &[], longest(4));
     }
 }

@@ -5,8 +5,9 @@ use std::collections::BTreeSet;
 
 use crate::marker::write_steps;
 use crate::pair::write_pair;
-use crate::rules::{Step, DIGITS, PRODUCT, ROOT, SUM, ZERO};
+use crate::rules::{Step, DIGITS, NONZERO, PRODUCT, QUOTIENT, ROOT, SUM, ZERO};
 use crate::sheet::{write_sheet, Tag, BINARY, MAXBIT, MAXVALUE};
+use crate::solver::longest;
 use crate::vectors::{bytes_of, DERIVATION, FIRST_RUN, KINDS, LISTING, NEXT_RUN, PAIR, READ, RENEW, SOLVE, WITH_SHEET};
 use crate::writer::Draft;
 
@@ -47,10 +48,11 @@ const fn fault(number: u16, place: u32, breaks: fn(&mut Call)) -> Fault {
 /// n of the good circuit.
 const SIGNALS: usize = 9;
 
-/// Inputs 1 to 4, outputs 5 and 6. A square that is 0 (17 to 31), a product (32 to 52), an equation with a constant (53 to 73): 74 bytes.
+/// Inputs 1 to 4, outputs 5 and 6. A square that is 0 (17 to 31), a product (32 to 52), an inverse (53 to 73), an equation with a constant (74 to 94): 95
+/// bytes.
 fn good_circuit(p: u32) -> Vec<u8> {
     let draft = Draft::new(p, SIGNALS as u16, 4, 2).with(&[(7, 1)], &[(7, 1)], &[]).with(&[(1, 1)], &[(2, 1)], &[(5, 1)]);
-    draft.with(&[(0, 1)], &[(0, 10), (8, 1)], &[]).bytes()
+    draft.with(&[(8, 1)], &[(9, 1)], &[(0, 1)]).with(&[(0, 1)], &[(0, 10), (8, 1)], &[]).bytes()
 }
 
 /// Tags on inputs 3 and 4, which stand in no constraint, and on output 6, whose value in the second run breaks it.
@@ -60,14 +62,16 @@ fn good_sheet() -> Vec<u8> {
 
 /// One step of each kind, all met and none idle.
 fn good_steps() -> Vec<u8> {
-    let bounds = [Step::new(ROOT, 7, 1, 0), Step::new(SUM, 8, 3, 0)];
-    let marks = [Step::new(ZERO, 7, 0, 0), Step::new(PRODUCT, 5, 2, 0), Step::new(DIGITS, 8, 3, 8)];
-    write_steps(&[&bounds[..], &marks].concat())
+    let bounds = [Step::new(ROOT, 7, 1, 0), Step::new(SUM, 8, 4, 0)];
+    let marks = [Step::new(ZERO, 7, 0, 0), Step::new(PRODUCT, 5, 2, 0), Step::new(DIGITS, 8, 4, 8)];
+    let division = [Step::new(NONZERO, 8, 3, 0), Step::new(QUOTIENT, 9, 3, 8)];
+    write_steps(&[&bounds[..], &marks, &division].concat())
 }
 
-/// Runs that differ at output 6 alone. One of inputs 1 and 2 may differ, 3 and 4 and signal 9 may have any values; 7, 5 and 8 each break one constraint.
+/// Runs that differ at output 6 alone. One of inputs 1 and 2 may differ, 3 and 4 may have any values; 7, 5, 9, and 8 and 9 together each break one
+/// constraint.
 fn good_pair() -> Vec<u8> {
-    write_pair(6, &[0, 0, 2, 3, 0, 1, 0, 3, 0], &[0, 0, 2, 3, 0, 2, 0, 3, 0])
+    write_pair(6, &[0, 0, 2, 3, 0, 1, 0, 3, 9], &[0, 0, 2, 3, 0, 2, 0, 3, 9])
 }
 
 /// The call of this kind without a fault.
@@ -76,7 +80,7 @@ pub fn good(kind: u8) -> Call {
         DERIVATION => (good_steps(), SIGNALS),
         RENEW => (good_steps(), good_steps().len()),
         PAIR => (good_pair(), 0),
-        SOLVE => (Vec::new(), 7 + 14 * SIGNALS),
+        SOLVE => (Vec::new(), longest(SIGNALS)),
         FIRST_RUN => (Vec::new(), SIGNALS),
         NEXT_RUN => (bytes_of(&[0, 1, 2, 0, 1, 2, 0, 1, 2]), SIGNALS),
         _ => (Vec::new(), 0),
@@ -139,20 +143,20 @@ pub const CIRCUIT: [Fault; 24] = [
     fault(5, 0, |call| circuit16(call, 15, 513)),
     // A count byte is due, in the first constraint and as the last byte; a whole term, early and late.
     fault(6, 24, |call| call.circuit.truncate(24)),
-    fault(6, 73, |call| call.circuit.truncate(73)),
+    fault(6, 94, |call| call.circuit.truncate(94)),
     fault(6, 25, |call| call.circuit.truncate(28)),
-    fault(6, 67, |call| call.circuit.truncate(72)),
+    fault(6, 88, |call| call.circuit.truncate(93)),
     fault(7, 17, |call| put(&mut call.circuit, 17, &[33])),
-    fault(7, 60, |call| put(&mut call.circuit, 60, &[255])),
+    fault(7, 81, |call| put(&mut call.circuit, 81, &[255])),
     // Numbers above n, and one that doesn't rise.
     fault(8, 25, |call| circuit16(call, 25, 258)),
-    fault(8, 67, |call| circuit16(call, 67, 0)),
+    fault(8, 88, |call| circuit16(call, 88, 0)),
     fault(9, 25, |call| circuit32(call, 27, 0)),
-    fault(9, 67, |call| circuit32(call, 69, u32::MAX)),
+    fault(9, 88, |call| circuit32(call, 90, u32::MAX)),
     // One constraint fewer than there are; a byte more.
-    fault(10, 53, |call| circuit16(call, 15, 2)),
-    fault(10, 74, |call| call.circuit.push(0)),
-    fault(10, 74, |call| call.circuit.extend([1, 0, 0, 0])),
+    fault(10, 74, |call| circuit16(call, 15, 3)),
+    fault(10, 95, |call| call.circuit.push(0)),
+    fault(10, 95, |call| call.circuit.extend([1, 0, 0, 0])),
 ];
 
 /// Faults of the sheet, which every call that takes one may meet.
@@ -182,29 +186,37 @@ pub const SHEET: [Fault; 21] = [
 ];
 
 /// Faults of a derivation that is to be marked or renewed.
-pub const DERIVATIONS: [Fault; 15] = [
+pub const DERIVATIONS: [Fault; 21] = [
     fault(11, 0, |call| call.hand_in.truncate(6)),
     fault(11, 0, |call| put(&mut call.hand_in, 0, b"P")),
     fault(12, 0, |call| put(&mut call.hand_in, 3, &[2])),
     fault(13, 0, |call| put(&mut call.hand_in, 5, &4097u16.to_le_bytes())),
     fault(13, 0, |call| put(&mut call.hand_in, 5, &[4])),
     fault(13, 0, |call| call.hand_in.push(0)),
-    fault(15, 1, |call| step(call, 1, 0, 6)),
+    fault(15, 1, |call| step(call, 1, 0, 8)),
     fault(15, 4, |call| step(call, 4, 0, 0)),
-    // A target above n, target 0, a reference where none may be, and none where one must be.
+    fault(15, 6, |call| step(call, 6, 0, 9)),
+    fault(15, 7, |call| step(call, 7, 0, 8)),
+    // A target above n, target 0, a reference where none may be, none where one must be, and one above n.
     fault(16, 1, |call| step(call, 1, 2, 1)),
     fault(16, 4, |call| step(call, 4, 1, 0)),
     fault(16, 4, |call| step(call, 4, 5, 3)),
     fault(16, 5, |call| step(call, 5, 5, 0)),
+    fault(16, 6, |call| step(call, 6, 5, 8)),
+    fault(16, 7, |call| step(call, 7, 6, 1)),
     fault(17, 1, |call| step(call, 1, 3, 3)),
     fault(17, 2, |call| step(call, 2, 3, 2)),
     fault(17, 4, |call| step(call, 4, 3, 1)),
+    // A nonzero step on a signal that isn't there, a quotient by one that isn't.
+    fault(17, 6, |call| step(call, 6, 1, 5)),
+    fault(17, 7, |call| step(call, 7, 5, 7)),
 ];
 
 /// Faults of the derivation call beyond those of circuit, sheet and derivation: the buffer for marks, and idle steps.
-pub const MARKS: [Fault; 6] = [
+pub const MARKS: [Fault; 7] = [
     fault(14, 0, |call| call.lent = SIGNALS - 1),
-    // Zero on input 4, which is tagged 0; the root again, at once and after another step; the zero again; digits that stand in step 4 already.
+    // Zero on input 4, which is tagged 0; the root again, at once and after another step; the zero again; digits that stand in step 4 already; the
+    // nonzero mark again.
     fault(29, 1, |call| {
         entry(call, 2, 3, &[0]);
         other_step(call, 1, ZERO, 4, 0);
@@ -213,16 +225,20 @@ pub const MARKS: [Fault; 6] = [
     fault(29, 3, |call| other_step(call, 3, ROOT, 7, 1)),
     fault(29, 4, |call| other_step(call, 4, ZERO, 7, 0)),
     fault(29, 5, |call| {
-        other_step(call, 4, DIGITS, 8, 3);
+        other_step(call, 4, DIGITS, 8, 4);
         step(call, 4, 5, 8);
+    }),
+    fault(29, 7, |call| {
+        other_step(call, 7, NONZERO, 8, 3);
+        step(call, 7, 5, 0);
     }),
 ];
 
 /// Faults of the renewal call beyond those of circuit, sheet and derivation: the buffer.
-pub const RENEWALS: [Fault; 2] = [fault(25, 0, |call| call.lent = 41), fault(25, 0, |call| call.lent = 0)];
+pub const RENEWALS: [Fault; 2] = [fault(25, 0, |call| call.lent = 55), fault(25, 0, |call| call.lent = 0)];
 
 /// Faults of the pair call beyond those of circuit and sheet.
-pub const PAIRS: [Fault; 25] = [
+pub const PAIRS: [Fault; 27] = [
     fault(18, 0, |call| call.hand_in.truncate(6)),
     fault(18, 0, |call| put(&mut call.hand_in, 1, b"P")),
     fault(19, 0, |call| put(&mut call.hand_in, 3, &[0, 1])),
@@ -234,10 +250,12 @@ pub const PAIRS: [Fault; 25] = [
     fault(21, 18, |call| value(call, 1, 9, u32::MAX)),
     fault(22, 1, |call| value(call, 0, 7, 1)),
     fault(22, 2, |call| value(call, 0, 5, 1)),
-    fault(22, 3, |call| value(call, 0, 8, 4)),
-    fault(22, 4, |call| value(call, 1, 7, 1)),
-    fault(22, 5, |call| value(call, 1, 5, 1)),
-    fault(22, 6, |call| value(call, 1, 8, 4)),
+    fault(22, 3, |call| value(call, 0, 9, 8)),
+    fault(22, 4, |call| [(8, 4), (9, 10)].iter().for_each(|&(signal, new)| value(call, 0, signal, new))),
+    fault(22, 5, |call| value(call, 1, 7, 1)),
+    fault(22, 6, |call| value(call, 1, 5, 1)),
+    fault(22, 7, |call| value(call, 1, 9, 8)),
+    fault(22, 8, |call| [(8, 4), (9, 10)].iter().for_each(|&(signal, new)| value(call, 1, signal, new))),
     fault(23, 1, |call| value(call, 1, 1, 1)),
     fault(23, 2, |call| value(call, 0, 2, 1)),
     fault(23, 3, |call| value(call, 0, 3, 1)),
@@ -252,7 +270,7 @@ pub const PAIRS: [Fault; 25] = [
 ];
 
 /// The faults of the solver call beyond those of circuit and sheet.
-pub const SOLVER: [Fault; 2] = [fault(25, 0, |call| call.lent = 7 + 14 * SIGNALS - 1), fault(25, 0, |call| call.lent = 0)];
+pub const SOLVER: [Fault; 2] = [fault(25, 0, |call| call.lent = longest(SIGNALS) - 1), fault(25, 0, |call| call.lent = 0)];
 
 /// Faults of both calls that list runs, beyond those of the circuit: too many candidates, by p and by n; a buffer that hasn't n values.
 pub const RUNS: [Fault; 6] = [

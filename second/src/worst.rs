@@ -19,6 +19,8 @@ pub fn all() -> Vec<(&'static str, Vec<u8>)> {
         ("mark_chain_backward", mark_chain_backward()),
         ("digit_chain_backward", digit_chain_backward()),
         ("wide_sums", wide_sums()),
+        ("division_chain", division_chain()),
+        ("divisions_behind_decoys", divisions_behind_decoys()),
         ("largest", largest(1).circuit),
     ]
 }
@@ -209,6 +211,35 @@ pub fn wide_sums() -> Vec<u8> {
     for zero in (1..=zeros).chain([n]) {
         draft.add(&[(zero, 1)], &[(zero, 1)], &[]);
     }
+    draft.bytes()
+}
+
+/// The product of two signals is 1.
+fn inverses(draft: &mut Draft, one: u16, other: u16) {
+    draft.add(&[(one, 1)], &[(other, 1)], &[(0, 1)]);
+}
+
+/// 256 signals, the first an input, each the inverse of the one before: every signal gets a nonzero mark, and one after the other is marked as a quotient. The
+/// last constraint of the file marks the first of them. Fixed.
+pub fn division_chain() -> Vec<u8> {
+    let mut draft = Draft::new(P, 256, 1, 255);
+    (1..256).rev().for_each(|signal| inverses(&mut draft, signal, signal + 1));
+    draft.bytes()
+}
+
+/// 254 is 1, and from there down to 1 each signal is the inverse of the one above it; 255 is the inverse of 1, and 256 that of 255. Before these, 138 divisions
+/// by 254 whose B and C name 32 signals each, 64 together, all marked early but for the last of each, 255 and 256: after each mark the quotient 255 and the
+/// product 256 are tried anew, and neither will do before the other is marked. Fixed; in the only run all signals are 1.
+pub fn divisions_behind_decoys() -> Vec<u8> {
+    let mut draft = Draft::new(P, 256, 0, 256);
+    for decoy in 0..138 {
+        let form =
+            |first: u16, last: u16| -> Terms { (0..31).map(|index| (first + index, i64::from(1 + index + decoy))).chain([(last, 1)]).collect() };
+        draft.add(&[(254, 1)], &form(224, 255), &form(193, 256));
+    }
+    draft.add(&[(0, 1)], &[(254, 1)], &[(0, 1)]);
+    let chain: Vec<u16> = (1..=254).rev().chain([255, 256]).collect();
+    chain.windows(2).rev().for_each(|two| inverses(&mut draft, two[0], two[1]));
     draft.bytes()
 }
 

@@ -7,7 +7,7 @@ use literal::{Literal, Tagging};
 use second::brute::{pairs, satisfying_runs};
 use second::compose::{compose, USUAL_SIZE};
 use second::edge::{any_edge, tagged_digits, tied, Edge};
-use second::generate::{any, small, tiny, PRIMES};
+use second::generate::{any, small, tiny, Weaver, PRIMES};
 use second::grow::grown;
 use second::hand_in::{random_step, random_tags};
 use second::marker::write_steps;
@@ -15,15 +15,17 @@ use second::pair::write_pair;
 use second::planted::{planted, Planted};
 use second::random::Random;
 use second::reader::Circuit;
-use second::rules::{Rules, Standing, Step};
+use second::rules::{Rules, Standing, Step, DIGITS, NONZERO, PRODUCT, QUOTIENT, ROOT, SUM, ZERO};
 use second::runs::is_small;
 use second::sheet::{read_sheet, write_sheet, Tag, MAXVALUE, NO_TAGS};
-use second::solver::derive;
+use second::solver::{derive, longest};
 use second::vectors::{DERIVATION, SOLVE};
+use second::writer::Draft;
 use second::{check_derivation, check_pair, read_circuit, solve, worst, Judgement, Refusal};
 
 fn same(literal: &literal::Standing, standing: &Standing, circuit: &Circuit) -> bool {
-    circuit.all_signals().all(|s| literal.bounds[&s] == i128::from(standing.bound(s)) && literal.marked.contains(&s) == standing.is_marked(s))
+    let marks = |s: u16| (literal.marked.contains(&s), literal.nonzero.contains(&s)) == (standing.is_marked(s), standing.is_nonzero(s));
+    circuit.all_signals().all(|s| literal.bounds[&s] == i128::from(standing.bound(s)) && marks(s))
 }
 
 /// Whether a value obeys a tag.
@@ -50,6 +52,13 @@ fn assert_sound(circuit: &Circuit, standing: &Standing, runs: &[Vec<u32>]) {
     }
 }
 
+/// No satisfying run has the value 0 where there is a nonzero mark, whatever the tags on its inputs.
+fn assert_nonzero(circuit: &Circuit, standing: &Standing, all: &[Vec<u32>]) {
+    for signal in circuit.all_signals().filter(|&signal| standing.is_nonzero(signal)) {
+        assert!(all.iter().all(|run| run[usize::from(signal) - 1] > 0), "nonzero mark of {signal} in {circuit:?}");
+    }
+}
+
 /// Counted one by one: tags on signals other than inputs, shown at a standing or not. Each that is shown is obeyed by all allowed runs.
 fn assert_shown(circuit: &Circuit, tags: &[Tag], standing: &Standing, runs: &[Vec<u32>]) {
     let (mut count, mut first) = (0, 0);
@@ -73,11 +82,14 @@ fn assert_solved(rng: &mut Random, bytes: &[u8], circuit: &Circuit, tags: &[Tag]
     let (expected, expected_standing) = literal.solve();
     assert_eq!(steps, expected, "{tags:?} in {circuit:?}");
     assert!(same(&expected_standing, &standing, circuit));
-    assert!(circuit.all_signals().all(|signal| steps.iter().filter(|step| step.target == signal && step.kind <= 2).count() <= 1));
+    for signal in circuit.all_signals() {
+        let of_kinds = |kinds: &[u8]| steps.iter().filter(|step| step.target == signal && kinds.contains(&step.kind)).count();
+        assert!([&[ROOT, SUM][..], &[NONZERO], &[ZERO, PRODUCT, DIGITS, QUOTIENT]].into_iter().all(|kinds| of_kinds(kinds) <= 1));
+    }
     let mut all = literal.all_steps();
     rng.shuffle(&mut all);
     assert!(same(&literal.closure(&all), &standing, circuit), "closure of {tags:?} in {circuit:?}");
-    let (mut out, mut marks) = (vec![9; 7 + 14 * n], vec![9; n]);
+    let (mut out, mut marks) = (vec![9; longest(n)], vec![9; n]);
     let (judgement, length) = solve(bytes, &sheet, &mut out).unwrap();
     assert_eq!(out[..length], write_steps(&steps));
     assert!(out[length..].iter().all(|&byte| byte == 9));
@@ -108,10 +120,12 @@ fn assert_steps(rng: &mut Random, circuit: &Circuit, tags: &[Tag], tries: usize)
     standing
 }
 
-/// Every bound of the better standing is as low or lower, and every mark of the other is there.
+/// Every bound of the better standing is as low or lower, and every mark of the other is there, of both sorts.
 fn assert_at_least(circuit: &Circuit, better: &Standing, other: &Standing) {
     for signal in circuit.all_signals() {
-        assert!(better.bound(signal) <= other.bound(signal) && (better.is_marked(signal) || !other.is_marked(signal)), "{signal} in {circuit:?}");
+        assert!(better.bound(signal) <= other.bound(signal), "bound of {signal} in {circuit:?}");
+        assert!(better.is_marked(signal) || !other.is_marked(signal), "mark of {signal} in {circuit:?}");
+        assert!(better.is_nonzero(signal) || !other.is_nonzero(signal), "nonzero mark of {signal} in {circuit:?}");
     }
 }
 
@@ -130,16 +144,18 @@ fn small_circuit(rng: &mut Random, round: usize) -> Vec<u8> {
 #[test]
 fn small_circuits_against_all_runs() {
     let mut rng = Random::new(2026);
-    let (mut marks, mut lowered, mut fixed, mut kinds) = (0, 0, 0, [0; 6]);
-    for round in 0..4000 {
+    let (mut marks, mut lowered, mut fixed, mut divided, mut kinds) = (0, 0, 0, 0, [0; 8]);
+    for round in 0..5000 {
         let bytes = small_circuit(&mut rng, round);
         let circuit = read_circuit(&bytes).unwrap();
         assert!(is_small(&circuit));
         let runs = satisfying_runs(&circuit);
         let standing = assert_solved(&mut rng, &bytes, &circuit, &[]);
         assert_sound(&circuit, &standing, &runs);
+        assert_nonzero(&circuit, &standing, &runs);
         let partial = assert_steps(&mut rng, &circuit, &[], 60);
         assert_sound(&circuit, &partial, &runs);
+        assert_nonzero(&circuit, &partial, &runs);
         for (q, first, second) in pairs(&circuit, &runs, 5) {
             assert!(!standing.is_marked(q));
             assert_eq!(check_pair(&bytes, NO_TAGS, &write_pair(q, &runs[first], &runs[second])), Ok(q));
@@ -147,10 +163,12 @@ fn small_circuits_against_all_runs() {
         marks += standing.count() - usize::from(circuit.inputs);
         lowered += circuit.all_signals().filter(|&s| standing.bound(s) < circuit.field.prime() - 1).count();
         fixed += usize::from(standing.is_fixed(&circuit) && !runs.is_empty());
-        derive(&circuit, &[]).0.iter().for_each(|step| kinds[usize::from(step.kind)] += 1);
+        let steps = derive(&circuit, &[]).0;
+        steps.iter().for_each(|step| kinds[usize::from(step.kind)] += 1);
+        divided += usize::from(!runs.is_empty() && steps.iter().any(|step| step.kind == QUOTIENT));
     }
     // The circuits are worth their while: every rule is used often.
-    assert!(marks > 3000 && lowered > 4000 && fixed > 400, "{marks} {lowered} {fixed}");
+    assert!(marks > 3000 && lowered > 4000 && fixed > 400 && divided > 150, "{marks} {lowered} {fixed} {divided}");
     assert!(kinds[1..].iter().all(|&count| count > 300), "{kinds:?}");
 }
 
@@ -158,16 +176,18 @@ fn small_circuits_against_all_runs() {
 fn small_circuits_with_tags_against_all_allowed_runs() {
     let mut rng = Random::new(2027);
     let (mut fewer, mut lower, mut shown, mut unshown, mut inputs) = (0, 0, 0, 0, 0);
-    for round in 0..4000 {
+    for round in 0..6000 {
         let bytes = small_circuit(&mut rng, round);
         let circuit = read_circuit(&bytes).unwrap();
         let (all, tags) = (satisfying_runs(&circuit), random_tags(&mut rng, &circuit));
         let runs = allowed(&circuit, &tags, &all);
         let standing = assert_solved(&mut rng, &bytes, &circuit, &tags);
         assert_sound(&circuit, &standing, &runs);
+        assert_nonzero(&circuit, &standing, &all);
         assert_shown(&circuit, &tags, &standing, &runs);
         let partial = assert_steps(&mut rng, &circuit, &tags, 60);
         assert_sound(&circuit, &partial, &runs);
+        assert_nonzero(&circuit, &partial, &all);
         assert_shown(&circuit, &tags, &partial, &runs);
         assert_pairs(&bytes, &circuit, &tags, &all, &standing);
         // What the tags have done: fewer runs, lower bounds; inputs' bounds that were below p - 1 and are lowered further.
@@ -181,6 +201,84 @@ fn small_circuits_with_tags_against_all_allowed_runs() {
         inputs += (1..=circuit.inputs).filter(|&s| standing.bound(s) < start.bound(s) && start.bound(s) < circuit.field.prime() - 1).count();
     }
     assert!(fewer > 1000 && lower > 200 && shown > 2000 && unshown > 500 && inputs > 200, "{fewer} {lower} {shown} {unshown} {inputs}");
+}
+
+/// Circuits made of divisions, near misses among them.
+#[test]
+fn divisions_against_all_runs() {
+    let mut rng = Random::new(2032);
+    let (mut quotients, mut nonzero, mut satisfied, mut missed) = (0, 0, 0, 0);
+    for round in 0..4000 {
+        let bytes = divided(&mut rng);
+        let circuit = read_circuit(&bytes).unwrap();
+        let tags = if round % 3 == 0 { random_tags(&mut rng, &circuit) } else { Vec::new() };
+        let all = satisfying_runs(&circuit);
+        let runs = allowed(&circuit, &tags, &all);
+        let standing = assert_solved(&mut rng, &bytes, &circuit, &tags);
+        let partial = assert_steps(&mut rng, &circuit, &tags, 40);
+        for standing in [&standing, &partial] {
+            assert_sound(&circuit, standing, &runs);
+            assert_nonzero(&circuit, standing, &all);
+        }
+        assert_pairs(&bytes, &circuit, &tags, &all, &standing);
+        let steps = derive(&circuit, &tags).0;
+        let (divides, by_mark) = (steps.iter().any(|step| step.kind == QUOTIENT), steps.iter().any(|step| step.kind == NONZERO));
+        satisfied += usize::from(divides && runs.len() > 1);
+        quotients += usize::from(divides);
+        nonzero += usize::from(by_mark);
+        // Never 0 in any run, and yet without a nonzero mark.
+        let never = |signal: u16| !all.is_empty() && all.iter().all(|run| run[usize::from(signal) - 1] > 0);
+        missed += usize::from(circuit.all_signals().any(|signal| never(signal) && !standing.is_nonzero(signal)));
+    }
+    assert!(quotients > 1000 && nonzero > 2500 && satisfied > 250 && missed > 300, "{quotients} {nonzero} {satisfied} {missed}");
+}
+
+/// A small circuit of divisions, with 2 to 6 signals, of which up to two are inputs.
+fn divided(rng: &mut Random) -> Vec<u8> {
+    let (p, most) = rng.pick(&[(5, 6), (5, 5), (7, 5), (13, 4), (31, 3)]);
+    let n = rng.range(2, most) as u16;
+    let inputs = rng.range(0, usize::from(n - 1).min(2)) as u16;
+    let mut weaver = Weaver::new(rng, Draft::new(p, n, inputs, n - inputs));
+    (0..weaver.rng.range(1, usize::from(n))).for_each(|_| weaver.any_division());
+    weaver.draft.bytes()
+}
+
+/// Of a tiny circuit every standing that any derivation reaches: each is sound, and none has more than the solver's.
+#[test]
+fn every_derivation_of_tiny_circuits() {
+    let mut rng = Random::new(2033);
+    let (mut standings, mut whole) = (0, 0);
+    for round in 0..400 {
+        let bytes = if round % 2 == 0 { tiny(&mut rng) } else { divided(&mut rng) };
+        let circuit = read_circuit(&bytes).unwrap();
+        let tags = if round % 3 == 0 { random_tags(&mut rng, &circuit) } else { Vec::new() };
+        let (all, best) = (satisfying_runs(&circuit), derive(&circuit, &tags).1);
+        let (runs, reached) = (allowed(&circuit, &tags, &all), reached(&circuit, &tags, 3000));
+        for standing in &reached {
+            assert_sound(&circuit, standing, &runs);
+            assert_nonzero(&circuit, standing, &all);
+            assert_at_least(&circuit, &best, standing);
+        }
+        standings += reached.len();
+        whole += usize::from(reached.len() < 3000 && reached.contains(&best));
+    }
+    assert!(standings > 4000 && whole > 360, "{standings} {whole}");
+}
+
+/// The standings that derivations reach, at most so many.
+fn reached(circuit: &Circuit, tags: &[Tag], most: usize) -> Vec<Standing> {
+    let (rules, steps) = (Rules::new(circuit), Literal::new(circuit, tags).all_steps());
+    let (mut reached, mut at) = (vec![Standing::start(circuit, tags)], 0);
+    while at < reached.len() && reached.len() < most {
+        for &step in &steps {
+            let mut next = reached[at].clone();
+            if rules.progress(&mut next, step) == Some(true) && !reached.contains(&next) {
+                reached.push(next);
+            }
+        }
+        at += 1;
+    }
+    reached
 }
 
 /// Circuits in which marks rest on tags.
@@ -227,7 +325,7 @@ fn tags_that_assume_nothing_change_nothing() {
         tags.extend((1..=circuit.inputs).flat_map(|input| [Tag::new(input, 2, 30), Tag::new(input, MAXVALUE, circuit.field.prime() as u32 - 1)]));
         rng.shuffle(&mut tags);
         let (sheet, n) = (write_sheet(&tags), usize::from(circuit.signals));
-        let (mut with, mut without) = (vec![0; 7 + 14 * n], vec![0; 7 + 14 * n]);
+        let (mut with, mut without) = (vec![0; longest(n)], vec![0; longest(n)]);
         let (one, length) = solve(&bytes, &sheet, &mut with).unwrap();
         let (two, _) = solve(&bytes, NO_TAGS, &mut without).unwrap();
         assert_eq!(with, without);
@@ -255,7 +353,7 @@ fn an_empty_sheet_gives_what_no_sheet_gave() {
         assert!(circuit.all_signals().all(|signal| start.bound(signal) == most && start.is_marked(signal) == (signal <= circuit.inputs)));
         let literal = Literal::with(&circuit, &[], Tagging { first: |most, _, _| most, ..Tagging::RIGHT });
         let (steps, standing) = literal.solve();
-        let mut out = vec![0; 7 + 14 * usize::from(circuit.signals)];
+        let mut out = vec![0; longest(circuit.signals.into())];
         let (judgement, length) = solve(&bytes, NO_TAGS, &mut out).unwrap();
         assert_eq!(out[..length], write_steps(&steps));
         assert_eq!((judgement.count, judgement.shown, judgement.unshown), (standing.marked.len(), 0, 0));
@@ -325,8 +423,9 @@ fn nothing_is_left_on_the_worst_circuits() {
             let forms = [&constraint.a, &constraint.b, &constraint.c];
             let signals: Vec<u16> = forms.iter().flat_map(|form| form.signals()).map(|&(signal, _)| signal).collect();
             for &target in &signals {
-                let digits = signals.iter().filter(|_| !standing.is_marked(target)).map(|&reference| Step::new(5, target, number, reference));
-                for step in [1, 2, 4].map(|kind| Step::new(kind, target, number, 0)).into_iter().chain(digits) {
+                let references = signals.iter().filter(|_| !standing.is_marked(target));
+                let referring = references.flat_map(|&reference| [DIGITS, QUOTIENT].map(|kind| Step::new(kind, target, number, reference)));
+                for step in [ROOT, SUM, PRODUCT, NONZERO].map(|kind| Step::new(kind, target, number, 0)).into_iter().chain(referring) {
                     rules.take(&mut followed, step);
                 }
             }
@@ -357,8 +456,10 @@ fn vectors_of_small_circuits_agree_with_all_runs() {
             continue;
         }
         let tags = read_sheet(&circuit, &record.sheet).unwrap();
-        let runs = allowed(&circuit, &tags, &satisfying_runs(&circuit));
-        assert_sound(&circuit, &derive(&circuit, &tags).1, &runs);
+        let (all, best) = (satisfying_runs(&circuit), derive(&circuit, &tags).1);
+        let runs = allowed(&circuit, &tags, &all);
+        assert_sound(&circuit, &best, &runs);
+        assert_nonzero(&circuit, &best, &all);
         if record.kind == DERIVATION {
             let inputs = usize::from(circuit.inputs);
             for two in runs.windows(2).filter(|two| two[0][..inputs] == two[1][..inputs]) {

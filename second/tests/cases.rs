@@ -1,10 +1,12 @@
 //! Cases a to j of document 01, with every number there; c with idle steps.
 
-use second::cases::{case_a, case_b, case_c, case_e, case_f, case_g};
+use second::cases::{case_a, case_b, case_c, case_e, case_f, case_g, constant, division, equal_inverse};
+use second::cases::{guarded_division, guarded_is_zero, inverse, times_itself, wide_quotients};
 use second::marker::write_steps;
 use second::pair::write_pair;
-use second::rules::Step;
+use second::rules::{Step, DIGITS, NONZERO, PRODUCT, QUOTIENT, ROOT, SUM, ZERO};
 use second::sheet::{write_sheet, Tag, BINARY, MAXBIT, MAXVALUE, NO_TAGS};
+use second::solver::longest;
 use second::writer::Draft;
 use second::{check_derivation, check_pair, first_run, next_run, read_circuit, renew, solve, Refusal};
 
@@ -14,7 +16,7 @@ type Fields = (u8, u16, u16, u16);
 /// The solver's steps, the marked count, whether the outputs are fixed.
 fn solved(circuit: &[u8]) -> (Vec<Fields>, usize, bool) {
     let n = usize::from(read_circuit(circuit).unwrap().signals);
-    let mut out = vec![0; 7 + 14 * n];
+    let mut out = vec![0; longest(n)];
     let (judgement, length) = solve(circuit, NO_TAGS, &mut out).unwrap();
     assert_eq!(check_derivation(circuit, NO_TAGS, &out[..length], &mut vec![0; n]), Ok(judgement));
     assert_eq!((judgement.shown, judgement.unshown), (0, 0));
@@ -32,8 +34,8 @@ fn refusal<T>(number: u16, place: u32) -> Result<T, Refusal> {
 
 #[test]
 fn a_square() {
-    assert_eq!(solved(&case_a()), (vec![(4, 2, 1, 0)], 2, true));
-    assert_eq!(marked(&case_a(), &[Step::new(4, 2, 1, 0)]), Ok((2, true)));
+    assert_eq!(solved(&case_a()), (vec![(PRODUCT, 2, 1, 0)], 2, true));
+    assert_eq!(marked(&case_a(), &[Step::new(PRODUCT, 2, 1, 0)]), Ok((2, true)));
 }
 
 #[test]
@@ -47,11 +49,11 @@ fn b_two_ways() {
 fn c_three_bits() {
     let c = case_c(13);
     assert_eq!(c.len(), 113);
-    let steps = vec![(1, 2, 1, 0), (1, 3, 2, 0), (1, 4, 3, 0), (2, 1, 4, 0), (5, 2, 4, 2), (5, 3, 4, 2), (5, 4, 4, 1)];
+    let steps = vec![(ROOT, 2, 1, 0), (ROOT, 3, 2, 0), (ROOT, 4, 3, 0), (SUM, 1, 4, 0), (DIGITS, 2, 4, 2), (DIGITS, 3, 4, 2), (DIGITS, 4, 4, 1)];
     assert_eq!(solved(&c), (steps, 4, true));
     let read = read_circuit(&c).unwrap();
     assert_eq!((read.field.prime(), read.signals, read.inputs, read.outputs, read.constraints.len()), (13, 4, 1, 3, 4));
-    assert_eq!(solve(&c[..112], NO_TAGS, &mut [0; 63]), refusal(6, 112));
+    assert_eq!(solve(&c[..112], NO_TAGS, &mut [0; longest(4)]), refusal(6, 112));
 }
 
 #[test]
@@ -96,7 +98,7 @@ fn d_sum_equal_to_p() {
 #[test]
 fn e_square_is_zero() {
     let e = case_e();
-    assert_eq!(solved(&e), (vec![(1, 1, 1, 0), (3, 1, 0, 0)], 1, true));
+    assert_eq!(solved(&e), (vec![(ROOT, 1, 1, 0), (ZERO, 1, 0, 0)], 1, true));
 }
 
 #[test]
@@ -147,10 +149,10 @@ fn h_one_byte_more() {
 
 #[test]
 fn i_bad_steps() {
-    assert_eq!(marked(&case_a(), &[Step::new(6, 2, 1, 0)]), refusal(15, 1));
-    assert_eq!(marked(&case_a(), &[Step::new(4, 0, 1, 0)]), refusal(16, 1));
+    assert_eq!(marked(&case_a(), &[Step::new(9, 2, 1, 0)]), refusal(15, 1));
+    assert_eq!(marked(&case_a(), &[Step::new(PRODUCT, 0, 1, 0)]), refusal(16, 1));
     for target in 1..=4 {
-        assert_eq!(marked(&case_c(13), &[Step::new(4, target, 4, 0)]), refusal(17, 1));
+        assert_eq!(marked(&case_c(13), &[Step::new(PRODUCT, target, 4, 0)]), refusal(17, 1));
     }
 }
 
@@ -158,15 +160,14 @@ fn i_bad_steps() {
 #[test]
 fn c_padded() {
     let c = case_c(13);
-    let steps: Vec<Step> =
-        solved(&c).0.into_iter().map(|(kind, target, constraint, reference)| Step::new(kind, target, constraint, reference)).collect();
+    let steps = steps(&solved(&c).0);
     let with = |at: usize, step: Step| [&steps[..at], &[step], &steps[at..]].concat();
     let renewed = |sheet: &[u8], steps: &[Step]| {
         let mut out = write_steps(steps);
         renew(&c, sheet, &write_steps(steps), &mut out).map(|length| out[..length].to_vec())
     };
     // A root again, digits again, the sum again, digits of the input.
-    for (at, step) in [(1, steps[0]), (7, steps[1]), (5, steps[4]), (7, steps[5]), (4, steps[3]), (7, Step::new(5, 1, 4, 2))] {
+    for (at, step) in [(1, steps[0]), (7, steps[1]), (5, steps[4]), (7, steps[5]), (4, steps[3]), (7, Step::new(DIGITS, 1, 4, 2))] {
         assert_eq!(marked(&c, &with(at, step)), refusal(29, at as u32 + 1));
         assert_eq!(renewed(NO_TAGS, &with(at, step)), Ok(write_steps(&steps)));
     }
@@ -174,16 +175,95 @@ fn c_padded() {
     let tagged = write_sheet(&[Tag::new(1, MAXBIT, 3)]);
     assert_eq!(check_derivation(&c, &tagged, &write_steps(&steps), &mut [0; 4]), refusal(29, 4));
     assert_eq!(renewed(&tagged, &steps), Ok(write_steps(&[&steps[..3], &steps[4..]].concat())));
-    let zero = [Step::new(3, 1, 0, 0)];
+    let zero = [Step::new(ZERO, 1, 0, 0)];
     let tagged = write_sheet(&[Tag::new(1, MAXVALUE, 0)]);
     assert_eq!(check_derivation(&c, &tagged, &write_steps(&zero), &mut [0; 4]), refusal(29, 1));
     assert_eq!(renewed(&tagged, &zero), Ok(write_steps(&[])));
     // A marked target whose rule isn't met.
-    for step in [zero[0], Step::new(4, 1, 4, 0), Step::new(5, 1, 4, 2)] {
+    for step in [zero[0], Step::new(PRODUCT, 1, 4, 0), Step::new(DIGITS, 1, 4, 2)] {
         assert_eq!(marked(&c, &[step]), refusal(17, 1));
         assert_eq!(renewed(NO_TAGS, &[step]), refusal(17, 1));
     }
     assert_eq!(renewed(NO_TAGS, &steps), Ok(write_steps(&steps)));
+}
+
+/// The nonzero steps of an inverse and its quotient.
+const ONE: Fields = (NONZERO, 1, 1, 0);
+const TWO: Fields = (NONZERO, 2, 1, 0);
+const INVERSE: Fields = (QUOTIENT, 2, 1, 1);
+
+/// Rule 7.13: circuits, solved.
+#[test]
+fn divisions() {
+    assert_eq!(solved(&inverse(7, 1)), (vec![ONE, TWO, INVERSE], 2, true));
+    assert_eq!(solved(&inverse(7, 0)), (vec![ONE, TWO], 0, false));
+    for q in 1..=2 {
+        assert_eq!(check_pair(&inverse(7, 0), NO_TAGS, &write_pair(q, &[1, 1], &[2, 4])), Ok(q));
+    }
+    assert_eq!(listed(&inverse(7, 1), [0; 2]), [[1, 1], [2, 4], [3, 5], [4, 2], [5, 3], [6, 6]]);
+    assert_eq!(solved(&constant(7)), (vec![(SUM, 1, 1, 0), (NONZERO, 1, 1, 0), (DIGITS, 1, 1, 1)], 1, true));
+    let guarded = vec![(NONZERO, 2, 1, 0), (NONZERO, 4, 1, 0), (QUOTIENT, 3, 2, 2), (QUOTIENT, 4, 1, 2)];
+    assert_eq!(solved(&guarded_division()), (guarded, 4, true));
+    let wide = vec![(NONZERO, 2, 1, 0), (QUOTIENT, 4, 1, 2), (QUOTIENT, 3, 2, 2)];
+    assert_eq!(solved(&wide_quotients()), (wide, 4, true));
+    let is_zero = vec![(NONZERO, 1, 3, 0), (NONZERO, 4, 3, 0), (QUOTIENT, 2, 2, 1), (QUOTIENT, 3, 1, 1), (QUOTIENT, 4, 3, 1)];
+    assert_eq!(solved(&guarded_is_zero()), (is_zero, 4, true));
+    assert_eq!(solved(&equal_inverse()), (vec![ONE, TWO, (DIGITS, 2, 2, 2)], 2, true), "digits before the quotient by the lower constraint");
+    assert_eq!(judged(&equal_inverse(), &[ONE, TWO, INVERSE]), Ok((2, true)));
+}
+
+/// The steps with these fields.
+fn steps(fields: &[Fields]) -> Vec<Step> {
+    fields.iter().map(|&(kind, target, constraint, reference)| Step::new(kind, target, constraint, reference)).collect()
+}
+
+/// What is answered of the steps with these fields.
+fn judged(circuit: &[u8], fields: &[Fields]) -> Result<(usize, bool), Refusal> {
+    marked(circuit, &steps(fields))
+}
+
+/// Rule 7.13: single steps.
+#[test]
+fn steps_of_divisions() {
+    assert_eq!(judged(&case_g(), &[(NONZERO, 1, 2, 0)]), refusal(17, 1), "C is 0");
+    assert_eq!(judged(&case_g(), &[(NONZERO, 1, 1, 0)]), refusal(17, 1), "C has a signal");
+    let shifted = Draft::new(7, 2, 1, 1).with(&[(1, 1), (0, 1)], &[(2, 1)], &[(0, 1)]).bytes();
+    assert_eq!(judged(&shifted, &[ONE]), refusal(17, 1), "a constant beside the target");
+    assert_eq!(solved(&shifted), (vec![TWO], 1, false));
+    assert_eq!(judged(&inverse(7, 1), &[ONE, TWO, (QUOTIENT, 1, 1, 2)]), refusal(17, 3), "an unmarked reference");
+    assert_eq!(judged(&inverse(7, 1), &[TWO, INVERSE]), refusal(17, 2), "no nonzero mark");
+    assert_eq!(judged(&inverse(7, 1), &[ONE, (QUOTIENT, 1, 1, 1)]), refusal(17, 2), "the reference is the target");
+    assert_eq!(judged(&division(), &[(QUOTIENT, 3, 1, 2)]), refusal(17, 1), "the reference may be 0");
+    assert_eq!(check_pair(&division(), NO_TAGS, &write_pair(3, &[0, 0, 0], &[0, 0, 1])), Ok(3));
+    assert_eq!(judged(&times_itself(), &[ONE, (QUOTIENT, 2, 2, 1)]), refusal(17, 2), "the target in C");
+    assert_eq!(check_pair(&times_itself(), NO_TAGS, &write_pair(2, &[1, 0, 1], &[1, 1, 1])), Ok(2));
+    assert_eq!(judged(&inverse(7, 1), &[ONE, ONE]), refusal(29, 2));
+    assert_eq!(judged(&inverse(7, 1), &[ONE, INVERSE, INVERSE]), refusal(29, 3));
+    assert_eq!(judged(&inverse(7, 1), &[ONE, TWO, INVERSE, (QUOTIENT, 1, 1, 2)]), refusal(29, 4));
+    assert_eq!(judged(&inverse(7, 1), &[ONE, INVERSE]), Ok((2, true)), "nonzero marks aren't counted");
+    for kind in [8, 9, 255] {
+        assert_eq!(judged(&inverse(7, 1), &[ONE, (kind, 2, 1, 1)]), refusal(15, 2));
+    }
+}
+
+/// Rule 7.13: a renewal keeps what adds a nonzero mark.
+#[test]
+fn a_division_renewed() {
+    let given = write_steps(&steps(&[ONE, ONE, INVERSE, TWO, INVERSE, TWO]));
+    let (mut out, kept) = (given.clone(), write_steps(&steps(&[ONE, INVERSE, TWO])));
+    assert_eq!(renew(&inverse(7, 1), NO_TAGS, &given, &mut out), Ok(kept.len()));
+    assert_eq!(out[..kept.len()], kept);
+}
+
+/// The steps of a division as they are printed.
+#[test]
+fn a_division_as_printed() {
+    let path = std::path::Path::new(env!("CARGO_TARGET_TMPDIR")).join("division.cqt");
+    std::fs::write(&path, inverse(7, 1)).unwrap();
+    let input = std::process::Stdio::from(std::fs::File::open(&path).unwrap());
+    let output = std::process::Command::new(env!("CARGO_BIN_EXE_second-solve")).stdin(input).output().unwrap();
+    let expected = "circuit 7 2 1 1 1\nstep 1 nonzero 1 1 0\nstep 2 nonzero 2 1 0\nstep 3 quotient 2 1 1\nfixed 2\n";
+    assert_eq!(String::from_utf8(output.stdout).unwrap(), expected);
 }
 
 #[test]

@@ -13,7 +13,7 @@ use second::hand_in::{padded, random_derivation, random_tags, with_idle_steps};
 use second::marker::{read_steps, write_steps, MOST_STEPS};
 use second::random::Random;
 use second::reader::number16;
-use second::rules::{Rules, Step, ROOT, SUM, ZERO};
+use second::rules::{Rules, Step, DIGITS, NONZERO, PRODUCT, QUOTIENT, ROOT, STEPS, SUM, ZERO};
 use second::sheet::{write_sheet, Tag, NO_TAGS};
 use second::solver::derive;
 use second::vectors::{Answer, Record, DERIVATION, RENEW};
@@ -89,7 +89,11 @@ fn random_derivations_are_renewed() {
         }
         // A repeated step may lower a bound once more.
         let (once, twice) = (changing(&Literal::new(&circuit, &tags), &steps).1, changing(&Literal::new(&circuit, &tags), &repeated).1);
-        assert!(once.marked.is_subset(&twice.marked) && once.bounds.iter().all(|(signal, bound)| twice.bounds[signal] <= *bound));
+        assert!(
+            once.marked.is_subset(&twice.marked)
+                && once.nonzero.is_subset(&twice.nonzero)
+                && once.bounds.iter().all(|(signal, bound)| twice.bounds[signal] <= *bound)
+        );
         again += usize::from(once != twice);
     }
     assert!(idle > 10_000 && whole > 150 && again > 5, "{idle} {whole} {again}");
@@ -152,7 +156,7 @@ fn walk(circuit: &Circuit, record: &Record, reading: Reading, lenient: bool) -> 
     let (mut kept, mut standing) = (Vec::new(), start.clone());
     for (index, &step) in steps.iter().enumerate() {
         let refused = |number: u16| Err(Refusal { number, place: index as u32 + 1 });
-        if !(1..=5).contains(&step.kind) {
+        if !STEPS.contains(&step.kind) {
             return refused(15);
         }
         if !rules.in_range(step) {
@@ -245,17 +249,24 @@ fn the_right_reading_gives_every_stored_answer() {
 }
 
 /// Readings of "idle" that are wrong for the marker and for a renewal alike.
-const WRONG: [(&str, Idle); 17] = [
+const WRONG: [(&str, Idle); 22] = [
     ("never", |_| false),
     ("no root", |at| is_idle(at) && at.step.kind != ROOT),
     ("no sum", |at| is_idle(at) && at.step.kind != SUM),
     ("no zero", |at| is_idle(at) && at.step.kind != ZERO),
-    ("no product", |at| is_idle(at) && at.step.kind != 4),
-    ("no digits", |at| is_idle(at) && at.step.kind != 5),
+    ("no product", |at| is_idle(at) && at.step.kind != PRODUCT),
+    ("no digits", |at| is_idle(at) && at.step.kind != DIGITS),
+    ("no nonzero", |at| is_idle(at) && at.step.kind != NONZERO),
+    ("no quotient", |at| is_idle(at) && at.step.kind != QUOTIENT),
     ("not by an equal bound", |at| is_idle(at) && at.offered != Some(at.before.bounds[&at.step.target])),
     ("not by a higher bound", |at| is_idle(at) && at.offered.is_none_or(|bound| bound == at.before.bounds[&at.step.target])),
     ("no zero on a tagged input", |at| is_idle(at) && (at.step.kind != ZERO || at.step.target > at.inputs)),
     ("no mark on an input", |at| is_idle(at) && (at.step.kind <= SUM || at.step.target > at.inputs)),
+    ("by bounds and marks, without nonzero marks", |at| {
+        at.after.is_some_and(|after| (&after.bounds, &after.marked) == (&at.before.bounds, &at.before.marked))
+    }),
+    ("nonzero on a marked target", |at| is_idle(at) || (at.step.kind == NONZERO && at.before.marked.contains(&at.step.target))),
+    ("nonzero on an input", |at| is_idle(at) || (at.step.kind == NONZERO && at.step.target <= at.inputs)),
     ("by the bounds alone", |at| at.after.is_some_and(|after| after.bounds == at.before.bounds)),
     ("by the marks alone", |at| at.after.is_some_and(|after| after.marked == at.before.marked)),
     ("against the start", |at| at.after.is_some_and(|after| after == at.start)),
@@ -292,6 +303,13 @@ fn the_rule_comes_before_idleness() {
     }
 }
 
+/// A derivation without its nonzero steps.
+fn without_nonzero(derivation: &[u8]) -> Vec<u8> {
+    let mut steps = read_steps(derivation).unwrap();
+    steps.retain(|step| step.kind != NONZERO);
+    write_steps(&steps)
+}
+
 #[test]
 fn wrong_renewals_are_told() {
     let renewals = stored(RENEW);
@@ -303,7 +321,8 @@ fn wrong_renewals_are_told() {
         ("without the tags' first bounds", Renewal { steps: Reading { tagging, ..RIGHT }, ..RENEWAL }),
         ("25 by the new length", short(|lengths| lengths.lent < lengths.new)),
         ("25 by n", short(|lengths| lengths.lent < lengths.n)),
-        ("25 as the solver's", short(|lengths| lengths.lent < 7 + 14 * lengths.n)),
+        ("25 as the solver's", short(|lengths| lengths.lent < 7 + 21 * lengths.n)),
+        ("no nonzero steps", written(|new, _, _| without_nonzero(&new))),
         ("never 25", short(|_| false)),
         ("25 one too late", short(|lengths| lengths.lent + 1 < lengths.given)),
         ("25 one too early", short(|lengths| lengths.lent <= lengths.given)),

@@ -4,7 +4,7 @@
 mod literal;
 
 use literal::calls::{before, entries, refusal, right, stage, Found, Order};
-use literal::{Literal, Orders};
+use literal::{Literal, Orders, Phase};
 use second::compose::{compose, USUAL_SIZE};
 use second::marker::write_steps;
 use second::read_circuit;
@@ -282,7 +282,19 @@ fn wrong_ties_of_the_solver_are_told() {
     assert_eq!(solved_otherwise(&stored, &Orders::RIGHT), 0);
     let in_bounds = |name: &'static str, bounds| (name, Orders { bounds, ..Orders::RIGHT });
     let in_marks = |name: &'static str, marks| (name, Orders { marks, ..Orders::RIGHT });
+    let in_nonzero = |name: &'static str, nonzero| (name, Orders { nonzero, ..Orders::RIGHT });
+    let in_phases = |name: &'static str, phases| (name, Orders { phases, ..Orders::RIGHT });
     let wrong = [
+        in_phases("nonzero marks first", &[Phase::Nonzero, Phase::Bounds, Phase::Marks]),
+        in_phases("nonzero marks last", &[Phase::Bounds, Phase::Marks, Phase::Nonzero]),
+        in_phases("no nonzero marks", &[Phase::Bounds, Phase::Marks]),
+        in_phases("marks of both sorts together", &[Phase::Bounds, Phase::Both]),
+        in_nonzero("the highest target to be never 0 first", |[target, kind, constraint, reference]| [-target, kind, constraint, reference]),
+        in_nonzero("constraint before target", |[target, kind, constraint, reference]| [constraint, target, kind, reference]),
+        in_nonzero("the highest constraint with an inverse first", |[target, kind, constraint, reference]| [target, kind, -constraint, reference]),
+        in_marks("quotient before digits", |[target, kind, constraint, reference]| [target, moved(kind, 7, 5), constraint, reference]),
+        in_marks("quotient before product", |[target, kind, constraint, reference]| [target, moved(kind, 7, 4), constraint, reference]),
+        in_marks("quotient before zero", |[target, kind, constraint, reference]| [target, moved(kind, 7, 3), constraint, reference]),
         in_bounds("the largest bound first", |[new, target, kind, constraint]| [-new, target, kind, constraint]),
         in_bounds("target before bound", |[new, target, kind, constraint]| [target, new, kind, constraint]),
         in_bounds("the highest target first", |[new, target, kind, constraint]| [new, -target, kind, constraint]),

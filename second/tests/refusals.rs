@@ -5,8 +5,9 @@ use second::damage::Layout;
 use second::falling::{self, Falling};
 use second::marker::write_steps;
 use second::pair::write_pair;
-use second::rules::Step;
+use second::rules::{Step, DIGITS, QUOTIENT, STEPS, ZERO};
 use second::sheet::{write_sheet, Tag, BINARY, MAXBIT, MAXVALUE, NO_TAGS};
+use second::solver::longest;
 use second::vectors::{answer, bytes_of, DERIVATION, FIRST_RUN, NEXT_RUN, PAIR, READ, RENEW, SOLVE};
 use second::writer::Draft;
 
@@ -24,7 +25,7 @@ fn refused(kind: u8, circuit: &[u8], hand_in: &[u8], lent: usize) -> (u16, u32) 
 /// The refusal of a circuit, which must be the same in all calls, whatever is handed in.
 fn refused_circuit(circuit: &[u8]) -> (u16, u32) {
     let refusal = refused(READ, circuit, &[], 0);
-    for (kind, lent) in [(DERIVATION, 0), (PAIR, 0), (SOLVE, 0), (SOLVE, 4000), (RENEW, 0), (RENEW, 40), (FIRST_RUN, 4), (NEXT_RUN, 4)] {
+    for (kind, lent) in [(DERIVATION, 0), (PAIR, 0), (SOLVE, 0), (SOLVE, longest(256)), (RENEW, 0), (RENEW, 40), (FIRST_RUN, 4), (NEXT_RUN, 4)] {
         assert_eq!(refused(kind, circuit, b"bad", lent), refusal);
         assert_eq!(refused_with(kind, circuit, b"bad", b"bad", lent), refusal);
         assert_eq!(refused_with(kind, circuit, &write_sheet(&[Tag::new(0, 0, 0)]), b"bad", lent), refusal);
@@ -175,11 +176,11 @@ fn step_fields() {
         let steps = [&before[..], &[Step::new(kind, target, constraint, reference), Step::new(0, 0, 0, 0)]].concat();
         refused(DERIVATION, &circuit, &write_steps(&steps), 3)
     };
-    for kind in [0, 6, 7, 128, 255] {
+    for kind in [0, 8, 9, 128, 255] {
         assert_eq!(refused(kind, 0, 9, 9), (15, 4));
     }
     for (target, constraint, reference) in [(0, 1, 0), (4, 1, 0), (256, 1, 0), (2, 0, 0), (2, 3, 0), (2, 257, 0), (2, 1, 1), (2, 1, 256)] {
-        for kind in [1, 2, 4] {
+        for kind in [1, 2, 4, 6] {
             assert_eq!(refused(kind, target, constraint, reference), (16, 4));
         }
     }
@@ -188,8 +189,11 @@ fn step_fields() {
     }
     for (target, constraint, reference) in [(0, 2, 1), (4, 2, 1), (3, 0, 1), (3, 3, 1), (3, 2, 0), (3, 2, 4), (3, 2, 257)] {
         assert_eq!(refused(5, target, constraint, reference), (16, 4));
+        assert_eq!(refused(7, target, constraint, reference), (16, 4));
     }
-    for (kind, target, constraint, reference) in [(1, 1, 1, 0), (1, 2, 2, 0), (2, 2, 1, 0), (3, 1, 0, 0), (4, 2, 1, 0), (5, 2, 2, 1), (5, 1, 1, 1)] {
+    for (kind, target, constraint, reference) in
+        [(1, 1, 1, 0), (1, 2, 2, 0), (2, 2, 1, 0), (3, 1, 0, 0), (4, 2, 1, 0), (5, 2, 2, 1), (5, 1, 1, 1), (6, 2, 1, 0), (7, 3, 2, 1)]
+    {
         assert_eq!(refused(kind, target, constraint, reference), (17, 4));
     }
     for (kind, target, constraint, reference) in [(1, 2, 1, 0), (3, 2, 0, 0), (5, 3, 2, 3), (5, 3, 2, 1), (5, 1, 2, 1), (2, 3, 2, 0)] {
@@ -200,8 +204,8 @@ fn step_fields() {
 #[test]
 fn no_constraints() {
     let circuit = Draft::new(13, 2, 1, 1).bytes();
-    for kind in [1, 2, 4, 5] {
-        let step = Step::new(kind, 1, 1, u16::from(kind == 5));
+    for kind in STEPS.filter(|&kind| kind != ZERO) {
+        let step = Step::new(kind, 1, 1, u16::from([DIGITS, QUOTIENT].contains(&kind)));
         assert_eq!(refused(DERIVATION, &circuit, &write_steps(&[step]), 2), (16, 1));
     }
     assert_eq!(refused(PAIR, &circuit, &write_pair(2, &[3, 0], &[3, 1]), 0), (0, 0));
@@ -266,11 +270,11 @@ fn refused_free(circuit: &[u8], q: u16, second: [u32; 5]) -> (u16, u32) {
 #[test]
 fn solver_buffers() {
     for (circuit, n) in [(case_a(), 2), (case_c(13), 4), (Draft::new(13, 256, 0, 1).bytes(), 256)] {
-        let needed = 7 + 14 * n;
+        let needed = 7 + 21 * n;
         for lent in [0, 6, 7, needed - 1] {
             assert_eq!(refused(SOLVE, &circuit, &[], lent), (25, 0));
         }
-        for lent in [needed, needed + 1, 5000] {
+        for lent in [needed, needed + 1, longest(257)] {
             assert_eq!(refused(SOLVE, &circuit, &[], lent), (0, 0));
         }
     }
@@ -293,7 +297,7 @@ fn renewal_buffers() {
     assert_eq!(refused_with(RENEW, &case_a(), NO_TAGS, b"bad", 0), (11, 0));
     assert_eq!(refused_with(RENEW, &case_a(), NO_TAGS, &put(&write_steps(&[product]), 3, &[2]), 0), (12, 0));
     assert_eq!(refused_with(RENEW, &case_a(), NO_TAGS, &write_steps(&[product; 2])[..20], 0), (13, 0));
-    for (number, step) in [(15, Step::new(6, 2, 1, 0)), (16, Step::new(4, 2, 2, 0)), (17, Step::new(2, 2, 1, 0))] {
+    for (number, step) in [(15, Step::new(8, 2, 1, 0)), (16, Step::new(4, 2, 2, 0)), (17, Step::new(2, 2, 1, 0))] {
         assert_eq!(refused(&[product, product, step, product], 0), (number, 3));
         assert_eq!(refused(&[product, product, step, product], 35), (number, 3));
     }
@@ -309,7 +313,7 @@ fn marks_are_written_and_nothing_beyond() {
 /// refusal, whatever else is handed in.
 fn refused_sheet(p: u32, sheet: &[u8]) -> (u16, u32) {
     let circuit = Draft::new(p, 4, 2, 1).bytes();
-    let refusal = refused_with(SOLVE, &circuit, sheet, &[], 63);
+    let refusal = refused_with(SOLVE, &circuit, sheet, &[], longest(4));
     assert_eq!(refused_with(DERIVATION, &circuit, sheet, &write_steps(&[]), 4), refusal);
     assert_eq!(refused_with(PAIR, &circuit, sheet, &write_pair(3, &[0; 4], &[0, 0, 1, 0]), 0), refusal);
     assert_eq!(refused_with(RENEW, &circuit, sheet, &write_steps(&[]), 7), refusal);

@@ -1,9 +1,10 @@
 //! Each rule by itself: what meets it, what nearly does, and what it does to the standing.
 
-use second::cases::case_c;
+use second::cases::{case_c, constant, inverse};
 use second::marker::write_steps;
-use second::rules::{Rules, Standing, Step, DIGITS, PRODUCT, ROOT, SUM, ZERO};
+use second::rules::{Rules, Standing, Step, DIGITS, NONZERO, PRODUCT, QUOTIENT, ROOT, SUM, ZERO};
 use second::sheet::{read_sheet, shown, write_sheet, Tag, BINARY, MAXBIT, MAXVALUE, NO_TAGS};
+use second::solver::longest;
 use second::writer::Draft;
 use second::{brute, check_derivation, read_circuit, solve, Circuit, Judgement};
 
@@ -54,6 +55,7 @@ fn start() {
     let circuit = circuit(7, 3, 1, &[]);
     let standing = after(&circuit, &[]).unwrap();
     assert!((1..=3).all(|signal| standing.bound(signal) == 6 && standing.is_marked(signal) == (signal == 1)));
+    assert!((1..=3).all(|signal| !standing.is_nonzero(signal)));
 }
 
 #[test]
@@ -226,6 +228,138 @@ fn digits_need_target_and_reference_in_the_reduced_form() {
     assert!(after(&linear, &[(DIGITS, 1, 1, 1)]).is_some(), "a marked target and reference");
 }
 
+/// Whether one constraint gives signal 3 a nonzero mark, and nothing else by it.
+fn gives_nonzero(a: Form, b: Form, c: Form) -> bool {
+    let (one, step) = (circuit(7, 4, 2, &[(a, b, c)]), (NONZERO, 3, 1, 0));
+    let Some(standing) = after(&one, &[step]) else { return false };
+    assert!((1..=4).all(|signal| standing.is_nonzero(signal) == (signal == 3)));
+    assert!((1..=4).all(|signal| standing.bound(signal) == 6 && standing.is_marked(signal) == (signal < 3)));
+    assert_eq!([idle(&one, &[], &[step]), idle(&one, &[], &[step, step])], [Some(false), Some(true)]);
+    true
+}
+
+#[test]
+fn nonzero_needs_a_constant_c_and_the_target_alone_on_one_side() {
+    // Whatever the other side is: marked or not, with a constant, the target again, a constant, nothing.
+    for other in [&[(1, 1)][..], &[(4, 2)], &[(0, 3), (1, 1), (4, 1)], &[(3, 2)], &[(0, 1), (3, 1)], &[(0, 5)], &[]] {
+        for target in [1, 6] {
+            for c in [1, 6] {
+                assert!(gives_nonzero(&[(3, target)], other, &[(0, c)]), "{other:?}");
+                assert!(gives_nonzero(other, &[(3, target)], &[(0, c)]), "{other:?}");
+            }
+            assert!(!gives_nonzero(&[(3, target)], other, &[]), "C is 0");
+            assert!(!gives_nonzero(other, &[(3, target)], &[(1, 1)]), "C is a signal");
+            assert!(!gives_nonzero(other, &[(3, target)], &[(3, 1)]), "C is the target");
+            assert!(!gives_nonzero(&[(3, target)], other, &[(0, 1), (1, 1)]), "C is a constant and a signal");
+            assert!(!gives_nonzero(&[(3, target)], other, &[(0, 1), (3, 1)]), "C is a constant and the target");
+        }
+    }
+    assert!(!gives_nonzero(&[(0, 1), (3, 1)], &[(1, 1)], &[(0, 1)]), "a constant beside the target");
+    assert!(!gives_nonzero(&[(1, 1)], &[(0, 6), (3, 1)], &[(0, 1)]), "a constant beside the target");
+    assert!(!gives_nonzero(&[(1, 1), (3, 1)], &[(1, 1)], &[(0, 1)]), "a signal beside the target");
+    assert!(!gives_nonzero(&[(1, 1)], &[(3, 1), (4, 1)], &[(0, 1)]), "a signal beside the target");
+    assert!(!gives_nonzero(&[(0, 1), (3, 1)], &[(0, 1), (3, 1)], &[(0, 1)]), "both");
+    assert!(!gives_nonzero(&[(1, 1)], &[(4, 1)], &[(0, 1)]), "the target isn't there");
+    assert!(!gives_nonzero(&[(0, 1)], &[(0, 1)], &[(0, 1)]), "no signal is there");
+}
+
+#[test]
+fn nonzero_marks_say_nothing_of_bounds_and_bounds_nothing_of_them() {
+    // 3 is 1 or 2; that it can't be 0 is told by no rule.
+    let two = circuit(7, 3, 0, &[(&[(3, 1), (0, -1)], &[(3, 1), (0, -2)], &[])]);
+    assert!(!after(&two, &[(ROOT, 3, 1, 0)]).unwrap().is_nonzero(3));
+    assert!(after(&two, &[(NONZERO, 3, 1, 0)]).is_none());
+    // A signal that is 0 by a root and never 0 by an inverse: no run satisfies both.
+    let none = circuit(7, 1, 0, &[(&[(1, 1)], &[(1, 1)], &[]), (&[(1, 1)], &[(1, 1)], &[(0, 1)])]);
+    let standing = after(&none, &[(ROOT, 1, 1, 0), (NONZERO, 1, 2, 0), (ZERO, 1, 0, 0)]).unwrap();
+    assert!(standing.bound(1) == 0 && standing.is_marked(1) && standing.is_nonzero(1));
+    assert!(brute::satisfying_runs(&none).is_empty());
+    // An input tagged 0 gets one too.
+    let tagged = read_circuit(&inverse(7, 1)).unwrap();
+    assert!(after_with(&tagged, &[Tag::new(1, MAXVALUE, 0)], &[(NONZERO, 1, 1, 0)]).unwrap().is_nonzero(1));
+}
+
+/// Whether signal 3 is a quotient by a reference, by the last of three constraints, once inputs 1 and 2 and signals 3 and 5 have nonzero marks.
+fn divides(a: Form, b: Form, c: Form, reference: u16) -> bool {
+    let inverses: [(Form, Form, Form); 2] = [(&[(1, 1)], &[(2, 1)], &[(0, 1)]), (&[(3, 1)], &[(5, 1)], &[(0, 1)])];
+    let all = circuit(7, 6, 2, &[inverses[0], inverses[1], (a, b, c)]);
+    let marks = [(NONZERO, 1, 1, 0), (NONZERO, 2, 1, 0), (NONZERO, 3, 2, 0), (NONZERO, 5, 2, 0)];
+    let step = (QUOTIENT, 3, 3, reference);
+    let Some(standing) = after(&all, &[&marks[..], &[step]].concat()) else { return false };
+    assert!((1..=6).all(|signal| standing.is_marked(signal) == (signal <= 3) && standing.bound(signal) == 6));
+    assert!(after(&all, &[step]).is_none(), "without the nonzero marks");
+    assert_eq!(idle(&all, &[], &[&marks[..], &[step, step]].concat()), Some(true));
+    true
+}
+
+/// So either way round.
+fn divides_by_1(one: Form, other: Form, c: Form) -> bool {
+    let both = [divides(one, other, c, 1), divides(other, one, c, 1)];
+    assert_eq!(both[0], both[1], "{one:?} {other:?} {c:?}");
+    both[0]
+}
+
+#[test]
+fn quotient_needs_the_reference_alone_on_one_side_and_the_target_on_the_other() {
+    for c in [&[][..], &[(0, 3)], &[(2, 1)], &[(1, 4)], &[(0, 1), (1, 1), (2, 5)]] {
+        for other in [&[(3, 1)][..], &[(3, 6)], &[(0, 2), (3, 1)], &[(2, 1), (3, 2)], &[(1, 1), (3, 1)], &[(0, 1), (1, 2), (2, 3), (3, 4)]] {
+            assert!(divides_by_1(&[(1, 1)], other, c) && divides_by_1(&[(1, 5)], other, c), "{other:?} {c:?}");
+            assert!(!divides_by_1(&[(0, 1), (1, 1)], other, c), "a constant beside the reference");
+            assert!(!divides_by_1(&[(1, 1), (2, 1)], other, c), "a signal beside the reference");
+            assert!(!divides_by_1(&[(0, 1)], other, c) && !divides_by_1(&[], other, c), "the reference isn't there, and the constraint is linear");
+        }
+        assert!(!divides_by_1(&[(1, 1)], &[(2, 1)], c), "the target isn't there");
+        assert!(!divides_by_1(&[(1, 1)], &[(0, 2)], c), "the target isn't there, and the constraint is linear");
+        assert!(!divides_by_1(&[(1, 1)], &[(3, 1), (4, 1)], c), "another signal beside the target is unmarked");
+        assert!(!divides_by_1(&[(1, 1)], &[(3, 1), (5, 1)], c), "another signal beside the target is unmarked, though never 0");
+        assert!(!divides_by_1(&[(1, 1), (3, 1)], &[(3, 1)], c), "the target beside the reference");
+        assert!(!divides_by_1(&[(2, 1)], &[(3, 1)], c) && divides(&[(2, 1)], &[(3, 1)], c, 2), "another reference");
+        for reference in [2, 3, 4, 5, 6] {
+            assert!(!divides(&[(1, 1)], &[(3, 1)], c, reference) && !divides(&[(3, 1)], &[(1, 1)], c, reference), "another reference");
+            assert!(!divides(&[(1, 1)], &[(2, 1), (3, 1)], c, reference), "beside the target, not alone");
+        }
+        for reference in [3, 4, 5] {
+            assert!(!divides(&[(reference, 1)], &[(3, 1)], c, reference), "the target, one without both marks, one that is unmarked");
+            assert!(!divides(&[(3, 1)], &[(reference, 1)], c, reference));
+        }
+    }
+    for c in [&[(3, 1)][..], &[(0, 1), (3, 2)], &[(1, 1), (3, 1)]] {
+        assert!(!divides_by_1(&[(1, 1)], &[(3, 1)], c), "the target in C");
+    }
+    assert!(!divides_by_1(&[(1, 1)], &[(2, 1)], &[(3, 1)]), "a product");
+    for c in [&[(4, 1)][..], &[(0, 1), (4, 1)], &[(1, 1), (5, 2)]] {
+        assert!(!divides_by_1(&[(1, 1)], &[(3, 1)], c), "another signal in C is unmarked");
+    }
+}
+
+#[test]
+fn quotient_needs_both_marks_of_its_reference() {
+    // 1 is an input, 2 its inverse, 3 the quotient of 1 and 2, 4 that of 1 and itself.
+    let forms: [(Form, Form, Form); 3] = [(&[(1, 1)], &[(2, 1)], &[(0, 1)]), (&[(2, 1)], &[(3, 1)], &[(1, 1)]), (&[(4, 1)], &[(4, 1)], &[(1, 1)])];
+    let all = circuit(7, 4, 1, &forms);
+    let met = |steps: &[(u8, u16, u16, u16)]| after(&all, steps).is_some();
+    let (one, two, inverse, quotient) = ((NONZERO, 1, 1, 0), (NONZERO, 2, 1, 0), (QUOTIENT, 2, 1, 1), (QUOTIENT, 3, 2, 2));
+    assert!(met(&[one, inverse, two, quotient]) && met(&[two, one, inverse, quotient]));
+    assert!(!met(&[inverse]) && !met(&[two, inverse]), "1 has no nonzero mark");
+    assert!(!met(&[two, quotient]), "2 is unmarked");
+    assert!(!met(&[one, inverse, quotient]), "2 has no nonzero mark");
+    assert!(!met(&[two, (QUOTIENT, 1, 1, 2)]) && met(&[one, inverse, two, (QUOTIENT, 1, 1, 2)]), "an input as the target");
+    assert!(!met(&[one, two, (QUOTIENT, 4, 3, 4)]), "a square root isn't one");
+    assert_eq!(idle(&all, &[], &[one, inverse, two, (QUOTIENT, 1, 1, 2)]), Some(true));
+}
+
+#[test]
+fn three_steps_for_one_target() {
+    for p in [7, 3, 2_147_483_647] {
+        let mut out = [9; longest(1)];
+        let (judgement, length) = solve(&constant(p), NO_TAGS, &mut out).unwrap();
+        let expected = [Step::new(SUM, 1, 1, 0), Step::new(NONZERO, 1, 1, 0), Step::new(DIGITS, 1, 1, 1)];
+        assert_eq!((length, &out[..]), (out.len(), &write_steps(&expected)[..]));
+        assert!(judgement.fixed && check_derivation(&constant(p), NO_TAGS, &out, &mut [0]) == Ok(judgement));
+        assert!(solve(&constant(p), NO_TAGS, &mut out[..longest(1) - 1]).is_err());
+    }
+}
+
 #[test]
 fn a_step_is_idle_if_the_standing_stays() {
     // 1 is an input; 2 has the roots 0 and 3, 0 and 5, and 3 and 0 again; 3 equals 2; 4 is the square of 1, and 1.
@@ -364,7 +498,7 @@ fn the_solver_begins_at_the_first_bounds() {
     // 2 is twice 1 and 1 more, 3 is their sum; 1 and 2 are inputs.
     let draft = Draft::new(31, 3, 2, 1).with(&[(0, 1)], &[(1, 2), (0, 1), (2, -1)], &[]).with(&[(0, 1)], &[(1, 1), (2, 1), (3, -1)], &[]);
     let steps = |x: u32, y: u32| {
-        let (mut out, tags) = ([0; 49], [Tag::new(1, MAXVALUE, x), Tag::new(3, MAXVALUE, 7), Tag::new(2, MAXVALUE, y)]);
+        let (mut out, tags) = ([0; longest(3)], [Tag::new(1, MAXVALUE, x), Tag::new(3, MAXVALUE, 7), Tag::new(2, MAXVALUE, y)]);
         let (judgement, length) = solve(&draft.bytes(), &write_sheet(&tags), &mut out).unwrap();
         let bounds = second::marker::read_steps(&out[..length]).unwrap().into_iter().filter(|step| step.kind == SUM);
         (bounds.map(|step| (step.target, step.constraint)).collect::<Vec<_>>(), judgement.shown)

@@ -53,7 +53,7 @@ fn assert_next(bytes: &[u8], satisfying: &[Vec<u32>], given: &[u32]) {
 fn lists_are_all_satisfying_runs_each_once_and_rising() {
     let mut rng = Random::new(3001);
     let (mut empty, mut several) = (0, 0);
-    for _ in 0..1500 {
+    for _ in 0..1700 {
         let bytes = if rng.once_in(3) { small(&mut rng) } else { tiny(&mut rng) };
         let circuit = read_circuit(&bytes).unwrap();
         let satisfying: Vec<Vec<u32>> = candidates(&circuit).filter(|run| satisfies(&circuit, run)).collect();

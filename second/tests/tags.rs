@@ -8,7 +8,7 @@ use second::compose::{compose, USUAL_SIZE};
 use second::marker::{read_steps, write_steps};
 use second::pair::values;
 use second::reader::number16;
-use second::rules::Rules;
+use second::rules::{Rules, STEPS};
 use second::sheet::Tag;
 use second::vectors::{Answer, Record, DERIVATION, PAIR, SOLVE};
 use second::{read_circuit, Circuit};
@@ -39,7 +39,7 @@ fn answer(record: &Record, tagging: Tagging) -> Answer {
     let (mut standing, rules) = (literal.start(), Rules::new(&circuit));
     for (number, step) in (1..).zip(read_steps(&record.hand_in).unwrap()) {
         // A step that isn't come to where tags are read rightly may have any fields.
-        if !(1..=5).contains(&step.kind) || !rules.in_range(step) {
+        if !STEPS.contains(&step.kind) || !rules.in_range(step) {
             return Answer { number: 16, place: number, ..Answer::default() };
         }
         match literal.take(&standing, step) {

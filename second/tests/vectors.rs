@@ -65,8 +65,10 @@ fn no_limit_hangs_on_one_vector() {
         several("marks", &|r| r.kind == DERIVATION && i64::from(r.lent) == i64::from(header(r, 9)) + more && r.answer.number == number);
     }
     for (more, number) in [(-1, 25), (0, 0), (1, 0)] {
-        several("output", &|r| r.kind == SOLVE && i64::from(r.lent) == 7 + 14 * i64::from(header(r, 9)) + more && r.answer.number == number);
+        several("output", &|r| r.kind == SOLVE && i64::from(r.lent) == 7 + 21 * i64::from(header(r, 9)) + more && r.answer.number == number);
     }
+    several("output as before nonzero marks", &|r| r.kind == SOLVE && r.lent == 7 + 14 * u32::from(header(r, 9)) && r.answer.number == 25);
+    several("output that is filled", &|r| r.kind == SOLVE && r.answer.number == 0 && r.lent > 7 && r.answer.written.len() == r.lent as usize);
     for (more, number) in [(-1, 25), (0, 0), (1, 0)] {
         several("renewed", &|r| r.kind == RENEW && i64::from(r.lent) == r.hand_in.len() as i64 + more && r.answer.number == number);
     }
@@ -132,6 +134,17 @@ fn fields_hang_on_several_vectors() {
     };
     several("digits by reference 0", 16, &|s| s.kind == 5 && s.target > 0 && s.constraint > 0 && s.reference == 0);
     several("digits by a reference without a coefficient", 17, &|s| s == Step::new(5, 4, 3, 3) || s == Step::new(5, 4, 3, 5));
+    several("nonzero with a reference", 16, &|s| s.kind == 6 && s.target > 0 && s.constraint > 0 && s.reference > 0);
+    several("nonzero without a constraint", 16, &|s| s.kind == 6 && s.target > 0 && s.constraint == 0);
+    several("quotient by reference 0", 16, &|s| s.kind == 7 && s.target > 0 && s.constraint > 0 && s.reference == 0);
+    several("quotient by the target", 17, &|s| s.kind == 7 && s.reference == s.target);
+    several("kind 6", 17, &|s| s.kind == 6);
+    several("kind 6", 29, &|s| s.kind == 6);
+    several("kind 7", 17, &|s| s.kind == 7);
+    several("kind 7", 29, &|s| s.kind == 7);
+    several("kind 8", 15, &|s| s.kind == 8);
+    several("kind 9", 15, &|s| s.kind == 9);
+    several("kind 255", 15, &|s| s.kind == 255);
     several("zero with a constraint", 16, &|s| s.kind == 3 && s.constraint > 0 && s.reference == 0);
     several("zero with a reference", 16, &|s| s.kind == 3 && s.constraint == 0 && s.reference > 0);
 }

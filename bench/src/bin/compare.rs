@@ -14,7 +14,7 @@ use second::worst_runs;
 /// Solving where the digits test is widest; digits steps whose adding ends early or not; marking and renewing 4,096 steps, most of them idle or none;
 /// listing runs where every candidate is looked at.
 fn longest() -> Vec<Record> {
-    let mut records: Vec<Record> = [1, 35, MOST_SUMS].map(|sums| Record::answered(SOLVE, &broken_sums(sums), NO_TAGS, &[], 7 + 14 * 256)).into();
+    let mut records: Vec<Record> = [1, 35, MOST_SUMS].map(|sums| Record::answered(SOLVE, &broken_sums(sums), NO_TAGS, &[], 7 + 21 * 256)).into();
     let padded = all_padded().map(|padded| (padded.circuit, padded.derivation));
     let falling = [falling::chain(), falling::wide_chain()].map(|Falling { circuit, derivation }| (circuit, derivation));
     for (circuit, derivation) in padded.into_iter().chain(falling) {

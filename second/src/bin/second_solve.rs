@@ -5,6 +5,7 @@ use std::io::Read;
 
 use second::marker::read_steps;
 use second::sheet::NO_TAGS;
+use second::solver::longest;
 use second::{read_circuit, solve, Refusal};
 
 fn main() -> std::io::Result<()> {
@@ -20,12 +21,12 @@ fn main() -> std::io::Result<()> {
 
 fn solution(bytes: &[u8], sheet: Option<&[u8]>) -> Result<String, Refusal> {
     let circuit = read_circuit(bytes)?;
-    let mut out = vec![0; 7 + 14 * usize::from(circuit.signals)];
+    let mut out = vec![0; longest(circuit.signals.into())];
     let (judgement, length) = solve(bytes, sheet.unwrap_or(NO_TAGS), &mut out)?;
     let m = circuit.constraints.len();
     let mut text = format!("circuit {} {} {} {} {m}\n", circuit.field.prime(), circuit.signals, circuit.inputs, circuit.outputs);
     for (number, step) in (1..).zip(read_steps(&out[..length])?) {
-        let kind = ["root", "sum", "zero", "product", "digits"][usize::from(step.kind) - 1];
+        let kind = ["root", "sum", "zero", "product", "digits", "nonzero", "quotient"][usize::from(step.kind) - 1];
         text += &format!("step {number} {kind} {} {} {}\n", step.target, step.constraint, step.reference);
     }
     text += &format!("{} {}\n", if judgement.fixed { "fixed" } else { "open" }, judgement.count);

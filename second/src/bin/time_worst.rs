@@ -3,6 +3,7 @@
 use std::time::Instant;
 
 use second::sheet::NO_TAGS;
+use second::solver::longest;
 use second::{check_derivation, read_circuit, solve, worst};
 
 /// The shortest of several times, in milliseconds.
@@ -24,7 +25,7 @@ fn main() {
     let tagged = worst::tagged().into_iter().map(|tagged| (format!("{}, 256 tags", tagged.name), tagged.circuit, tagged.sheet));
     for (name, bytes, sheet) in bare.chain(tagged) {
         let circuit = read_circuit(&bytes).expect("worst circuits are valid");
-        let mut out = vec![0; 7 + 14 * usize::from(circuit.signals)];
+        let mut out = vec![0; longest(circuit.signals.into())];
         let (judgement, length) = solve(&bytes, &sheet, &mut out).expect("the buffer is long enough");
         let mut marks = vec![0; usize::from(circuit.signals)];
         let read = shortest(|| assert!(read_circuit(&bytes).is_ok()));

@@ -1,10 +1,10 @@
-//! The solver's second phase. Bounds stay and marks only grow, so a step that marks a target keeps doing so until the target is marked.
+//! The solver's third phase. Bounds and nonzero marks stay and marks only grow, so a step that marks a target keeps doing so until the target is marked.
 
 use std::collections::BTreeSet;
 
 use super::{occurrences, Linear};
 use crate::reader::{Circuit, Constraint};
-use crate::rules::{are_digits, Standing, Step, DIGITS, PRODUCT, ZERO};
+use crate::rules::{are_digits, divisor, Standing, Step, DIGITS, PRODUCT, QUOTIENT, ZERO};
 
 /// Marks signals until no step marks one.
 pub fn mark_all(circuit: &Circuit, linear: &[Linear], standing: &mut Standing) -> Vec<Step> {
@@ -20,9 +20,9 @@ pub fn mark_all(circuit: &Circuit, linear: &[Linear], standing: &mut Standing) -
 
 /// What is known of every constraint under the present marks.
 struct Marking<'a> {
-    products: Vec<Product>,
+    counted: Vec<Counted>,
     digits: Vec<Digits<'a>>,
-    in_products: Vec<Vec<(usize, usize)>>,
+    in_counted: Vec<Vec<(usize, usize)>>,
     in_digits: Vec<Vec<(usize, usize)>>,
     /// The unmarked signals that some step marks.
     ready: BTreeSet<u16>,
@@ -31,18 +31,18 @@ struct Marking<'a> {
 impl<'a> Marking<'a> {
     fn new(circuit: &'a Circuit, linear: &'a [Linear], standing: &Standing) -> Marking<'a> {
         let nonlinear = (1..).zip(&circuit.constraints).filter(|(_, constraint)| !constraint.is_linear());
-        let products: Vec<Product> = nonlinear.map(|(number, constraint)| Product::new(number, constraint, standing)).collect();
+        let counted: Vec<Counted> = nonlinear.map(|(number, constraint)| Counted::new(number, constraint, standing)).collect();
         let mut digits: Vec<Digits> = linear.iter().map(|linear| Digits::new(linear, circuit, standing)).collect();
         let mut ready: BTreeSet<u16> = circuit.all_signals().filter(|&s| !standing.is_marked(s) && standing.bound(s) == 0).collect();
-        ready.extend(products.iter().filter_map(|product| product.marks(standing)));
+        ready.extend(counted.iter().filter_map(|counted| counted.step(standing)).map(|step| step.target));
         for digits in &mut digits {
             if digits.search(standing) {
                 ready.extend(digits.unmarked(standing));
             }
         }
-        let in_products = occurrences(circuit, products.iter().map(|product| &product.signals[..]));
+        let in_counted = occurrences(circuit, counted.iter().map(|counted| &counted.signals[..]));
         let in_digits = occurrences(circuit, linear.iter().map(|linear| &linear.reduced.terms[..]));
-        Marking { products, digits, in_products, in_digits, ready }
+        Marking { counted, digits, in_counted, in_digits, ready }
     }
 
     /// The step that marks a ready target: lowest kind, constraint, reference.
@@ -50,21 +50,18 @@ impl<'a> Marking<'a> {
         if standing.bound(target) == 0 {
             return Step::new(ZERO, target, 0, 0);
         }
-        let mut products = self.in_products[usize::from(target)].iter().map(|&(list, _)| &self.products[list]);
-        if let Some(product) = products.find(|product| product.marks(standing) == Some(target)) {
-            return Step::new(PRODUCT, target, product.number, 0);
-        }
+        let counted = self.in_counted[usize::from(target)].iter().filter_map(|&(list, _)| self.counted[list].step(standing));
+        let first = |kind: u8| counted.clone().find(|step| step.kind == kind);
         let mut digits = self.in_digits[usize::from(target)].iter().map(|&(list, _)| &self.digits[list]);
-        let first = digits.find_map(|digits| Some((digits.linear.number, digits.reference()?)));
-        let (constraint, reference) = first.expect("a ready target has a step");
-        Step::new(DIGITS, target, constraint, reference)
+        let mut first_digits = || digits.find_map(|digits| Some(Step::new(DIGITS, target, digits.linear.number, digits.reference()?)));
+        first(PRODUCT).or_else(&mut first_digits).or_else(|| first(QUOTIENT)).expect("a ready target has a step")
     }
 
     /// Takes note of a new mark and of the targets that it makes ready.
     fn note_mark(&mut self, signal: u16, standing: &Standing) {
-        for &(list, _) in &self.in_products[usize::from(signal)] {
-            self.products[list].open -= 1;
-            self.ready.extend(self.products[list].marks(standing));
+        for &(list, _) in &self.in_counted[usize::from(signal)] {
+            self.counted[list].open -= 1;
+            self.ready.extend(self.counted[list].step(standing).map(|step| step.target));
         }
         for &(list, position) in &self.in_digits[usize::from(signal)] {
             let digits = &mut self.digits[list];
@@ -77,31 +74,37 @@ impl<'a> Marking<'a> {
     }
 }
 
-/// A constraint that isn't linear.
-struct Product {
+/// How a constraint marks a signal once it is the only unmarked one there: kind and reference.
+type Way = Option<(u8, u16)>;
+
+/// A constraint that isn't linear. A linear one has no product and, as A and B both name a signal in those, no quotient.
+struct Counted {
     number: u16,
-    /// The signals of A, B and C, each with 1 if it stands in C alone, else 0.
-    signals: Vec<(u16, u64)>,
+    /// The signals of A, B and C.
+    signals: Vec<(u16, Way)>,
     /// How many of them are unmarked.
     open: usize,
 }
 
-impl Product {
-    fn new(number: u16, constraint: &Constraint, standing: &Standing) -> Product {
+impl Counted {
+    fn new(number: u16, constraint: &Constraint, standing: &Standing) -> Counted {
         let Constraint { a, b, c } = constraint;
         let named: BTreeSet<u16> = [a, b, c].iter().flat_map(|form| form.signals()).map(|&(signal, _)| signal).collect();
         let open = named.iter().filter(|&&signal| !standing.is_marked(signal)).count();
-        let signals = named.into_iter().map(|signal| (signal, u64::from(!a.names(signal) && !b.names(signal)))).collect();
-        Product { number, signals, open }
+        let way = |signal: u16| match a.names(signal) || b.names(signal) {
+            false => Some((PRODUCT, 0)),
+            true => divisor(constraint, signal).filter(|&reference| standing.is_nonzero(reference)).map(|reference| (QUOTIENT, reference)),
+        };
+        Counted { number, signals: named.into_iter().map(|signal| (signal, way(signal))).collect(), open }
     }
 
-    /// The unmarked signal that the product rule marks, if there is one.
-    fn marks(&self, standing: &Standing) -> Option<u16> {
+    /// The step that marks the only unmarked signal, if there is one. Its reference is another one, and so marked.
+    fn step(&self, standing: &Standing) -> Option<Step> {
         if self.open != 1 {
             return None;
         }
-        let &(signal, alone) = self.signals.iter().find(|&&(signal, _)| !standing.is_marked(signal))?;
-        (alone == 1).then_some(signal)
+        let &(target, way) = self.signals.iter().find(|&&(signal, _)| !standing.is_marked(signal))?;
+        way.map(|(kind, reference)| Step::new(kind, target, self.number, reference))
     }
 }
 

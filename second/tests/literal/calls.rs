@@ -2,7 +2,7 @@
 
 use second::marker::MOST_STEPS;
 use second::reader::{number16, number32, numbers32, Circuit};
-use second::rules::Step;
+use second::rules::{Step, DIGITS, NONZERO, PRODUCT, QUOTIENT, ROOT, STEPS, SUM, ZERO};
 use second::sheet::{Tag, MOST_TAGS};
 use second::vectors::{Record, DERIVATION, FIRST_RUN, NEXT_RUN, PAIR, READ, RENEW, WITH_SHEET};
 use second::{field, read_circuit};
@@ -75,7 +75,7 @@ fn faults(record: &Record) -> Vec<Found> {
         }
         FIRST_RUN => found.extend(in_runs(circuit, None, *lent)),
         NEXT_RUN => found.extend(in_runs(circuit, Some(&numbers32(hand_in)), *lent)),
-        _ => found.extend((circuit.len() >= 17 && *lent < 7 + 14 * u32::from(n)).then_some((25, 0))),
+        _ => found.extend((circuit.len() >= 17 && *lent < 7 + 21 * u32::from(n)).then_some((25, 0))),
     }
     found
 }
@@ -198,7 +198,7 @@ fn in_steps(read: Option<&Circuit>, tags: &[Tag], [n, m]: [u16; 2], derivation: 
     for (number, step) in (1..).zip(derivation.get(7..).unwrap_or_default().chunks_exact(7)) {
         let step = Step::new(step[0], number16(step, 1), number16(step, 3), number16(step, 5));
         let fields = in_range(step, n, m);
-        found.extend((!(1..=5).contains(&step.kind)).then_some((15, number)));
+        found.extend((!STEPS.contains(&step.kind)).then_some((15, number)));
         found.extend((!fields).then_some((16, number)));
         if let (Some(literal), Some(now), true) = (&literal, &standing, can_be_judged(step, n, m)) {
             match literal.take(now, step) {
@@ -215,9 +215,9 @@ fn in_steps(read: Option<&Circuit>, tags: &[Tag], [n, m]: [u16; 2], derivation: 
 /// Whether the fields that the rule reads are in range.
 fn can_be_judged(step: Step, n: u16, m: u16) -> bool {
     match step.kind {
-        3 => in_range(Step::new(3, step.target, 0, 0), n, m),
-        1 | 2 | 4 => in_range(Step::new(1, step.target, step.constraint, 0), n, m),
-        5 => in_range(step, n, m),
+        ZERO => in_range(Step::new(ZERO, step.target, 0, 0), n, m),
+        ROOT | SUM | PRODUCT | NONZERO => in_range(Step::new(ROOT, step.target, step.constraint, 0), n, m),
+        DIGITS | QUOTIENT => in_range(step, n, m),
         _ => false,
     }
 }
@@ -226,9 +226,9 @@ fn can_be_judged(step: Step, n: u16, m: u16) -> bool {
 fn in_range(step: Step, n: u16, m: u16) -> bool {
     let within = |number: u16, highest: u16| number >= 1 && number <= highest;
     let rest = match step.kind {
-        1 | 2 | 4 => within(step.constraint, m) && step.reference == 0,
-        3 => step.constraint == 0 && step.reference == 0,
-        5 => within(step.constraint, m) && within(step.reference, n),
+        ROOT | SUM | PRODUCT | NONZERO => within(step.constraint, m) && step.reference == 0,
+        ZERO => step.constraint == 0 && step.reference == 0,
+        DIGITS | QUOTIENT => within(step.constraint, m) && within(step.reference, n),
         _ => true,
     };
     within(step.target, n) && rest

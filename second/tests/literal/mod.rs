@@ -8,7 +8,7 @@ pub mod calls;
 use std::collections::{BTreeMap, BTreeSet};
 
 use second::reader::{Circuit, Form};
-use second::rules::Step;
+use second::rules::{Step, DIGITS, NONZERO, PRODUCT, QUOTIENT, ROOT, STEPS, SUM, ZERO};
 use second::sheet::Tag;
 
 /// Coefficients by signal number, the constant at 0; those that are 0 aren't listed.
@@ -20,25 +20,41 @@ pub struct Literal<'a> {
     reduced: Vec<Option<Coefficients>>,
     tags: &'a [Tag],
     tagging: Tagging,
+    dividing: Dividing,
 }
 
 #[derive(Clone, Debug, PartialEq, Eq)]
 pub struct Standing {
     pub bounds: BTreeMap<u16, i128>,
     pub marked: BTreeSet<u16>,
+    pub nonzero: BTreeSet<u16>,
 }
 
 /// What the solver's orders compare, least first.
 pub type Key = [i128; 4];
 
-/// The solver's two orders, each by what the right one compares: in bounds new bound, target, kind, constraint; in marks target, kind, constraint, reference.
+/// A phase of the solver.
+#[derive(Clone, Copy)]
+pub enum Phase {
+    Bounds,
+    Nonzero,
+    Marks,
+    /// Marks of both sorts as one.
+    Both,
+}
+
+/// The solver's orders, each by what the right one compares: in bounds new bound, target, kind, constraint; in marks of both sorts target, kind, constraint,
+/// reference; and its phases.
 pub struct Orders {
     pub bounds: fn(Key) -> Key,
+    pub nonzero: fn(Key) -> Key,
     pub marks: fn(Key) -> Key,
+    pub phases: &'static [Phase],
 }
 
 impl Orders {
-    pub const RIGHT: Orders = Orders { bounds: |key| key, marks: |key| key };
+    pub const RIGHT: Orders =
+        Orders { bounds: |key| key, nonzero: |key| key, marks: |key| key, phases: &[Phase::Bounds, Phase::Nonzero, Phase::Marks] };
 }
 
 /// An entry of a sheet at a standing.
@@ -83,6 +99,81 @@ impl Tagging {
     };
 }
 
+/// A constraint's forms by the numbers in them, 0 for the constant; the step's target and reference, the latter 0 where there is none; and the marks.
+pub struct Division<'a> {
+    pub forms: [BTreeSet<u16>; 3],
+    pub target: u16,
+    pub reference: u16,
+    pub standing: &'a Standing,
+}
+
+impl Division<'_> {
+    /// Whether the form is a multiple of the signal, or a constant other than 0.
+    pub fn alone(&self, form: usize, signal: u16) -> bool {
+        self.forms[form] == BTreeSet::from([signal])
+    }
+
+    /// Whether A or B, for which the other is named second, passes.
+    pub fn either(&self, test: impl Fn(usize, usize) -> bool) -> bool {
+        test(0, 1) || test(1, 0)
+    }
+
+    /// Whether all signals of a form but the target are marked.
+    pub fn others_marked(&self, form: usize) -> bool {
+        self.forms[form].iter().all(|&signal| signal == 0 || signal == self.target || self.standing.marked.contains(&signal))
+    }
+}
+
+/// How the quotient rule is read, part by part; it is met if all of them hold.
+#[derive(Clone, Copy)]
+pub struct Quotient {
+    /// Of the form that divides.
+    pub divisor: fn(&Division, usize) -> bool,
+    /// Of the target and C.
+    pub product: fn(&Division) -> bool,
+    /// Of the reference and the target.
+    pub other: fn(&Division) -> bool,
+    /// Of the reference's mark.
+    pub marked: fn(&Division) -> bool,
+    /// Of the reference's nonzero mark.
+    pub nonzero: fn(&Division) -> bool,
+    /// Of all other signals' marks.
+    pub others: fn(&Division) -> bool,
+    /// Anything more.
+    pub more: fn(&Division) -> bool,
+}
+
+impl Quotient {
+    /// A multiple of the reference, which has both marks, times a form with the target, another signal, is a form without it, and all other signals are marked.
+    pub const RIGHT: Quotient = Quotient {
+        divisor: |at, form| at.alone(form, at.reference),
+        product: |at| !at.forms[2].contains(&at.target),
+        other: |at| at.reference != at.target,
+        marked: |at| at.standing.marked.contains(&at.reference),
+        nonzero: |at| at.standing.nonzero.contains(&at.reference),
+        others: |at| (0..3).all(|form| at.others_marked(form)),
+        more: |_| true,
+    };
+
+    fn is_met(&self, at: &Division) -> bool {
+        let Quotient { divisor, product, other, marked, nonzero, others, more } = self;
+        at.either(|one, two| divisor(at, one) && at.forms[two].contains(&at.target))
+            && [product, other, marked, nonzero, others, more].into_iter().all(|part| part(at))
+    }
+}
+
+/// How the division rules are read, rightly or not.
+#[derive(Clone, Copy)]
+pub struct Dividing {
+    pub nonzero: fn(&Division) -> bool,
+    pub quotient: Quotient,
+}
+
+impl Dividing {
+    /// Nonzero: C is a constant other than 0, and A or B is a multiple of the target.
+    pub const RIGHT: Dividing = Dividing { nonzero: |at| at.alone(2, 0) && at.either(|one, _| at.alone(one, at.target)), quotient: Quotient::RIGHT };
+}
+
 fn coefficients(form: &Form) -> Coefficients {
     form.terms.iter().map(|&(signal, c)| (signal, i128::from(c))).collect()
 }
@@ -121,7 +212,12 @@ impl<'a> Literal<'a> {
             });
             Some(all.filter(|&(_, c)| c != 0).collect())
         });
-        Literal { circuit, p, reduced: reduced.collect(), tags, tagging }
+        Literal { circuit, p, reduced: reduced.collect(), tags, tagging, dividing: Dividing::RIGHT }
+    }
+
+    /// The same with the division rules read in some way.
+    pub fn dividing(self, dividing: Dividing) -> Literal<'a> {
+        Literal { dividing, ..self }
     }
 
     pub fn start(&self) -> Standing {
@@ -130,7 +226,8 @@ impl<'a> Literal<'a> {
             let limits: Vec<i128> = on_signal.map(|tag| (self.tagging.limit)(tag.kind, tag.number)).collect();
             (self.tagging.first)(self.p - 1, &limits, signal <= self.circuit.inputs)
         };
-        Standing { bounds: self.circuit.all_signals().map(|s| (s, bound(s))).collect(), marked: (1..=self.circuit.inputs).collect() }
+        let bounds = self.circuit.all_signals().map(|s| (s, bound(s))).collect();
+        Standing { bounds, marked: (1..=self.circuit.inputs).collect(), nonzero: BTreeSet::new() }
     }
 
     /// What is answered of a standing: marked count, 1 if every output is marked, shown count, first not shown.
@@ -152,15 +249,22 @@ impl<'a> Literal<'a> {
     pub fn take(&self, standing: &Standing, step: Step) -> Option<Standing> {
         let mut next = standing.clone();
         match step.kind {
-            1 | 2 => {
-                let bound = if step.kind == 1 { self.root(step)? } else { self.sum(standing, step)? };
+            ROOT | SUM => {
+                let bound = if step.kind == ROOT { self.root(step)? } else { self.sum(standing, step)? };
                 next.bounds.insert(step.target, bound.min(standing.bounds[&step.target]));
+            }
+            NONZERO => {
+                if !(self.dividing.nonzero)(&self.division(standing, step)) {
+                    return None;
+                }
+                next.nonzero.insert(step.target);
             }
             _ => {
                 let met = match step.kind {
-                    3 => standing.bounds[&step.target] == 0,
-                    4 => self.product(standing, step),
-                    _ => self.digits(standing, step),
+                    ZERO => standing.bounds[&step.target] == 0,
+                    PRODUCT => self.product(standing, step),
+                    DIGITS => self.digits(standing, step),
+                    _ => self.dividing.quotient.is_met(&self.division(standing, step)),
                 };
                 if !met {
                     return None;
@@ -204,6 +308,12 @@ impl<'a> Literal<'a> {
         !linear && c.contains(&step.target) && !a.contains(&step.target) && !b.contains(&step.target) && others_marked
     }
 
+    fn division<'s>(&self, standing: &'s Standing, step: Step) -> Division<'s> {
+        let constraint = &self.circuit.constraints[usize::from(step.constraint) - 1];
+        let forms = [&constraint.a, &constraint.b, &constraint.c].map(|form| coefficients(form).into_keys().collect());
+        Division { forms, target: step.target, reference: step.reference, standing }
+    }
+
     fn digits(&self, standing: &Standing, step: Step) -> bool {
         let Some(reduced) = &self.reduced[usize::from(step.constraint) - 1] else { return false };
         if !reduced.contains_key(&step.target) || !reduced.contains_key(&step.reference) {
@@ -225,10 +335,10 @@ impl<'a> Literal<'a> {
         let mut steps = Vec::new();
         let m = self.circuit.constraints.len() as u16;
         for target in self.circuit.all_signals() {
-            for kind in 1..=5 {
-                let constraints = if kind == 3 { 0..=0 } else { 1..=m };
+            for kind in STEPS {
+                let constraints = if kind == ZERO { 0..=0 } else { 1..=m };
                 for constraint in constraints {
-                    let references = if kind == 5 { 1..=self.circuit.signals } else { 0..=0 };
+                    let references = if [DIGITS, QUOTIENT].contains(&kind) { 1..=self.circuit.signals } else { 0..=0 };
                     steps.extend(references.map(|reference| Step::new(kind, target, constraint, reference)));
                 }
             }
@@ -241,25 +351,44 @@ impl<'a> Literal<'a> {
         self.solve_by(&Orders::RIGHT)
     }
 
-    /// The solver with any two orders.
+    /// The solver with any orders.
     pub fn solve_by(&self, orders: &Orders) -> (Vec<Step>, Standing) {
-        let (mut all, mut standing, mut steps) = (self.all_steps(), self.start(), Vec::new());
-        loop {
-            let offers = all.iter().filter(|step| step.kind <= 2).filter_map(|&step| {
-                let new = self.take(&standing, step)?.bounds[&step.target];
-                let key = [new, i128::from(step.target), i128::from(step.kind), i128::from(step.constraint)];
-                (new < standing.bounds[&step.target]).then_some(((orders.bounds)(key), step))
-            });
-            let Some((_, step)) = offers.min() else { break };
-            steps.push(step);
-            standing = self.take(&standing, step).unwrap();
-        }
-        all.sort_by_key(|step| (orders.marks)([step.target, step.kind.into(), step.constraint, step.reference].map(i128::from)));
-        while let Some(step) = all.iter().find(|s| s.kind >= 3 && !standing.marked.contains(&s.target) && self.take(&standing, **s).is_some()) {
-            steps.push(*step);
-            standing = self.take(&standing, *step).unwrap();
+        let (mut standing, mut steps) = (self.start(), Vec::new());
+        for phase in orders.phases {
+            match phase {
+                Phase::Bounds => self.lower_all(orders.bounds, &mut standing, &mut steps),
+                Phase::Nonzero => self.mark_all(orders.nonzero, &[NONZERO], &mut standing, &mut steps),
+                Phase::Marks => self.mark_all(orders.marks, &[ZERO, PRODUCT, DIGITS, QUOTIENT], &mut standing, &mut steps),
+                Phase::Both => self.mark_all(orders.marks, &[ZERO, PRODUCT, DIGITS, NONZERO, QUOTIENT], &mut standing, &mut steps),
+            }
         }
         (steps, standing)
+    }
+
+    fn lower_all(&self, order: fn(Key) -> Key, standing: &mut Standing, steps: &mut Vec<Step>) {
+        let all = self.all_steps();
+        loop {
+            let offers = all.iter().filter(|step| [ROOT, SUM].contains(&step.kind)).filter_map(|&step| {
+                let new = self.take(standing, step)?.bounds[&step.target];
+                let key = [new, i128::from(step.target), i128::from(step.kind), i128::from(step.constraint)];
+                (new < standing.bounds[&step.target]).then_some((order(key), step))
+            });
+            let Some((_, step)) = offers.min() else { return };
+            steps.push(step);
+            *standing = self.take(standing, step).unwrap();
+        }
+    }
+
+    /// Steps of these kinds that change the standing, the first in the order each time.
+    fn mark_all(&self, order: fn(Key) -> Key, kinds: &[u8], standing: &mut Standing, steps: &mut Vec<Step>) {
+        let mut all = self.all_steps();
+        all.retain(|step| kinds.contains(&step.kind));
+        all.sort_by_key(|step| order([step.target, step.kind.into(), step.constraint, step.reference].map(i128::from)));
+        let has = |standing: &Standing, step: &Step| if step.kind == NONZERO { &standing.nonzero } else { &standing.marked }.contains(&step.target);
+        while let Some((step, next)) = all.iter().filter(|step| !has(standing, step)).find_map(|step| Some((*step, self.take(standing, *step)?))) {
+            steps.push(step);
+            *standing = next;
+        }
     }
 
     /// The standing after every step that there is, again and again, in the order given.
