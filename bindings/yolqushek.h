@@ -45,9 +45,10 @@ static inline uint32_t yolqushek_written(uint64_t returned) { return (uint32_t)r
 /* Reads a circuit: refusals 1 to 10. answer: p, n, i, o, m. Stack: 16 kB. */
 uint64_t yolqushek_read(const uint8_t *circuit, size_t circuit_length, uint64_t answer[5]);
 
-/* Judges a derivation: refusals 1 to 10, 26, 27, 11 to 14, and then step by step 15, 16, 17 and 29, in this order; 29 meets an idle step, which lowers no
- * bound and marks nothing. Writes n bytes to marks, 1 for marked and 0 for not. answer: how many signals are marked, 1 for fixed and 0 for open, how many
- * tags on signals other than inputs are shown, and the sheet's entry number of the first that isn't, or 0. Stack: 104 kB. */
+/* Judges a derivation: refusals 1 to 10, 26, 27, 11 to 14, and then step by step 15, 16, 17 and 29, in this order; 15 meets a kind that is 0 or above 7, and
+ * 29 an idle step, which lowers no bound and adds no mark of either sort. Writes n bytes to marks, 1 for marked and 0 for not. The other sort, nonzero marks,
+ * says that a signal is never 0, so that a quotient by it may be marked; it is neither written nor counted. answer: how many signals are marked, 1 for fixed
+ * and 0 for open, how many tags on signals other than inputs are shown, and the sheet's entry number of the first that isn't, or 0. Stack: 104 kB. */
 uint64_t yolqushek_mark(const uint8_t *circuit, size_t circuit_length, const uint8_t *sheet, size_t sheet_length, const uint8_t *derivation,
                         size_t derivation_length, uint8_t *marks, size_t marks_length, uint64_t answer[4]);
 
@@ -55,14 +56,14 @@ uint64_t yolqushek_mark(const uint8_t *circuit, size_t circuit_length, const uin
 uint64_t yolqushek_pair(const uint8_t *circuit, size_t circuit_length, const uint8_t *sheet, size_t sheet_length, const uint8_t *pair,
                         size_t pair_length);
 
-/* Solves a circuit: refusals 1 to 10, 26, 27 and 25, in this order. Writes its derivation to output, which has 7 + 14 * n bytes at least. answer: the four
- * numbers of yolqushek_mark, and the derivation's length. Stack: 156 kB. */
+/* Solves a circuit: refusals 1 to 10, 26, 27 and 25, in this order. Writes its derivation, of three steps a signal at most, to output, which has 7 + 21 * n
+ * bytes at least, even if fewer are written. answer: the four numbers of yolqushek_mark, and the derivation's length. Stack: 164 kB. */
 uint64_t yolqushek_solve(const uint8_t *circuit, size_t circuit_length, const uint8_t *sheet, size_t sheet_length, uint8_t *output,
                          size_t output_length, uint64_t answer[5]);
 
 /* Renews a derivation that may have idle steps: refusals 1 to 10, 26, 27, 11 to 13, then step by step 15, 16 and 17, and last 25, in this order. Writes the
  * derivation without its idle steps to output, which has as many bytes as the derivation given at least, even if fewer are written; the value has the new
- * length. What is written is accepted by yolqushek_mark with the same sheet and reaches the same bounds and marks. Stack: 108 kB. */
+ * length. What is written is accepted by yolqushek_mark with the same sheet and reaches the same bounds and marks of both sorts. Stack: 108 kB. */
 uint64_t yolqushek_renew(const uint8_t *circuit, size_t circuit_length, const uint8_t *sheet, size_t sheet_length, const uint8_t *derivation,
                          size_t derivation_length, uint8_t *output, size_t output_length);
 

@@ -1,4 +1,5 @@
-/* Cases a and f of document 01 through the C header, with tags and without: reads, solves, judges, renews and lists runs, and says what differs. */
+/* Cases a and f of document 01 through the C header, with tags and without, and a division: reads, solves, judges, renews and lists runs, and says what
+ * differs. */
 #include "../yolqushek.h"
 #include <stdio.h>
 #include <string.h>
@@ -19,6 +20,10 @@ static const uint8_t tags[] = {84, 81, 84, 1, 0, 3, 0, 1, 0, 1, 0, 0, 0, 0, 2, 0
 /* the first with a free output 3, and two runs with input 1 = 2 */
 static const uint8_t free3[] = {67, 81, 84, 1, 0, 7, 0, 0, 0, 3, 0, 1, 0, 2, 0, 1, 0, 1, 1, 0, 1, 0, 0, 0, 1, 1, 0, 1, 0, 0, 0, 1, 2, 0, 1, 0, 0, 0};
 static const uint8_t twos[] = {80, 81, 84, 1, 0, 3, 0, 2, 0, 0, 0, 4, 0, 0, 0, 0, 0, 0, 0, 2, 0, 0, 0, 4, 0, 0, 0, 1, 0, 0, 0};
+/* p = 7, input 1 times output 2 is 1; its derivation says that neither is ever 0, so that the output is a quotient by the input; and the quotient alone */
+static const uint8_t inverse[] = {67, 81, 84, 1, 0, 7, 0, 0, 0, 2, 0, 1, 0, 1, 0, 1, 0, 1, 1, 0, 1, 0, 0, 0, 1, 2, 0, 1, 0, 0, 0, 1, 0, 0, 1, 0, 0, 0};
+static const uint8_t divided[] = {68, 81, 84, 1, 0, 3, 0, 6, 1, 0, 1, 0, 0, 0, 6, 2, 0, 1, 0, 0, 0, 7, 2, 0, 1, 0, 1, 0};
+static const uint8_t quotient[] = {68, 81, 84, 1, 0, 1, 0, 7, 2, 0, 1, 0, 1, 0};
 static const uint8_t *const none = yolqushek_no_tags;
 static const uint8_t pair[] = {80, 81, 84, 1, 0, 1, 0, 0, 0, 0, 0, 1, 0, 0, 0};
 /* p = 257, two signals and no constraints: 66,049 candidates */
@@ -45,7 +50,7 @@ static void refused(const char *what, uint64_t returned, uint32_t number, uint32
 static void results(void)
 {
     uint64_t sizes[5], marked[4], solved[5];
-    uint8_t output[40], marks[3] = {9, 9, 9};
+    uint8_t output[7 + 21 * 2], marks[3] = {9, 9, 9};
     same("read", yolqushek_read(a, sizeof a, sizes), 0);
     same("p", sizes[0], 7);
     same("m", sizes[4], 1);
@@ -64,7 +69,7 @@ static void results(void)
 static void with_tags(void)
 {
     uint64_t marked[4], solved[5];
-    uint8_t output[40], marks[2];
+    uint8_t output[7 + 21 * 2], marks[2];
     same("solve with tags", yolqushek_solve(a, sizeof a, tags, sizeof tags, output, sizeof output, solved), 0);
     same("solved with tags", solved[0] * 1000 + solved[1] * 100 + solved[2] * 10 + solved[3], 2113);
     same("length with tags", solved[4], sizeof derivation);
@@ -72,6 +77,31 @@ static void with_tags(void)
     same("marked with tags", marked[0] * 1000 + marked[1] * 100 + marked[2] * 10 + marked[3], 2113);
     same("pair without tags", yolqushek_pair(free3, sizeof free3, none, 7, twos, sizeof twos), 3);
     refused("broken tag", yolqushek_pair(free3, sizeof free3, tags, sizeof tags, twos, sizeof twos), 28, 1);
+}
+
+/* three steps a signal need 7 + 21 * 2 bytes, of which 28 are written; nonzero marks are not counted */
+static void divisions(void)
+{
+    uint64_t marked[4], solved[5] = {9, 9, 9, 9, 9};
+    uint8_t output[7 + 21 * 2], marks[3] = {9, 9, 9};
+    memset(output, 9, sizeof output);
+    refused("one byte short", yolqushek_solve(inverse, sizeof inverse, none, 7, output, sizeof output - 1, solved), 25, 0);
+    same("answer of a short output", solved[0] * 10 + solved[4], 99);
+    for (size_t k = 0; k < sizeof output; k++)
+        same("short output", output[k], 9);
+    same("solve a division", yolqushek_solve(inverse, sizeof inverse, none, 7, output, sizeof output, solved), 0);
+    same("division solved", solved[0] * 1000 + solved[1] * 100 + solved[2] * 10 + solved[3], 2100);
+    same("length of a division", solved[4], sizeof divided);
+    same("division", memcmp(output, divided, sizeof divided), 0);
+    for (size_t k = sizeof divided; k < sizeof output; k++)
+        same("beyond a division", output[k], 9);
+    same("mark a division", yolqushek_mark(inverse, sizeof inverse, none, 7, output, sizeof divided, marks, 3, marked), 0);
+    same("division marked", marked[0] * 1000 + marked[1] * 100 + marked[2] * 10 + marked[3], 2100);
+    same("marks of a division", marks[0] * 100 + marks[1] * 10 + marks[2], 119);
+    refused("quotient alone", yolqushek_mark(inverse, sizeof inverse, none, 7, quotient, sizeof quotient, marks, 3, marked), 17, 1);
+    memset(output, 9, sizeof output);
+    same("renew a division", yolqushek_renew(inverse, sizeof inverse, none, 7, divided, sizeof divided, output, sizeof divided), sizeof divided);
+    same("division renewed", memcmp(output, divided, sizeof divided), 0);
 }
 
 static void renewals(void)
@@ -159,6 +189,7 @@ int main(void)
 {
     results();
     with_tags();
+    divisions();
     renewals();
     listed();
     runs();

@@ -107,7 +107,8 @@ pub fn read_circuit(circuit: &[u8]) -> Result<Sizes, Refusal> {
 }
 
 /// Judges a derivation and writes a byte for each signal to `marks`: refusals 1 to 10, 26, 27, 11 to 14, and step by step 15, 16, 17 and 29, which meets an
-/// idle step. Needs 104 kB of stack.
+/// idle step: one that lowers no bound and adds no mark of either sort. The other sort, nonzero marks, says that a signal is never 0, so that a quotient by it
+/// may be marked; it is neither written nor counted. Needs 104 kB of stack.
 pub fn check_derivation(circuit: &[u8], sheet: &[u8], derivation: &[u8], marks: &mut [u8]) -> Result<Marked, Refusal> {
     let mut answer = [0; 4];
     taken(unsafe {
@@ -132,7 +133,8 @@ pub fn check_pair(circuit: &[u8], sheet: &[u8], pair: &[u8]) -> Result<u32, Refu
     taken(unsafe { yolqushek_pair(circuit.as_ptr(), circuit.len(), sheet.as_ptr(), sheet.len(), pair.as_ptr(), pair.len()) })
 }
 
-/// Solves a circuit, writes its derivation to `output`, and answers the derivation's length too: refusals 1 to 10, 26, 27 and 25. Needs 156 kB of stack.
+/// Solves a circuit, writes its derivation to `output`, and answers the derivation's length too: refusals 1 to 10, 26, 27, and 25 where `output` has fewer than
+/// 7 + 21·n bytes, room for three steps a signal. Needs 164 kB of stack.
 pub fn solve(circuit: &[u8], sheet: &[u8], output: &mut [u8]) -> Result<(Marked, usize), Refusal> {
     let mut answer = [0; 5];
     taken(unsafe { yolqushek_solve(circuit.as_ptr(), circuit.len(), sheet.as_ptr(), sheet.len(), output.as_mut_ptr(), output.len(), &mut answer) })?;
@@ -141,8 +143,8 @@ pub fn solve(circuit: &[u8], sheet: &[u8], output: &mut [u8]) -> Result<(Marked,
 }
 
 /// Renews a derivation that may have idle steps, writes it without them to `output`, which is no shorter than the derivation given, and answers the new length:
-/// refusals 1 to 10, 26, 27, 11 to 13, step by step 15 to 17, and 25. What is written is accepted with the same sheet and reaches the same bounds and marks.
-/// Needs 108 kB of stack.
+/// refusals 1 to 10, 26, 27, 11 to 13, step by step 15 to 17, and 25. What is written is accepted with the same sheet and reaches the same bounds and marks
+/// of both sorts. Needs 108 kB of stack.
 pub fn renew(circuit: &[u8], sheet: &[u8], derivation: &[u8], output: &mut [u8]) -> Result<usize, Refusal> {
     let length = taken(unsafe {
         yolqushek_renew(

@@ -1,4 +1,4 @@
-//! The safe calls on document 01's cases a and f, with tags and without.
+//! The safe calls on document 01's cases a and f, with tags and without, and on a division.
 
 use yolqushek::{check_derivation, check_pair, read_circuit, renew, solve, Marked, Refusal, NO_TAGS};
 use yolqushek::{first_run, next_run, runs};
@@ -21,6 +21,12 @@ const PRODUCT: [u8; 14] = [68, 81, 84, 1, 0, 1, 0, 4, 2, 0, 1, 0, 0, 0];
 /// The same with its step given twice.
 const PADDED: [u8; 21] = [68, 81, 84, 1, 0, 2, 0, 4, 2, 0, 1, 0, 0, 0, 4, 2, 0, 1, 0, 0, 0];
 
+/// p = 7, input 1, output 2, A = signal 1, B = signal 2, C = 1: the output is the input's inverse.
+const INVERSE: &[u8] = &[67, 81, 84, 1, 0, 7, 0, 0, 0, 2, 0, 1, 0, 1, 0, 1, 0, 1, 1, 0, 1, 0, 0, 0, 1, 2, 0, 1, 0, 0, 0, 1, 0, 0, 1, 0, 0, 0];
+
+/// Its derivation: neither is ever 0, so the output is a quotient by the input.
+const DIVIDED: [u8; 28] = [68, 81, 84, 1, 0, 3, 0, 6, 1, 0, 1, 0, 0, 0, 6, 2, 0, 1, 0, 0, 0, 7, 2, 0, 1, 0, 1, 0];
+
 /// What is marked, with no tags to show.
 fn marked(count: u32, fixed: bool) -> Marked {
     Marked { count, fixed, shown: 0, unshown: 0 }
@@ -29,10 +35,10 @@ fn marked(count: u32, fixed: bool) -> Marked {
 #[test]
 fn case_a() {
     assert_eq!(read_circuit(A).unwrap().constraints, 1);
-    let mut output = [9; 40];
+    let mut output = [9; 50];
     assert_eq!(solve(A, NO_TAGS, &mut output), Ok((marked(2, true), 14)));
     assert_eq!(output[..14], PRODUCT);
-    assert_eq!(output[14..], [9; 26]);
+    assert_eq!(output[14..], [9; 36]);
     let mut marks = [9; 3];
     assert_eq!(check_derivation(A, NO_TAGS, &output[..14], &mut marks), Ok(marked(2, true)));
     assert_eq!(marks, [1, 1, 9]);
@@ -42,15 +48,54 @@ fn case_a() {
 fn case_f() {
     assert_eq!(check_pair(F, NO_TAGS, PAIR), Ok(1));
     assert_eq!(check_pair(F, NO_TAGS, &[&PAIR[..11], &[0; 4]].concat()), Err(Refusal { number: 24, place: 1 }));
-    let mut output = [9; 21];
+    let mut output = [9; 28];
     assert_eq!(solve(F, NO_TAGS, &mut output), Ok((marked(0, false), 7)));
 }
 
 #[test]
+fn a_division_is_solved_and_marked() {
+    // Three steps a signal need 7 + 21·2 bytes: with one fewer nothing is written.
+    let mut output = [9; 7 + 21 * 2];
+    assert_eq!(solve(INVERSE, NO_TAGS, &mut output[..48]), Err(Refusal { number: 25, place: 0 }));
+    assert_eq!(output, [9; 49]);
+    assert_eq!(solve(INVERSE, NO_TAGS, &mut output), Ok((marked(2, true), 28)));
+    assert_eq!(output[..28], DIVIDED);
+    assert_eq!(output[28..], [9; 21]);
+    let mut marks = [9; 3];
+    assert_eq!(check_derivation(INVERSE, NO_TAGS, &output[..28], &mut marks), Ok(marked(2, true)));
+    assert_eq!(marks, [1, 1, 9]);
+    // The nonzero marks alone: neither counted nor written, nor idle, so that a renewal keeps them.
+    let nonzeros = [&DIVIDED[..5], &[2], &DIVIDED[6..21]].concat();
+    assert_eq!(check_derivation(INVERSE, NO_TAGS, &nonzeros, &mut marks), Ok(marked(1, false)));
+    assert_eq!(marks, [1, 0, 9]);
+    let mut renewed = [9; 21];
+    assert_eq!(renew(INVERSE, NO_TAGS, &nonzeros, &mut renewed), Ok(21));
+    assert_eq!(renewed, nonzeros[..]);
+}
+
+#[test]
+fn a_division_goes_step_by_step() {
+    let steps = |order: &[usize]| order.iter().fold([&DIVIDED[..5], &[order.len() as u8, 0]].concat(), |d, &k| [&d, &DIVIDED[7 * k..][..7]].concat());
+    let mut marks = [9; 2];
+    // The quotient before its reference has a nonzero mark, the same nonzero mark twice, and a kind that there isn't.
+    assert_eq!(check_derivation(INVERSE, NO_TAGS, &steps(&[3, 1]), &mut marks), Err(Refusal { number: 17, place: 1 }));
+    assert_eq!(check_derivation(INVERSE, NO_TAGS, &steps(&[1, 1]), &mut marks), Err(Refusal { number: 29, place: 2 }));
+    let mut unknown = steps(&[1, 3]);
+    unknown[14] = 8;
+    assert_eq!(check_derivation(INVERSE, NO_TAGS, &unknown, &mut marks), Err(Refusal { number: 15, place: 2 }));
+    assert_eq!(marks, [9; 2]);
+    // The reference's nonzero mark is enough. A renewal drops the idle step.
+    assert_eq!(check_derivation(INVERSE, NO_TAGS, &steps(&[1, 3]), &mut marks), Ok(marked(2, true)));
+    let mut renewed = [9; 35];
+    assert_eq!(renew(INVERSE, NO_TAGS, &steps(&[1, 1, 2, 3]), &mut renewed), Ok(28));
+    assert_eq!((&renewed[..28], &renewed[28..]), (&DIVIDED[..], &[9; 7][..]));
+}
+
+#[test]
 fn a_refusal_writes_nothing() {
-    let mut output = [9; 34];
+    let mut output = [9; 48];
     assert_eq!(solve(A, NO_TAGS, &mut output), Err(Refusal { number: 25, place: 0 }));
-    assert_eq!(output, [9; 34]);
+    assert_eq!(output, [9; 48]);
     let mut marks = [9; 1];
     assert_eq!(check_derivation(A, NO_TAGS, &[68, 81, 84, 1, 0, 0, 0], &mut marks), Err(Refusal { number: 14, place: 0 }));
     assert_eq!(marks, [9]);
@@ -61,7 +106,7 @@ fn a_refusal_writes_nothing() {
 
 #[test]
 fn tags() {
-    let mut output = [9; 35];
+    let mut output = [9; 49];
     let with_tags = Marked { shown: 1, unshown: 3, ..marked(2, true) };
     assert_eq!(solve(A, TAGS, &mut output), Ok((with_tags, 14)));
     let mut marks = [9; 2];
@@ -80,7 +125,7 @@ fn tags() {
 
 #[test]
 fn a_refused_sheet_writes_nothing() {
-    let (mut output, mut marks, none) = ([9; 35], [9; 2], [68, 81, 84, 1, 0, 0, 0]);
+    let (mut output, mut marks, none) = ([9; 49], [9; 2], [68, 81, 84, 1, 0, 0, 0]);
     // No bytes, a sheet that is cut, one whose third entry allows more than p - 1.
     let high = [&TAGS[..24], &[7], &TAGS[25..]].concat();
     for (sheet, number, place) in [(&[][..], 26, 0), (&TAGS[..27], 26, 0), (&high[..], 27, 3)] {
@@ -88,7 +133,7 @@ fn a_refused_sheet_writes_nothing() {
         assert_eq!(check_derivation(A, sheet, &none, &mut marks), Err(Refusal { number, place }));
         assert_eq!(check_pair(A, sheet, b""), Err(Refusal { number, place }));
     }
-    assert_eq!((output, marks), ([9; 35], [9; 2]));
+    assert_eq!((output, marks), ([9; 49], [9; 2]));
 }
 
 #[test]
@@ -125,8 +170,8 @@ fn a_refused_renewal_writes_nothing() {
     let mut output = [9; 20];
     // Room for what would be written, but not for what is given.
     assert_eq!(renew(A, NO_TAGS, &PADDED, &mut output), Err(Refusal { number: 25, place: 0 }));
-    // The second step of no kind, of one with other fields, and of one whose rule isn't met: each before 25.
-    for (kind, number) in [(6, 15), (3, 16), (1, 17)] {
+    // The second step of no kind, of two with other fields, and of two whose rule isn't met: each before 25.
+    for (kind, number) in [(8, 15), (3, 16), (7, 16), (1, 17), (6, 17)] {
         let derivation = [&PADDED[..14], &[kind], &PADDED[15..]].concat();
         assert_eq!(renew(A, NO_TAGS, &derivation, &mut output), Err(Refusal { number, place: 2 }));
     }

@@ -16,6 +16,9 @@ const ENOUGH: usize = 256 << 10;
 /// Stacks are tried in multiples of this.
 const STEP: usize = 4 << 10;
 
+/// The longest derivation that the solver writes, so that every call has the room that it asks for.
+const MOST: usize = 7 + 21 * 256;
+
 /// The variable that tells a child process what to try: the call, the circuit and the stack's size.
 const TRIAL: &str = "STACK_TRIAL";
 
@@ -32,7 +35,7 @@ struct Input {
 impl Input {
     /// With the solver's derivation, as the second implementation finds it, and a run of zeros; where the circuit is refused, without steps and values.
     fn new(name: &'static str, circuit: Vec<u8>, sheet: &[u8], pair: Vec<u8>) -> Input {
-        let mut derivation = vec![0; 7 + 14 * 256];
+        let mut derivation = vec![0; MOST];
         let length = second::solve(&circuit, sheet, &mut derivation).map_or(7, |(_, length)| length);
         derivation.truncate(length);
         let run = second::read_circuit(&circuit).map_or_else(|_| Vec::new(), |read| vec![0; read.signals.into()]);
@@ -40,9 +43,9 @@ impl Input {
     }
 }
 
-/// Two refused circuits that are short, a small one, one that is refused at its last byte, and the two that have most to work on, one also with 256 tags; then
-/// three whose runs can be listed, as large as they may be, of which the last has none.
-fn inputs() -> [Input; 10] {
+/// Two refused circuits that are short, a small one, one that is refused at its last byte, and the two that have most to work on, one also with 256 tags; one
+/// with 256 nonzero steps and 255 quotients; then three whose runs can be listed, as large as they may be, of which the last has none.
+fn inputs() -> [Input; 11] {
     let (largest, zeros) = (worst::largest(1), [0; 256]);
     let tags = worst::obeyed_sheet(&largest);
     let pair = write_pair(largest.q, &largest.first, &largest.second);
@@ -56,6 +59,7 @@ fn inputs() -> [Input; 10] {
         Input::new("the largest", largest.circuit.clone(), NO_TAGS, pair.clone()),
         Input::new("the largest, 256 tags", largest.circuit, &tags, pair),
         Input::new("142 broken sums", broken_sums(MOST_SUMS), NO_TAGS, write_pair(1, &zeros, &zeros)),
+        Input::new("256 divisions in a chain", worst::division_chain(), NO_TAGS, write_pair(2, &zeros, &zeros)),
         listed("10 signals over 3, many constraints", 3, 10, |_| ()),
         listed("1 signal over 65,521, many constraints", 65_521, 1, |_| ()),
         listed("10 signals over 3, never satisfied", 3, 10, |draft| draft.add(&[], &[], &[(0, 1)])),
@@ -107,7 +111,7 @@ fn number<T>(answer: Result<T, second::Refusal>) -> u32 {
 
 /// Makes the call on a thread with that much stack. An overflow ends the process.
 fn on_stack(size: usize, call: Call, input: &Input) -> u32 {
-    let mut lent = vec![9; 7 + 14 * 256];
+    let mut lent = vec![9; MOST];
     std::thread::scope(|scope| Builder::new().stack_size(size).spawn_scoped(scope, || call(input, &mut lent)).unwrap().join().unwrap())
 }
 
@@ -115,7 +119,7 @@ fn on_stack(size: usize, call: Call, input: &Input) -> u32 {
 fn every_call_runs_on_256_kilobytes() {
     for input in inputs() {
         for (name, call, expected) in CALLS {
-            assert_eq!(on_stack(ENOUGH, call, &input), expected(&input, &mut [9; 7 + 14 * 256]), "{name}, {}", input.name);
+            assert_eq!(on_stack(ENOUGH, call, &input), expected(&input, &mut [9; MOST]), "{name}, {}", input.name);
         }
     }
 }

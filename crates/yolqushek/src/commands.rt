@@ -24,8 +24,8 @@ const HAND_IN: u64 = RENEWED as u64 + 1;
 
 const SHEET: u64 = (SHEET_HEADER + ENTRY_SIZE * ENTRIES_MOST as usize) as u64 + 1;
 
-// Room for the solver's derivation, of two steps a signal at most, and for a renewed one, the longest.
-const SOLVED: usize = HEAD_SIZE + STEP_SIZE * 2 * SIGNALS_MOST as usize;
+// Room for the solver's derivation, of three steps a signal at most, and for a renewed one, the longest.
+const SOLVED: usize = HEAD_SIZE + STEP_SIZE * 3 * SIGNALS_MOST as usize;
 
 const RENEWED: usize = HEAD_SIZE + STEP_SIZE * STEPS_MOST as usize;
 
