@@ -2,13 +2,12 @@
 
 mod literal;
 
-use literal::calls::entries;
+use literal::calls::{self, entries};
 use literal::{Dividing, Division, Literal, Quotient};
 use second::compose::{compose, USUAL_SIZE};
-use second::marker::{read_steps, write_steps};
 use second::pair::write_pair;
 use second::reader::number16;
-use second::rules::{Rules, Step, DIGITS, NONZERO, QUOTIENT, STEPS, SUM};
+use second::rules::{Step, DIGITS, NONZERO, QUOTIENT, SUM};
 use second::sheet::NO_TAGS;
 use second::solver::{derive, longest};
 use second::vectors::{Answer, Record, DERIVATION, SOLVE};
@@ -28,33 +27,7 @@ fn stored() -> Vec<Record> {
 /// The answer of the derivation call or the solver by a reading of the division rules.
 fn answer(record: &Record, dividing: Dividing) -> Answer {
     let (circuit, tags) = (read_circuit(&record.circuit).unwrap(), entries(&record.sheet));
-    let literal = Literal::new(&circuit, &tags).dividing(dividing);
-    let judged = |standing: &literal::Standing, length: usize| {
-        let [count, fixed, shown, unshown] = literal.judge(standing);
-        [count, fixed, shown, unshown, length as u32]
-    };
-    if record.kind == SOLVE {
-        let (steps, standing) = literal.solve();
-        let written = write_steps(&steps);
-        return Answer { values: judged(&standing, written.len()), written, ..Answer::default() };
-    }
-    let (mut standing, rules) = (literal.start(), Rules::new(&circuit));
-    for (place, step) in (1..).zip(read_steps(&record.hand_in).unwrap()) {
-        let refused = |number: u16| Answer { number, place, ..Answer::default() };
-        if !STEPS.contains(&step.kind) {
-            return refused(15);
-        }
-        if !rules.in_range(step) {
-            return refused(16);
-        }
-        match literal.take(&standing, step) {
-            None => return refused(17),
-            Some(next) if next == standing => return refused(29),
-            Some(next) => standing = next,
-        }
-    }
-    let written = circuit.all_signals().map(|signal| u8::from(standing.marked.contains(&signal))).collect();
-    Answer { values: judged(&standing, 0), written, ..Answer::default() }
+    calls::answer(record, &Literal::new(&circuit, &tags).dividing(dividing))
 }
 
 /// How many stored calls of this kind get another answer.
@@ -108,17 +81,6 @@ const NONZEROS: [(&str, Reading); 16] = [
     ("the others marked", |at| (RIGHT.nonzero)(at) && (0..2).all(|form| at.others_marked(form))),
 ];
 
-#[test]
-fn wrong_nonzero_marks_are_told() {
-    let stored = stored();
-    for (name, nonzero) in NONZEROS {
-        for kind in [DERIVATION, SOLVE] {
-            let count = told(&stored, kind, Dividing { nonzero, ..RIGHT });
-            assert!(count >= 3, "{name} in call {kind}: {count}");
-        }
-    }
-}
-
 /// The rule with something more asked.
 const fn more(more: Reading) -> Quotient {
     Quotient { more, ..Quotient::RIGHT }
@@ -167,15 +129,25 @@ const QUOTIENTS: [(&str, Quotient); 19] = [
     ("a target with a nonzero mark", more(|at| at.standing.nonzero.contains(&at.target))),
 ];
 
-#[test]
-fn wrong_quotients_are_told() {
+/// Each of these readings gives another answer than at least three stored vectors of each call.
+fn all_are_told(readings: impl IntoIterator<Item = (&'static str, Dividing)>) {
     let stored = stored();
-    for (name, quotient) in QUOTIENTS {
+    for (name, reading) in readings {
         for kind in [DERIVATION, SOLVE] {
-            let count = told(&stored, kind, Dividing { quotient, ..RIGHT });
+            let count = told(&stored, kind, reading);
             assert!(count >= 3, "{name} in call {kind}: {count}");
         }
     }
+}
+
+#[test]
+fn wrong_nonzero_marks_are_told() {
+    all_are_told(NONZEROS.map(|(name, nonzero)| (name, Dividing { nonzero, ..RIGHT })));
+}
+
+#[test]
+fn wrong_quotients_are_told() {
+    all_are_told(QUOTIENTS.map(|(name, quotient)| (name, Dividing { quotient, ..RIGHT })));
 }
 
 #[test]

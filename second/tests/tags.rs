@@ -2,13 +2,11 @@
 
 mod literal;
 
-use literal::calls::entries;
+use literal::calls::{self, entries};
 use literal::{Entry, First, Limit, Literal, Shown, Tagging};
 use second::compose::{compose, USUAL_SIZE};
-use second::marker::{read_steps, write_steps};
 use second::pair::values;
 use second::reader::number16;
-use second::rules::{Rules, STEPS};
 use second::sheet::Tag;
 use second::vectors::{Answer, Record, DERIVATION, PAIR, SOLVE};
 use second::{read_circuit, Circuit};
@@ -23,33 +21,10 @@ fn stored() -> Vec<Record> {
     stored
 }
 
-/// The answer of the derivation call or the solver, by the words of documents 01 and 02.
+/// The answer of the derivation call or the solver by a reading of tags. A step that isn't come to where these are read rightly may have any fields.
 fn answer(record: &Record, tagging: Tagging) -> Answer {
     let (circuit, tags) = (read_circuit(&record.circuit).unwrap(), entries(&record.sheet));
-    let literal = Literal::with(&circuit, &tags, tagging);
-    let judged = |standing: &literal::Standing, length: usize| {
-        let [count, fixed, shown, unshown] = literal.judge(standing);
-        [count, fixed, shown, unshown, length as u32]
-    };
-    if record.kind == SOLVE {
-        let (steps, standing) = literal.solve();
-        let written = write_steps(&steps);
-        return Answer { values: judged(&standing, written.len()), written, ..Answer::default() };
-    }
-    let (mut standing, rules) = (literal.start(), Rules::new(&circuit));
-    for (number, step) in (1..).zip(read_steps(&record.hand_in).unwrap()) {
-        // A step that isn't come to where tags are read rightly may have any fields.
-        if !STEPS.contains(&step.kind) || !rules.in_range(step) {
-            return Answer { number: 16, place: number, ..Answer::default() };
-        }
-        match literal.take(&standing, step) {
-            None => return Answer { number: 17, place: number, ..Answer::default() },
-            Some(next) if next == standing => return Answer { number: 29, place: number, ..Answer::default() },
-            Some(next) => standing = next,
-        }
-    }
-    let written = circuit.all_signals().map(|signal| u8::from(standing.marked.contains(&signal))).collect();
-    Answer { values: judged(&standing, 0), written, ..Answer::default() }
+    calls::answer(record, &Literal::with(&circuit, &tags, tagging))
 }
 
 /// How many stored derivations and solver calls get another answer.

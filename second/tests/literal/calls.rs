@@ -1,13 +1,14 @@
 //! The refusals of each call in the words of documents 01 and 02: all faults that a call has, whatever comes before them, and the order that picks one.
+//! And what a derivation's steps, or the solver's, come to.
 
-use second::marker::MOST_STEPS;
+use second::marker::{read_steps, write_steps, MOST_STEPS};
 use second::reader::{number16, number32, numbers32, Circuit};
-use second::rules::{Step, DIGITS, NONZERO, PRODUCT, QUOTIENT, ROOT, STEPS, SUM, ZERO};
+use second::rules::{Rules, Step, DIGITS, NONZERO, PRODUCT, QUOTIENT, ROOT, STEPS, SUM, ZERO};
 use second::sheet::{Tag, MOST_TAGS};
-use second::vectors::{Record, DERIVATION, FIRST_RUN, NEXT_RUN, PAIR, READ, RENEW, WITH_SHEET};
+use second::vectors::{Answer, Record, DERIVATION, FIRST_RUN, NEXT_RUN, PAIR, READ, RENEW, SOLVE, WITH_SHEET};
 use second::{field, read_circuit};
 
-use crate::literal::{Literal, Tagging};
+use crate::literal::{Literal, Standing, Tagging};
 
 /// A refusal's number and place.
 pub type Found = (u16, u32);
@@ -272,4 +273,34 @@ fn in_pair(read: Option<&Circuit>, circuit: &[u8], [n, i, o]: [u16; 3], pair: &[
     found.extend((1..).zip(first.iter().zip(second)).take(usize::from(i)).filter(|(_, (x, y))| x != y).map(|(place, _)| (23, place)));
     found.extend(usize::from(q).checked_sub(1).filter(|&at| at < n && first[at] == second[at]).map(|_| (24, u32::from(q))));
     found
+}
+
+/// The answer of the derivation call or the solver by a reading of the rules and of tags, past all refusals before the steps.
+pub fn answer(record: &Record, literal: &Literal) -> Answer {
+    let judged = |standing: &Standing, length: usize| {
+        let [count, fixed, shown, unshown] = literal.judge(standing);
+        [count, fixed, shown, unshown, length as u32]
+    };
+    if record.kind == SOLVE {
+        let (steps, standing) = literal.solve();
+        let written = write_steps(&steps);
+        return Answer { values: judged(&standing, written.len()), written, ..Answer::default() };
+    }
+    let (mut standing, rules) = (literal.start(), Rules::new(literal.circuit));
+    for (place, step) in (1..).zip(read_steps(&record.hand_in).unwrap()) {
+        let refused = |number: u16| Answer { number, place, ..Answer::default() };
+        if !STEPS.contains(&step.kind) {
+            return refused(15);
+        }
+        if !rules.in_range(step) {
+            return refused(16);
+        }
+        match literal.take(&standing, step) {
+            None => return refused(17),
+            Some(next) if next == standing => return refused(29),
+            Some(next) => standing = next,
+        }
+    }
+    let written = literal.circuit.all_signals().map(|signal| u8::from(standing.marked.contains(&signal))).collect();
+    Answer { values: judged(&standing, 0), written, ..Answer::default() }
 }
