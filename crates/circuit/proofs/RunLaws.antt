@@ -4,6 +4,7 @@ use mathlib.Core.Path.{◌≡◌, sym, ap, ◌∙◌}
 use mathlib.Core.Bool.{Bool, true, false, cond, ◌&&◌}
 use mathlib.Core.List.{List}
 use native.Mathlib.Nat.{add-zero, zero-add, add_assoc, mul-le-mul}
+use Rattle.std.proofs.Math.Nat.{mod-eq_of_lt}
 use native.Mathlib.Omega.{arith}
 use borrow.Author.Tests.{lt-ltb, eq-eqb, ne_eqb, eqb-true}
 use lib.Dec.{ltb, leb, eqb}
@@ -19,6 +20,10 @@ use Rattle.circuit.proofs.ByteLaws.{u16_drop, u32_drop}
 -- a product of two 32-bit numbers
 pub product_most : (a b : ℕ) → a ≤ 4294967295 → b ≤ 4294967295 → a * b ≤ 18446744065119617025
 product_most a b h g = mul-le-mul h g
+
+-- what is below p is its own remainder
+pub small_remainder : (x p : ℕ) → x < p → x ≡ x % p
+small_remainder x p h = sym (mod-eq_of_lt h)
 
 -- The test of a constraint and its meaning
 

@@ -8,7 +8,7 @@ use native.Mathlib.Decide.{ℕ_discrete}
 use mathlib.Core.List.{List}
 use Rattle.std.specs.Prelude.{None, Some}
 use borrow.Author.Tests.{lt-ltb, ltb-true, eq-eqb, ne_eqb, eqb-true}
-use Rattle.circuit.specs.Circuit.{Circuit, constraint_at, value_of, IsRun, Satisfying}
+use Rattle.circuit.specs.Circuit.{Constraint, Circuit, constraint_at, value_of, IsRun, Satisfying}
 use Rattle.circuit.specs.Reader.{constraint_in, constraint_of, after_constraint, part_from}
 use Rattle.circuit.specs.Run.{holds}
 use Rattle.circuit.proofs.RunLaws.{holds_satisfies, satisfies_holds}
@@ -53,7 +53,7 @@ module _ (test : ℕ → Bool) where
   search_end count z k inv h l e = search_none count z (k + 1) (search_next count z k inv h e) (omega arith)
 
   -- nothing found: every number passes
-  passed_from : (k left : ℕ) → 1 ≤ k → first_from test k left ≡ 0 → (j : ℕ) → k ≤ j → j < k + left → test j ≡ true
+  pub passed_from : (k left : ℕ) → 1 ≤ k → first_from test k left ≡ 0 → (j : ℕ) → k ≤ j → j < k + left → test j ≡ true
   passed_from k zero h e j l m = absurd (omega arith)
   passed_from k (suc left) h e j l m =
       go (test k) refl (ℕ_discrete k j) (λ t d. passed_from (suc k) left (omega arith) (sym (first_pass k left t) ∙ e) j d (omega arith))
@@ -67,7 +67,7 @@ module _ (test : ℕ → Bool) where
   passed count e j l m = passed_from 1 count (omega arith) e j l (omega arith)
 
   -- and the converse
-  none_from : (k left : ℕ) → ((j : ℕ) → k ≤ j → j < k + left → test j ≡ true) → first_from test k left ≡ 0
+  pub none_from : (k left : ℕ) → ((j : ℕ) → k ≤ j → j < k + left → test j ≡ true) → first_from test k left ≡ 0
   unfolding first_from
   none_from k zero h = refl
   none_from k (suc left) h =
@@ -77,7 +77,7 @@ module _ (test : ℕ → Bool) where
   none count h = none_from 1 count (λ j l m. h j l (omega arith))
 
   -- a number that fails, with none before it
-  first_at_from : (k left j : ℕ) → k ≤ j → j < k + left → test j ≡ false → ((i : ℕ) → k ≤ i → i < j → test i ≡ true) → first_from test k left ≡ j
+  pub first_at_from : (k left j : ℕ) → k ≤ j → j < k + left → test j ≡ false → ((i : ℕ) → k ≤ i → i < j → test i ≡ true) → first_from test k left ≡ j
   first_at_from k zero j l m e h = absurd (omega arith)
   first_at_from k (suc left) j l m e h =
       go (ℕ_discrete k j) (λ n. first_at_from (suc k) left j n (omega arith) e (λ i n o. h i (omega arith) o))
@@ -89,8 +89,49 @@ module _ (test : ℕ → Bool) where
   pub first_at : (count j : ℕ) → 1 ≤ j → j ≤ count → test j ≡ false → ((i : ℕ) → 1 ≤ i → i < j → test i ≡ true) → first_from test 1 count ≡ j
   first_at count j l m e h = first_at_from 1 count j l (omega arith) e h
 
+-- j is the first of `left` numbers from k on that fails a test
+pub record First (test : ℕ → Bool) (k left j : ℕ) : Type 0 where
+  pub least : k ≤ j
+  pub most : j < k + left
+  pub fails : test j ≡ false
+  pub before : (i : ℕ) → k ≤ i → i < j → test i ≡ true
+
+-- what is found
+pub first_is : (test : ℕ → Bool) (k left : ℕ) → (first_from test k left ≡ 0 → ⊥) → First test k left (first_from test k left)
+first_is test k zero h = absurd (h (none_from test k 0 (λ j l m. absurd (omega arith))))
+first_is test k (suc left) h =
+    go (test k) refl (λ t. let later = first_pass test k left t in (later, first_is test (suc k) left (λ z. h (later ∙ z))))
+  where
+    go : (b : Bool) → test k ≡ b → (test k ≡ true → (first_from test k (suc left) ≡ first_from test (suc k) left) × First test (suc k) left (first_from test (suc k) left))
+        → First test k (suc left) (first_from test k (suc left))
+    go false t later =
+        rw (first_fail test k left t)
+        (record { least = omega arith; most = omega arith; fails = t; before = λ i l m. absurd (omega arith) })
+    go true t later =
+        let F = (later t).1 in
+        rw ((later t).0)
+        (record {
+          least = omega (arith, F.least);
+          most = omega (arith, F.most);
+          fails = F.fails;
+          before = λ i l m. at i (ℕ_discrete i k) l m F;
+        })
+      where
+        at : (i : ℕ) → Dec (i ≡ k) → k ≤ i → i < first_from test (suc k) left → First test (suc k) left (first_from test (suc k) left) → test i ≡ true
+        at i (yes same) l m F = rw same t
+        at i (no other) l m F = F.before i (omega arith) m
+
+-- as the Option that a search answers
+pub found_some : (n : ℕ) {k : ℕ} → Some k ≡ found n → (n ≡ k) × (n ≡ 0 → ⊥)
+found_some zero e = let z : ◌≡◌ {A = ℕ} 0 1 = cc in absurd (omega arith)
+found_some (suc n) {k} e = (cc, λ z. omega arith)
+
+pub found_nothing : (n : ℕ) → None ≡ found n → n ≡ 0
+found_nothing zero e = refl
+found_nothing (suc n) e = let z : ◌≡◌ {A = ℕ} 0 1 = cc in absurd (omega arith)
+
 -- tests that agree find the same
-first_same_from : (test other : ℕ → Bool) (k left : ℕ) → ((j : ℕ) → k ≤ j → j < k + left → test j ≡ other j)
+pub first_same_from : (test other : ℕ → Bool) (k left : ℕ) → ((j : ℕ) → k ≤ j → j < k + left → test j ≡ other j)
     → first_from test k left ≡ first_from other k left
 unfolding first_from
 first_same_from test other k zero h = refl
@@ -110,6 +151,12 @@ below_yes p t j x e h = lt-ltb (value_at t j) p (omega arith)
 pub below_is : (p : ℕ) (t : List ℕ) (j : ℕ) → below p t j ≡ true → value_at t j < p
 unfolding below
 below_is p t j e = ltb-true (value_at t j) p e
+
+-- constraints that are the same are satisfied alike
+pub satisfied_same : (p m : ℕ) (constraint other : ℕ → Constraint) (v : ℕ → ℕ) → ((k : ℕ) → 1 ≤ k → k ≤ m → constraint k ≡ other k)
+    → first_from (satisfied_by p constraint v) 1 m ≡ first_from (satisfied_by p other v) 1 m
+unfolding satisfied_by
+satisfied_same p m constraint other v h = first_same (satisfied_by p constraint v) (satisfied_by p other v) m (λ k l g. rw (h k l g))
 
 -- constraint k by its part, the rest after those before it
 pub satisfied_part : (p : ℕ) (s : List ℕ) (v : ℕ → ℕ) (k : ℕ) (rest : List ℕ) (b : Bool) → 1 ≤ k → rest ≡ part_from (k - 1) s

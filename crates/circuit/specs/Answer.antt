@@ -61,6 +61,9 @@ number_of reason.TagBroken = 28
 number_of reason.IdleStep = 29
 number_of reason.Candidates = 30
 number_of reason.RunBuffers = 31
+number_of reason.RecordsLength = 32
+number_of reason.RecordValue = 33
+number_of reason.WatchArguments = 34
 
 -- a result of the code as an answer, and one whose value stands for another
 abbrev pub answer_of : {A : Type 0} → Result A Refusal → Answer A

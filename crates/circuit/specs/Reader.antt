@@ -1,7 +1,7 @@
 -- The circuit file (rules 1.1 to 1.3): its bytes read into a circuit, or refusals 1 to 10 in reading order with their places.
 use Rattle.std.specs.Prelude.{ℕ, zero, suc, ◌+◌, ◌*◌, ◌-◌, Bool, true, false, ◌&&◌, List, [], ◌∷◌, ltb, leb, eqb, length, drop}
 use Rattle.field.specs.Prime.{odd_prime}
-use Rattle.circuit.specs.Bytes.{byte_at, u16_at, u32_at}
+use Rattle.circuit.specs.Bytes.{byte_at, u16_at, u32_at, low, high}
 use Rattle.circuit.specs.Circuit.{Term, Form, Constraint, Circuit}
 use Rattle.circuit.specs.Reading.{Reading, whole, require, after, mapped, next, Size, size_of, further}
 
@@ -101,6 +101,10 @@ has_mark letter s = eqb (byte_at s 0) letter && eqb (byte_at s 1) letter_q && eq
 -- Rules 1.1, 2.1, 2.4, 2.5: its version, after the mark, is 1
 abbrev pub has_version : List ℕ → Bool
 has_version s = eqb (u16_at s 3) 1
+
+-- Rules 2.1, 2.4: what a file begins with in which a 16-bit number follows: the mark, version 1 and the number
+abbrev pub file_start : ℕ → ℕ → List ℕ
+file_start letter x = letter ∷ letter_q ∷ letter_t ∷ 1 ∷ 0 ∷ low x ∷ high x ∷ []
 
 -- Rule 1.7: n, i, o and m keep their sizes
 unfoldable pub sizes_fit : ℕ → ℕ → ℕ → ℕ → Bool

@@ -1,5 +1,5 @@
 -- Runs (witnesses) in bytes, 32 bits a value, and searches for the first number that fails a test.
-use Rattle.std.specs.Prelude.{ℕ, zero, suc, ◌*◌, ◌-◌, Bool, cond, List, [], ◌∷◌, ltb, eqb, drop, Option, None, Some}
+use Rattle.std.specs.Prelude.{ℕ, zero, suc, ◌*◌, ◌-◌, Bool, cond, ◌&&◌, List, [], ◌∷◌, ltb, leb, eqb, drop, Option, None, Some}
 use Rattle.circuit.specs.Bytes.{u32_at}
 use Rattle.circuit.specs.Circuit.{Constraint, Circuit, constraint_at, value_of}
 use Rattle.circuit.specs.Run.{holds}
@@ -15,6 +15,10 @@ value_at s number = u32_at s (value_size * (number - 1))
 unfoldable pub run_in : List ℕ → ℕ → List ℕ
 run_in s zero = []
 run_in s (suc n) = u32_at s 0 ∷ run_in (drop value_size s) n
+
+-- values 1 to n of those that the bytes start with, and v's elsewhere
+unfoldable pub filled : List ℕ → ℕ → (ℕ → ℕ) → ℕ → ℕ
+filled t n v s = cond (leb 1 s && leb s n) (value_at t s) (v s)
 
 -- the first of `left` numbers from k on that fails a test; 0 where none does
 unfoldable pub first_from : (ℕ → Bool) → ℕ → ℕ → ℕ

@@ -43,6 +43,22 @@ pub fn term_at(part: &[u8], i: u32) -> Term
     }
 }
 
+// Term i, as `term_at` gives it: where the part has all of its bytes, which it has in a circuit that was read, they are looked for once.
+// Stays: beside `term_at`, by which the reader goes over a file; values of forms are asked for by the million.
+pub fn term_in(part: &[u8], i: u32) -> Term
+    ensures { (result.signal ≡ u16_at part.now (form_size i)) × (result.coefficient ≡ u32_at part.now (form_size i + 2))
+        × (result.signal < 65536) }
+{
+    let start = form_size(i);
+    match part.get(start..start + TERM_SIZE) {
+        Some(bytes) => Term {
+            signal: u16_at(bytes, 0),
+            coefficient: u32_at(bytes, 2),
+        },
+        None => term_at(part, i),
+    }
+}
+
 // The three forms of a constraint, each as the part that it starts.
 #[derive(Clone, Copy, Debug, PartialEq, Eq)]
 pub struct Forms<'a> {

@@ -2,7 +2,7 @@
 
 ghost use Rattle.std.specs.Prelude.{◌≡◌, ◌+◌, ◌^◌, ◌≤◌, ◌<◌, length};
 ghost use Rattle.circuit.specs.Reading.{size_of, further, extent};
-ghost use Rattle.circuit.specs.Reader.{header_size, read_form, form_from, read_constraint, after_form, after_constraint, has_mark, has_version, sizes_fit};
+ghost use Rattle.circuit.specs.Reader.{header_size, read_form, form_from, read_constraint, after_form, after_constraint, has_mark, has_version, file_start, sizes_fit};
 ghost use Rattle.circuit.specs.Answer.{answer_of, answer_by, found_of, paper_of};
 ghost use Rattle.circuit.specs.Call.{header_of, header_call, body_call, circuit_call, SizedAnswer};
 
@@ -26,7 +26,7 @@ const TERMS_MOST: u32 = 32;
 
 pub const TERM_SIZE: usize = 6;
 
-pub const VERSION: u32 = 1;
+const VERSION: u32 = 1;
 
 // A file's mark: its letter, C for a circuit, then Q and T.
 const CIRCUIT_LETTER: u32 = b'C' as u32;
@@ -173,6 +173,23 @@ pub fn has_version(s: &[u8]) -> bool
     ensures { result ≡ has_version s.now }
 {
     u16_at(s, 3) == VERSION
+}
+
+// The first bytes of a derivation or a pair: the letter of its mark, the others, version 1, and a 16-bit number.
+pub fn file_start(letter: u8, number: u16) -> [u8; 7]
+    ensures { result ≡ file_start letter number }
+{
+    let [version_low, version_high] = (VERSION as u16).to_le_bytes();
+    let [low, high] = number.to_le_bytes();
+    [
+        letter,
+        LETTER_Q as u8,
+        LETTER_T as u8,
+        version_low,
+        version_high,
+        low,
+        high,
+    ]
 }
 
 impl Sizes {

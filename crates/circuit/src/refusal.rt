@@ -38,6 +38,9 @@ pub enum Reason {
     IdleStep,
     Candidates,
     RunBuffers,
+    RecordsLength,
+    RecordValue,
+    WatchArguments,
 }
 
 impl Reason {

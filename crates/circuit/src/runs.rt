@@ -4,7 +4,7 @@ ghost use Rattle.std.specs.Prelude.{◌≡◌, ◌<◌, min};
 ghost use Rattle.circuit.specs.Circuit.{value_of};
 ghost use Rattle.circuit.specs.Reader.{signals_most, constraint_of};
 ghost use Rattle.circuit.specs.Run.{values_in};
-ghost use Rattle.circuit.specs.Runs.{value_at, run_in, first_from, found, below, satisfied_by, agree};
+ghost use Rattle.circuit.specs.Runs.{value_at, run_in, filled, first_from, found, below, satisfied_by, agree};
 
 use crate::bytes::u32_at;
 use crate::reader::{SIGNALS_MOST, after_constraint};
@@ -20,15 +20,22 @@ fn value_at(values: &[u8], number: u32) -> u32
     u32_at(values, VALUE_SIZE * (number as usize).saturating_sub(1))
 }
 
+// Puts the first n values into an array, each at the place of its signal, and leaves the others.
+pub fn fill_run(run: &mut [u32; 257], values: &[u8], n: u32)
+    ensures { values_in run.new ≡ filled values.now (min n signals_most) (values_in run.old) }
+{
+    for s in 1..=n.min(SIGNALS_MOST) {
+        run[s as usize] = value_at(values, s);
+    }
+}
+
 // The constant one and the first n values: a run, with the value of signal s at place s.
 pub fn copy_run(values: &[u8], n: u32) -> [u32; 257]
     ensures { values_in result ≡ value_of (run_in values.now (min n signals_most)) }
 {
     let mut run = [0u32; 257];
     run[0] = 1;
-    for s in 1..=n.min(SIGNALS_MOST) {
-        run[s as usize] = value_at(values, s);
-    }
+    fill_run(&mut run, values, n);
     run
 }
 
@@ -59,4 +66,11 @@ pub fn first_difference(values: &[u32], other: &[u32], count: u32) -> Option<u32
     ensures { result ≡ found (first_from (agree (values_in values.now) (values_in other.now)) 1 count) }
 {
     (1..=count).find(|s| value_of(values, *s) != value_of(other, *s))
+}
+
+// The same of the values in bytes and a run.
+pub fn first_unlike(values: &[u8], run: &[u32], count: u32) -> Option<u32>
+    ensures { result ≡ found (first_from (agree (value_at values.now) (values_in run.now)) 1 count) }
+{
+    (1..=count).find(|s| value_at(values, *s) != value_of(run, *s))
 }

@@ -8,13 +8,13 @@ use native.Mathlib.Omega.{arith}
 use lib.ListN.{length, drop}
 use lib.Seq.{drop-drop}
 use borrow.Author.Tests.{eq-eqb, ne_eqb}
-use Rattle.circuit.specs.Bytes.{byte_at, u16_at}
+use Rattle.circuit.specs.Bytes.{byte_at, u16_at, low, high}
 use Rattle.circuit.specs.Reader.{has_mark}
 use Rattle.circuit.proofs.ByteLaws.{byte_drop, u16_drop}
 use Rattle.laws.specs.Step.{Kind, kind_number, Step}
 use Rattle.laws.proofs.KindLaws.{Listed, here, there, listed}
 use Rattle.derivation.specs.Steps.{numbered, kind_of, step_start, step_at, read_step, steps_from, steps_of}
-use Rattle.derivation.specs.Encoded.{low, high, step_bytes, steps_bytes, encoded}
+use Rattle.derivation.specs.Encoded.{step_bytes, steps_bytes, encoded}
 use Rattle.derivation.proofs.Walks.{steps_known}
 use Rattle.derivation.proofs.Exact.{Lists}
 

@@ -1,15 +1,9 @@
 -- Steps as the bytes of a derivation, and bytes stored in a buffer.
-use Rattle.std.specs.Prelude.{ℕ, ◌/◌, ◌%◌, List, [], ◌∷◌, ◌++◌, length}
+use Rattle.std.specs.Prelude.{ℕ, List, [], ◌∷◌, ◌++◌, length}
 use Rattle.std.proofs.lemmas.List.Edits.{sets}
-use Rattle.circuit.specs.Reader.{derivation_letter, letter_q, letter_t}
+use Rattle.circuit.specs.Bytes.{low, high}
+use Rattle.circuit.specs.Reader.{derivation_letter, file_start}
 use Rattle.laws.specs.Step.{kind_number, Step}
-
--- the bytes of a 16-bit number, the low one first
-abbrev pub low : ℕ → ℕ
-low x = x % 256
-
-abbrev pub high : ℕ → ℕ
-high x = x / 256
 
 -- Rule 2.2: kind, target, constraint and reference.
 unfoldable pub step_bytes : Step → List ℕ
@@ -29,7 +23,7 @@ steps_bytes (x ∷ xs) = step_bytes x ++ steps_bytes xs
 
 -- Rule 2.1: the mark, version 1 and the number of steps.
 abbrev pub header_bytes : ℕ → List ℕ
-header_bytes count = derivation_letter ∷ letter_q ∷ letter_t ∷ 1 ∷ 0 ∷ low count ∷ high count ∷ []
+header_bytes count = file_start derivation_letter count
 
 -- Rule 2.1: the header, then the steps.
 unfoldable pub encoded : List Step → List ℕ

@@ -6,11 +6,11 @@ ghost use Rattle.derivation.specs.Encoded.{step_bytes, header_bytes, stored};
 ghost use Rattle.derivation.specs.Inner.{step_in};
 
 use crate::step::Step;
-use circuit::reader::VERSION;
+use circuit::reader::file_start;
 
-// A derivation's mark, its letter and then Q and T.
-// Stays: bytes, as they are written, though the letter stands in `walk` too: the public `has_mark` takes it as `byte_at` gives it, a number of 32 bits.
-const MARK: [u8; 3] = *b"DQT";
+// The letter D of a derivation's mark.
+// Stays: a byte, as it is written, though the letter stands in `walk` too: the public `has_mark` takes it as `byte_at` gives it, a number of 32 bits.
+const LETTER: u8 = b'D';
 
 // The bytes of a header, and those of a step.
 pub const HEAD_SIZE: usize = 7;
@@ -45,20 +45,5 @@ pub fn put_step(output: &mut [u8], index: u32, step: Step)
 pub fn put_header(output: &mut [u8], count: u16)
     ensures { output.new ≡ stored output.old 0 (header_bytes count) }
 {
-    let [letter, second, third] = MARK;
-    let [version_low, version_high] = (VERSION as u16).to_le_bytes();
-    let [count_low, count_high] = count.to_le_bytes();
-    put(
-        output,
-        0,
-        [
-            letter,
-            second,
-            third,
-            version_low,
-            version_high,
-            count_low,
-            count_high,
-        ],
-    );
+    put(output, 0, file_start(LETTER, count));
 }

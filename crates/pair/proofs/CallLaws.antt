@@ -17,7 +17,7 @@ use Rattle.circuit.specs.Call.{sizes_of, circuit_call, circuit_of}
 use Rattle.circuit.specs.declared.reader.Sizes.{Sizes}
 use Rattle.circuit.proofs.AnswerLaws.{ask_given, none_given, then_same}
 use Rattle.circuit.proofs.ReaderLaws.{part_drop}
-use Rattle.circuit.proofs.SearchLaws.{first_same, passed, below_is, agree_no}
+use Rattle.circuit.proofs.SearchLaws.{satisfied_same, passed, below_is, agree_no}
 use Rattle.circuit.proofs.Sized.{call_sized, sizes_are, sized_constraint}
 use Rattle.tags.specs.Tag.{Sheet, kept}
 use Rattle.tags.specs.Sheet.{sheet_of, sheet_on}
@@ -112,15 +112,10 @@ runs_copied z T constraint t first second q few long e f =
     let room : 4 * z.n ≤ length (drop 7 t) = omega (arith, length-drop 7 t) in
     ap₂ (λ (x y : ℕ → ℕ). runs_on z T constraint x y q) (e ∙ rw (all, values)) (f ∙ rw (all, values, part_drop (drop 7 t) (4 * z.n) room))
 
-search_same : (p m : ℕ) (constraint other : ℕ → Constraint) (v : ℕ → ℕ) → ((k : ℕ) → 1 ≤ k → k ≤ m → constraint k ≡ other k)
-    → first_from (satisfied_by p constraint v) 1 m ≡ first_from (satisfied_by p other v) 1 m
-unfolding satisfied_by
-search_same p m constraint other v h = first_same (satisfied_by p constraint v) (satisfied_by p other v) m (λ k l g. rw (h k l g))
-
 runs_same : (z : Sizes) (T : Sheet) (constraint other : ℕ → Constraint) (v w : ℕ → ℕ) (q : ℕ)
     → ((k : ℕ) → 1 ≤ k → k ≤ z.m → constraint k ≡ other k) → runs_on z T constraint v w q ≡ runs_on z T other v w q
 unfolding runs_on
-runs_same z T constraint other v w q h = rw (search_same z.p z.m constraint other v h, search_same z.p z.m constraint other w h)
+runs_same z T constraint other v w q h = rw (satisfied_same z.p z.m constraint other v h, satisfied_same z.p z.m constraint other w h)
 
 -- The call on a circuit and a sheet that aren't refused
 

@@ -22,7 +22,7 @@ use tags::tagged::Tagged;
 // The letter P of a pair's mark, and the size of its header.
 const PAIR_LETTER: u32 = b'P' as u32;
 
-const PAIR_HEADER: usize = 7;
+pub const PAIR_HEADER: usize = 7;
 
 // The call's answer: a refusal's number and place, or the signal at which the runs differ.
 // Stays: the paper's form is one enum per call, whose cases carry a refusal's number and place, or the result.

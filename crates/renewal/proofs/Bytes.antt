@@ -10,12 +10,12 @@ use borrow.Author.Tests.{eqb-true}
 use lib.Dec.{eqb}
 use lib.ListN.{length, take, drop, drop_of_length-le}
 use lib.Seq.{drop-cons, take-append_seam}
-use Rattle.circuit.specs.Bytes.{byte_at, u16_at}
+use Rattle.circuit.specs.Bytes.{byte_at, u16_at, low, high}
 use Rattle.circuit.specs.Reader.{has_mark}
 use Rattle.laws.specs.Step.{Kind, kinds, kind_number, Step}
 use Rattle.laws.proofs.Sum.{and_left, and_right}
 use Rattle.derivation.specs.Steps.{numbered, kind_of, of_kind, step_start, step_at, read_step, steps_from, steps_of}
-use Rattle.derivation.specs.Encoded.{low, high, step_bytes, steps_bytes, header_bytes, encoded}
+use Rattle.derivation.specs.Encoded.{step_bytes, steps_bytes, header_bytes, encoded}
 use Rattle.derivation.specs.Exact.{Framed}
 use Rattle.derivation.proofs.Walks.{step_known, steps_known}
 use Rattle.renewal.specs.Inner.{Bytes}

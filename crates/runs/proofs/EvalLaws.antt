@@ -1,15 +1,15 @@
--- Laws of forms on small values: a value summed term by term as a whole number, the test of a constraint by remainders, a term whose bytes are all there.
+-- Laws of forms on small values: a value summed term by term as a whole number, the test of a constraint by remainders.
 use Prim.Native.Nat.{ℕ, zero, suc, ◌+◌, ◌*◌, ◌-◌, ◌%◌, ◌≤◌, ◌<◌}
 use mathlib.Core.Path.{◌≡◌, refl, sym, ap, ◌∙◌}
 use mathlib.Core.Bool.{Bool, true, false}
 use mathlib.Core.List.{List}
-use native.Mathlib.Nat.{add-zero, zero-add, mul-le-mul, add_assoc}
+use native.Mathlib.Nat.{add-zero, zero-add, mul-le-mul}
 use native.Mathlib.Decide.{dec_le}
 use native.Mathlib.Omega.{arith}
 use borrow.Author.Tests.{ne_eqb, leb-false}
 use lib.Dec.{leb, eqb}
-use lib.ListN.{take, drop}
-use lib.Seq.{drop-drop, get_or-take}
+use lib.ListN.{drop}
+use lib.Seq.{drop-drop}
 use Rattle.circuit.specs.Bytes.{byte_at, u16_at, u32_at}
 use Rattle.circuit.specs.Circuit.{Term, Form, eval}
 use Rattle.circuit.specs.Reader.{term_at, term_kept, terms_in, form_in, after_form, constraint_in}
@@ -76,24 +76,3 @@ holds_whole p s v some s₁ s₂ a b c e f ea eb ec =
     holds_by p s v s₁ s₂ (a % p) (b % p) (c % p) some e (f ∙ ap after_form (sym e)) (rest a (form_in s) ea)
     (rest b (form_in s₁) eb)
     (rest c (form_in s₂) ec)
-
--- ---- a term whose bytes are all there
-
-taken_byte : (n : ℕ) (s : List ℕ) (k : ℕ) → k < n → byte_at (take n s) k ≡ byte_at s k
-unfolding byte_at
-taken_byte n s k l = get_or-take n s k 0 l
-
-taken_u16 : (n : ℕ) (s : List ℕ) (k : ℕ) → k + 1 < n → u16_at (take n s) k ≡ u16_at s k
-unfolding u16_at
-taken_u16 n s k l = rw (taken_byte n s k (omega arith), taken_byte n s (k + 1) l) refl
-
--- its signal and its coefficient, where six bytes are taken from an offset on
-pub taken_term : (s : List ℕ) (at n : ℕ) {bytes : List ℕ} → n ≡ 6 → bytes ≡ take n (drop at s)
-    → (u16_at bytes 0 ≡ u16_at s at) × (u32_at bytes 2 ≡ u32_at s (at + 2))
-unfolding u32_at
-taken_term s at n six e =
-    let part = drop at s in
-    rw (e, six, taken_u16 6 part 0 (omega arith), taken_u16 6 part 2 (omega arith), taken_u16 6 part 4 (omega arith)) (
-      u16_drop at s 0 ∙ rw add-zero,
-      rw (u16_drop at s 2, u16_drop at s 4, add_assoc) refl,
-    )

@@ -14,4 +14,4 @@ loop-i-preserved c = (
 )
 
 pub returns : goal.returns
-returns c = rw c.from.ensures (laws.sum_end _ _ _ _ _ _ _ c.loop-i.invariant.1 (omega arith))
+returns c = rw c.remainder.ensures.0 (laws.sum_end _ _ _ _ _ _ _ c.loop-i.invariant.1 (omega arith))
