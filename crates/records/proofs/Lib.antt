@@ -1,0 +1,13 @@
+pub mod LastLaws
+pub mod HashLaws
+pub mod KeptLaws
+pub mod NearestLaws
+pub mod WalkLaws
+pub mod RecordLaws
+pub mod FirstLaws
+pub mod FileLaws
+pub mod WatchedLaws
+pub mod MakesLaws
+pub mod CallLaws
+pub mod Watched
+pub mod Accepted

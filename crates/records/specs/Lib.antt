@@ -1,0 +1,5 @@
+pub mod Recorded
+pub mod Call
+pub mod Watched
+pub mod Answer
+pub mod Inner
