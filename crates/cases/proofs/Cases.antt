@@ -33,7 +33,11 @@ use Rattle.runs.specs.Order as order
 use Rattle.runs.specs.Order.{starting_below, candidates, passing, satisfies, runs_of}
 use Rattle.runs.specs.Call.{first_run, next_run, few, first_on, next_on, first_call, next_call}
 use Rattle.runs.specs.Call as runs
-use Rattle.cases.specs.Encode.{u16_bytes, u32_bytes, terms_bytes, form_bytes, constraints_bytes, circuit_bytes, entries_bytes, sheet_bytes, values_bytes, pair_bytes, one_step}
+use Rattle.records.specs.Recorded.{from_record, record_run, records_in, shares, lowest_output, differ, distance, pair_back, pair_at, first_later, watched}
+use Rattle.records.specs.Call.{window_of, is_window, allowed, watch_on, watch_call, record_bytes, pair_file, watch_output}
+use Rattle.records.specs.Call as records
+use Rattle.cases.specs.Encode.{u16_bytes, u32_bytes, terms_bytes, form_bytes, constraints_bytes, circuit_bytes, entries_bytes, sheet_bytes, values_bytes}
+use Rattle.cases.specs.Encode.{records_bytes, pair_bytes, one_step}
 use Rattle.cases.specs.Table.{Row, bounds_from, table, found}
 
 pub cases : map found table ≡ map (λ (row : Row). row.said) table
@@ -45,7 +49,9 @@ unfolding own reached solved solver_on solver_call solver_output step_bytes step
     zero_met others_marked product_met weight live differs smaller_term smaller_sum separate live_term separated digits_met single nonzero_met divisor divides quotient_met put add lower mark exclude_zero
     is_input none_of start sum all keep implies constraint_at coef names value_of eval holds byte_at u16_at u32_at read_terms read_form
     read_constraint read_constraints has_mark sizes_fit read_body read_circuit trial no_divisor odd_prime opposite inverse_from inverse u16_bytes
-    u32_bytes terms_bytes form_bytes constraints_bytes circuit_bytes entries_bytes sheet_bytes values_bytes pair_bytes one_step bounds_from circuit_of limit least_of
+    u32_bytes terms_bytes form_bytes constraints_bytes circuit_bytes entries_bytes sheet_bytes values_bytes records_bytes pair_bytes one_step bounds_from circuit_of limit least_of
     lowered first_bound keeps kept on_other is_shown shown_of not_missed shown_by sheet.kind_of read_tag tag_in sheet_of entry_fits framed sheet_on
     starting_below candidates passing satisfies unsatisfied runs_of order.precedes first_run next_run few runs.fits first_on next_on first_call next_call
+    from_record record_run records_in shares lowest_output differ distance pair_back pair_at first_later watched window_of records.fits is_window allowed watch_on
+    watch_call record_bytes pair_file watch_output
 cases = refl

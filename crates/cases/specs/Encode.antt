@@ -1,4 +1,4 @@
--- The bytes of circuits, sheets, pairs and steps, for the table: the formats of Rules 1.1, 1.3, 2.1, 2.4 and 2.5 written out.
+-- The bytes of circuits, sheets, pairs, records and steps, for the table: the formats of Rules 1.1, 1.3, 2.1, 2.4, 2.5 and 2.7 written out.
 use Rattle.std.specs.Prelude.{ℕ, ◌/◌, ◌%◌, List, [], ◌∷◌, ◌++◌, length}
 use Rattle.circuit.specs.Circuit.{Form, Constraint, Circuit}
 use Rattle.tags.specs.Tag.{Kind, Binary, Maxbit, Maxvalue, Tag}
@@ -44,6 +44,11 @@ sheet_bytes ts = 84 ∷ 81 ∷ 84 ∷ 1 ∷ 0 ∷ u16_bytes (length ts) ++ entri
 unfoldable pub values_bytes : List ℕ → List ℕ
 values_bytes [] = []
 values_bytes (x ∷ xs) = u32_bytes x ++ values_bytes xs
+
+-- a file of recorded runs
+unfoldable pub records_bytes : List (List ℕ) → List ℕ
+records_bytes [] = []
+records_bytes (run ∷ runs) = values_bytes run ++ records_bytes runs
 
 -- a pair file: q, the first run, the second
 unfoldable pub pair_bytes : ℕ → List ℕ → List ℕ → List ℕ

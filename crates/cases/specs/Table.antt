@@ -1,6 +1,7 @@
 -- The shared table of cases a to j (Rule 7.4), of false rules that look sound (Rule 7.5), of tags (Rule 7.6), of idle steps (Rule 7.9), of runs listed
--- (Rule 7.11) and of divisions (Rule 7.13): each row names a circuit's bytes, those of a sheet, the call with what is handed in, and what the rules say of it.
-use Rattle.std.specs.Prelude.{ℕ, zero, suc, ◌+◌, ◌*◌, ◌-◌, true, false, List, [], ◌∷◌, ◌++◌, length, take, replicate}
+-- (Rule 7.11), of divisions (Rule 7.13) and of watched runs (Rule 7.15): each row names a circuit's bytes, those of a sheet, the call with what is handed in,
+-- and what the rules say of it.
+use Rattle.std.specs.Prelude.{ℕ, zero, suc, ◌+◌, ◌*◌, ◌-◌, true, false, List, [], ◌∷◌, ◌++◌, length, take, replicate, None, Some}
 use Rattle.std.proofs.Math.Option.{none, some}
 use Rattle.circuit.specs.Circuit.{Circuit}
 use Rattle.circuit.specs.Reading.{Reading, whole, fault}
@@ -17,14 +18,16 @@ use Rattle.pair.specs.Call as pair
 use Rattle.renewal.specs.Call as renewal
 use Rattle.solver.specs.Call as solver
 use Rattle.runs.specs.Call as runs
-use Rattle.cases.specs.Encode.{circuit_bytes, sheet_bytes, pair_bytes, one_step}
+use Rattle.records.specs.declared.answer.Watched.{Watched}
+use Rattle.records.specs.Call as records
+use Rattle.cases.specs.Encode.{circuit_bytes, sheet_bytes, records_bytes, pair_bytes, one_step}
 use Rattle.cases.specs.Circuits.{circuit_a, circuit_b, circuit_c, circuit_d, circuit_e, circuit_f, circuit_g, never, copy, bare, bits, carry}
 use Rattle.cases.specs.Circuits.{inverse_of, inverse_free, inverse_equal, shifted, own_inverse, only_one, times_itself, quotient_of, quotient_free}
 use Rattle.cases.specs.Circuits.{wide_quotients, guarded}
 use Rattle.cases.specs.Circuits.{is_binary, has_bits, is_most}
 
--- a call: reading the circuit, solving it, judging a hand-in or renewing one, the first run or the one after a given one, with so much room; or the bounds
--- that a derivation reaches
+-- a call: reading the circuit, solving it, judging a hand-in or renewing one, the first run or the one after a given one, with so much room, watching records
+-- within a window, with so much room; or the bounds that a derivation reaches
 pub data Asked : Type 0 where
   reading : Asked
   solving : Asked
@@ -34,6 +37,7 @@ pub data Asked : Type 0 where
   renewing : List ℕ → Asked
   beginning : ℕ → Asked
   following : List ℕ → ℕ → Asked
+  watching : List ℕ → ℕ → ℕ → Asked
 
 -- what is said: a circuit's p, n, i, o and m and its file's length, or each call's answer, with the bytes or values that it leaves; or bounds
 pub data Said : Type 0 where
@@ -45,6 +49,7 @@ pub data Said : Type 0 where
   pairs : Answer ℕ → Said
   renews : Answer ℕ → List ℕ → Said
   lists : Answer runs.Found → List ℕ → Said
+  watches : Answer records.Found → List ℕ → Said
 
 pub record Row : Type 0 where
   pub circuit : List ℕ
@@ -56,7 +61,7 @@ pub record Row : Type 0 where
 abbrev pub buffer : List ℕ
 buffer = replicate 112 9
 
--- .. and one for a run, of so many values
+-- .. and one of so many values, for a run, or bytes
 abbrev pub room_of : ℕ → List ℕ
 room_of n = replicate n 9
 
@@ -83,6 +88,7 @@ answer c h (pairing t) = pairs (pair.pair_call c h t)
 answer c h (renewing d) = renews (renewal.renewal_call c h d (length buffer)) (renewal.renewal_output c h d buffer)
 answer c h (beginning n) = let r = runs.first_call c n in lists r (runs.left_by r (room_of n))
 answer c h (following run n) = let r = runs.next_call c run n in lists r (runs.left_by r (room_of n))
+answer c h (watching s w room) = watches (records.watch_call c s w room) (records.watch_output c s w (room_of room))
 
 abbrev pub found : Row → Said
 found row = answer row.circuit row.sheet row.asked
@@ -154,6 +160,35 @@ abbrev pub unlisted_row : Circuit → Asked → ℕ → ℕ → ℕ → Row
 unlisted_row C asked n number place =
     record { circuit = circuit_bytes C; sheet = empty_sheet; asked = asked; said = lists (refused number place) (room_of n) }
 
+-- the room for a pair file and one byte more
+abbrev pub watch_room : Circuit → ℕ
+watch_room C = 8 + 8 * C.n
+
+-- the pair that is found in records, and the file of its runs; the byte after it stays 9
+abbrev pub watched_row : Circuit → List (List ℕ) → ℕ → Watched → List ℕ → List ℕ → Row
+watched_row C runs w x first second =
+    record {
+      circuit = circuit_bytes C;
+      sheet = empty_sheet;
+      asked = watching (records_bytes runs) w (watch_room C);
+      said = watches (given (Some x)) (pair_bytes x.q first second ++ 9 ∷ []);
+    }
+
+-- no two records make a pair: nothing is written
+abbrev pub unpaired_row : Circuit → List (List ℕ) → ℕ → Row
+unpaired_row C runs w =
+    record {
+      circuit = circuit_bytes C;
+      sheet = empty_sheet;
+      asked = watching (records_bytes runs) w (watch_room C);
+      said = watches (given None) (room_of (watch_room C));
+    }
+
+-- records that are refused: nothing is written
+abbrev pub unwatched_row : Circuit → List ℕ → ℕ → ℕ → ℕ → ℕ → Row
+unwatched_row C s w room number place =
+    record { circuit = circuit_bytes C; sheet = empty_sheet; asked = watching s w room; said = watches (refused number place) (room_of room) }
+
 abbrev pub read_row : List ℕ → Said → Row
 read_row c says = record { circuit = c; sheet = empty_sheet; asked = reading; said = says }
 
@@ -186,6 +221,10 @@ steps_carry =
 -- two runs of case b with input 1
 abbrev pub pair_b : List ℕ
 pair_b = pair_bytes 2 (1 ∷ 4 ∷ 3 ∷ []) (1 ∷ 6 ∷ 5 ∷ [])
+
+-- two records of case b that make a pair, and one between them that breaks a constraint
+abbrev pub around_broken : List (List ℕ)
+around_broken = (0 ∷ 1 ∷ 0 ∷ []) ∷ (0 ∷ 0 ∷ 0 ∷ []) ∷ (0 ∷ 2 ∷ 1 ∷ []) ∷ []
 
 -- the bits of the circuit `bits` tagged, then two tags on the output
 abbrev pub tags_bits : List Tag
@@ -339,4 +378,24 @@ table =
     -- .. a nonzero mark given twice, and renewed once
     ∷ turned_row inverse_of (encoded (step Nonzero 1 1 0 ∷ step Nonzero 1 1 0 ∷ [])) 29 2
     ∷ renewed_row inverse_of (step Nonzero 1 1 0 ∷ step Nonzero 1 1 0 ∷ step Nonzero 2 1 0 ∷ step Quotient 2 1 1 ∷ []) steps_inverse
+    -- watched runs of b: a record that breaks a constraint takes a place, so the two around it are within 3, and not within 2
+    ∷ watched_row circuit_b around_broken 3 (record { q = 2; earlier = 1; later = 3 }) (0 ∷ 1 ∷ 0 ∷ []) (0 ∷ 2 ∷ 1 ∷ [])
+    ∷ unpaired_row circuit_b around_broken 2
+    -- .. the nearest of those that a record makes a pair with, though one with another input is nearer
+    ∷ watched_row circuit_b ((1 ∷ 4 ∷ 3 ∷ []) ∷ (1 ∷ 4 ∷ 3 ∷ []) ∷ (0 ∷ 1 ∷ 0 ∷ []) ∷ (1 ∷ 6 ∷ 5 ∷ []) ∷ []) 0
+    (record { q = 2; earlier = 2; later = 4 }) (1 ∷ 4 ∷ 3 ∷ []) (1 ∷ 6 ∷ 5 ∷ [])
+    -- .. of two pairs the one whose later record comes first
+    ∷ watched_row circuit_b ((0 ∷ 1 ∷ 0 ∷ []) ∷ (1 ∷ 4 ∷ 3 ∷ []) ∷ (1 ∷ 6 ∷ 5 ∷ []) ∷ (0 ∷ 2 ∷ 1 ∷ []) ∷ []) 256
+    (record { q = 2; earlier = 2; later = 3 }) (1 ∷ 4 ∷ 3 ∷ []) (1 ∷ 6 ∷ 5 ∷ [])
+    -- .. of d: three outputs differ, and the lowest is named; of g: runs that differ at the inner signal alone; a file of no bytes
+    ∷ watched_row circuit_d ((0 ∷ 0 ∷ 0 ∷ 0 ∷ []) ∷ (0 ∷ 1 ∷ 1 ∷ 1 ∷ []) ∷ []) 2 (record { q = 2; earlier = 1; later = 2 })
+    (0 ∷ 0 ∷ 0 ∷ 0 ∷ []) (0 ∷ 1 ∷ 1 ∷ 1 ∷ [])
+    ∷ unpaired_row circuit_g ((0 ∷ 1 ∷ 0 ∷ []) ∷ (0 ∷ 1 ∷ 1 ∷ []) ∷ (0 ∷ 1 ∷ 6 ∷ []) ∷ []) 0
+    ∷ unpaired_row circuit_b [] 0
+    -- .. a record and a value more; a value of p after a pair; windows and a buffer of wrong sizes
+    ∷ unwatched_row circuit_b (take 16 (records_bytes around_broken)) 0 31 32 0
+    ∷ unwatched_row circuit_b (records_bytes ((0 ∷ 1 ∷ 0 ∷ []) ∷ (0 ∷ 2 ∷ 1 ∷ []) ∷ (0 ∷ 7 ∷ 1 ∷ []) ∷ [])) 0 31 33 3
+    ∷ unwatched_row circuit_b (records_bytes around_broken) 1 31 34 0
+    ∷ unwatched_row circuit_b (records_bytes around_broken) 257 31 34 0
+    ∷ unwatched_row circuit_b (records_bytes around_broken) 0 30 34 0
     ∷ []
