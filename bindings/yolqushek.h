@@ -1,8 +1,8 @@
-/* The seven calls of the proved library. Link target/staticlib/libexports.a, which `bin/build library` makes.
+/* The eight calls of the proved library. Link target/staticlib/libexports.a, which `bin/build library` makes.
  *
  * Every call ends on all bytes and lengths. It returns a refusal's number in the high half of the value, 0 where nothing is refused, and in the low half
- * the refusal's place; yolqushek_number and yolqushek_place take the value apart. On a result the low half is 0, but for an accepted pair, where it is
- * the signal q (yolqushek_signal), for a renewal, where it is the new length (yolqushek_length), and for a run that was written, where it is 1
+ * the refusal's place; yolqushek_number and yolqushek_place take the value apart. On a result the low half is 0, but for a pair that is accepted or found,
+ * where it is the signal q (yolqushek_signal), for a renewal, where it is the new length (yolqushek_length), and for a run that was written, where it is 1
  * (yolqushek_written). Memory that is lent, answer included, is written only on a result, and no further than stated.
  * Lengths are in bytes, but those of runs in values, 32-bit numbers as the machine has them; a pointer of length 0 is not read. What is lent to one call must
  * not overlap.
@@ -27,13 +27,13 @@ extern "C" {
 /* The sheet without tags. */
 static const uint8_t yolqushek_no_tags[7] = {84, 81, 84, 1, 0, 0, 0};
 
-/* The refusal's number, 1 to 31; 0 on a result. */
+/* The refusal's number, 1 to 34; 0 on a result. */
 static inline uint32_t yolqushek_number(uint64_t returned) { return (uint32_t)(returned >> 32); }
 
-/* The refusal's place. */
+/* The refusal's place. That of 33, a record's number, is told modulo 2^32: only a file of 16 GB or more has records enough to show it. */
 static inline uint32_t yolqushek_place(uint64_t returned) { return (uint32_t)returned; }
 
-/* The signal q of an accepted pair. */
+/* The signal q of a pair that is accepted or found; 0 where none is found. */
 static inline uint32_t yolqushek_signal(uint64_t returned) { return (uint32_t)returned; }
 
 /* The length of a renewed derivation, in bytes. */
@@ -76,6 +76,15 @@ uint64_t yolqushek_first_run(const uint8_t *circuit, size_t circuit_length, uint
  * not satisfy anything. With what was written given each time, until there are no more, every satisfying run comes once, in order. Stack: 16 kB. */
 uint64_t yolqushek_next_run(const uint8_t *circuit, size_t circuit_length, const uint32_t *given, size_t given_length, uint32_t *answer,
                             size_t answer_length);
+
+/* Finds a pair among recorded runs. records: nothing but records, each of n values of 4 bytes, little-endian. Two of them make a pair if both satisfy the
+ * circuit, share their inputs, differ at an output and are fewer than window places apart, 2 to 256 (0 stands for 64); one that breaks a constraint takes a
+ * place and makes none. Found is the pair with the earliest later record, then the nearest earlier one, then the lowest output q. Refusals 1 to 10, 32, 33
+ * and 34, in this order: 32 meets a length that isn't a multiple of 4 * n, 33 a value that isn't below p (place: its record, counted from 1), and 34 another
+ * window or an output shorter than 7 + 8 * n bytes. The pair file, the earlier record as its first run, is written to the first 7 + 8 * n bytes of output;
+ * answer: the earlier and the later record, counted from 1; the value has q. Where no two make a pair it is 0, and nothing is written. Stack: 16 kB. */
+uint64_t yolqushek_watch(const uint8_t *circuit, size_t circuit_length, const uint8_t *records, size_t records_length, uint32_t window, uint8_t *output,
+                         size_t output_length, uint64_t answer[2]);
 
 #ifdef __cplusplus
 }

@@ -1,5 +1,5 @@
-/* Cases a and f of document 01 through the C header, with tags and without, and a division: reads, solves, judges, renews and lists runs, and says what
- * differs. */
+/* Cases a and f of document 01 through the C header, with tags and without, and a division: reads, solves, judges, renews, lists runs and watches
+ * recorded ones, and says what differs. */
 #include "../yolqushek.h"
 #include <stdio.h>
 #include <string.h>
@@ -30,6 +30,10 @@ static const uint8_t pair[] = {80, 81, 84, 1, 0, 1, 0, 0, 0, 0, 0, 1, 0, 0, 0};
 static const uint8_t large[] = {67, 81, 84, 1, 0, 1, 1, 0, 0, 2, 0, 1, 0, 1, 0, 0, 0};
 /* p = 5, one output, 1 * 1 = 0: no run satisfies it */
 static const uint8_t never[] = {67, 81, 84, 1, 0, 5, 0, 0, 0, 1, 0, 0, 0, 1, 0, 1, 0, 1, 0, 0, 1, 0, 0, 0, 1, 0, 0, 1, 0, 0, 0, 0};
+
+/* four records of the circuit with a free output: the first and the last make the pair above, three places apart; the second breaks the constraint */
+static const uint8_t recorded[] = {2, 0, 0, 0, 4, 0, 0, 0, 0, 0, 0, 0, 2, 0, 0, 0, 5, 0, 0, 0, 1, 0, 0, 0,
+                                   3, 0, 0, 0, 2, 0, 0, 0, 6, 0, 0, 0, 2, 0, 0, 0, 4, 0, 0, 0, 1, 0, 0, 0};
 
 static int bad;
 
@@ -168,6 +172,45 @@ static void runs(void)
     same("its run", run[0] * 100 + run[1] * 10 + run[2], 329);
 }
 
+static void watched(void)
+{
+    uint64_t answer[2] = {9, 9}, returned;
+    uint8_t output[sizeof twos + 2];
+    memset(output, 9, sizeof output);
+    same("none within 3", yolqushek_watch(free3, sizeof free3, recorded, sizeof recorded, 3, output, sizeof output, answer), 0);
+    same("none in no records", yolqushek_watch(free3, sizeof free3, recorded, 0, 0, output, sizeof output, answer), 0);
+    same("records of none", answer[0] * 10 + answer[1], 99);
+    for (size_t k = 0; k < sizeof output; k++)
+        same("output of none", output[k], 9);
+    returned = yolqushek_watch(free3, sizeof free3, recorded, sizeof recorded, 4, output, sizeof output, answer);
+    same("watch", yolqushek_number(returned), 0);
+    same("watched signal", yolqushek_signal(returned), 3);
+    same("watched records", answer[0] * 10 + answer[1], 14);
+    same("pair file", memcmp(output, twos, sizeof twos), 0);
+    same("beyond the pair file", output[sizeof twos] * 10 + output[sizeof twos + 1], 99);
+    same("the pair file judged", yolqushek_pair(free3, sizeof free3, none, 7, output, sizeof twos), 3);
+    same("default window", yolqushek_watch(free3, sizeof free3, recorded, sizeof recorded, 0, output, sizeof twos, answer), 3);
+}
+
+static void refused_records(void)
+{
+    uint64_t answer[2] = {9, 9};
+    uint8_t high[sizeof recorded], output[sizeof twos];
+    memset(output, 9, sizeof output);
+    memcpy(high, recorded, sizeof high);
+    high[20] = 7;
+    refused("cut records", yolqushek_watch(free3, sizeof free3, high, sizeof high - 1, 1, output, 0, answer), 32, 0);
+    refused("high value", yolqushek_watch(free3, sizeof free3, high, sizeof high, 1, output, 0, answer), 33, 2);
+    refused("high value before a pair", yolqushek_watch(free3, sizeof free3, high, sizeof high, 4, output, sizeof output, answer), 33, 2);
+    refused("window of 1", yolqushek_watch(free3, sizeof free3, recorded, sizeof recorded, 1, output, sizeof output, answer), 34, 0);
+    refused("window of 257", yolqushek_watch(free3, sizeof free3, recorded, sizeof recorded, 257, output, sizeof output, answer), 34, 0);
+    refused("short pair file", yolqushek_watch(free3, sizeof free3, recorded, sizeof recorded, 256, output, sizeof output - 1, answer), 34, 0);
+    refused("cut circuit", yolqushek_watch(free3, sizeof free3 - 1, high, 1, 1, output, 0, answer), 6, 32);
+    same("records of a refusal", answer[0] * 10 + answer[1], 99);
+    for (size_t k = 0; k < sizeof output; k++)
+        same("output of a refusal", output[k], 9);
+}
+
 static void refusals(void)
 {
     uint64_t answer[5] = {9, 9, 9, 9, 9};
@@ -193,6 +236,8 @@ int main(void)
     renewals();
     listed();
     runs();
+    watched();
+    refused_records();
     refusals();
     puts(bad ? "C calls differ" : "C calls agree");
     return bad;

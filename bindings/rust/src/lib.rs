@@ -5,7 +5,7 @@
 //! Marking, judging pairs, solving and renewing take a tag sheet right after the circuit: upper limits of signals, which are assumed of inputs and shown, or
 //! not, of others. Where there are none it is [`NO_TAGS`]; an empty slice is refused.
 //!
-//! [`runs`] lists the satisfying runs of a small circuit, by [`first_run`] and [`next_run`], which need no heap.
+//! [`runs`] lists the satisfying runs of a small circuit, by [`first_run`] and [`next_run`], which need no heap. [`watch`] finds a pair among recorded ones.
 
 use std::iter::FusedIterator;
 
@@ -54,9 +54,19 @@ extern "C" {
         answer: *mut u32,
         answer_length: usize,
     ) -> u64;
+    fn yolqushek_watch(
+        circuit: *const u8,
+        circuit_length: usize,
+        records: *const u8,
+        records_length: usize,
+        window: u32,
+        output: *mut u8,
+        output_length: usize,
+        answer: *mut [u64; 2],
+    ) -> u64;
 }
 
-/// Why a call was refused: its number, 1 to 31, and its place.
+/// Why a call was refused: its number, 1 to 34, and its place; that of 33, a record, is told modulo 2^32, which only a file of 16 GB or more can show.
 #[derive(Clone, Copy, Debug, PartialEq, Eq)]
 pub struct Refusal {
     pub number: u32,
@@ -88,6 +98,14 @@ impl Marked {
     fn of(count: u64, fixed: u64, shown: u64, unshown: u64) -> Marked {
         Marked { count: count as u32, fixed: fixed == 1, shown: shown as u32, unshown: unshown as u32 }
     }
+}
+
+/// Two recorded runs that make a pair, counted from 1, and the lowest output at which they differ.
+#[derive(Clone, Copy, Debug, PartialEq, Eq)]
+pub struct Watched {
+    pub q: u32,
+    pub earlier: u64,
+    pub later: u64,
 }
 
 /// Takes a returned value apart: a refusal's number in the high half and its place in the low half, or 0 and the low half.
@@ -209,3 +227,16 @@ impl Iterator for Runs<'_> {
 }
 
 impl FusedIterator for Runs<'_> {}
+
+/// Finds a pair among recorded runs, each of them n values of 4 bytes, little-endian: two that satisfy the circuit, share their inputs, differ at an output and
+/// are fewer than `window` places apart, 2 to 256, where 0 stands for 64. It is the one with the earliest later record, then the nearest earlier one. Refusals
+/// 1 to 10, 32 where the length isn't a multiple of 4·n, 33 where a value isn't below p, and 34 for another window or where `output` has fewer than 7 + 8·n
+/// bytes: those get the pair file, the earlier record as first run. Nothing is written where no two records make a pair. Needs 16 kB of stack.
+pub fn watch(circuit: &[u8], records: &[u8], window: u32, output: &mut [u8]) -> Result<Option<Watched>, Refusal> {
+    let mut answer = [0; 2];
+    let q = taken(unsafe {
+        yolqushek_watch(circuit.as_ptr(), circuit.len(), records.as_ptr(), records.len(), window, output.as_mut_ptr(), output.len(), &mut answer)
+    })?;
+    let [earlier, later] = answer;
+    Ok((q != 0).then_some(Watched { q, earlier, later }))
+}

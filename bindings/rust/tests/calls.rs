@@ -1,7 +1,7 @@
 //! The safe calls on document 01's cases a and f, with tags and without, and on a division.
 
 use yolqushek::{check_derivation, check_pair, read_circuit, renew, solve, Marked, Refusal, NO_TAGS};
-use yolqushek::{first_run, next_run, runs};
+use yolqushek::{first_run, next_run, runs, watch, Watched};
 
 /// Case a: p = 7, input 1, output 2, A = B = signal 1, C = signal 2.
 const A: &[u8] = &[67, 81, 84, 1, 0, 7, 0, 0, 0, 2, 0, 1, 0, 1, 0, 1, 0, 1, 1, 0, 1, 0, 0, 0, 1, 1, 0, 1, 0, 0, 0, 1, 2, 0, 1, 0, 0, 0];
@@ -116,7 +116,7 @@ fn tags() {
     let shown = [&TAGS[..5], &[2, 0], &TAGS[7..21]].concat();
     assert_eq!(check_derivation(A, &shown, &output[..14], &mut marks), Ok(Marked { shown: 1, ..marked(2, true) }));
     // A third signal that is free: input 1 as it is tagged, and above.
-    let free = [&A[..9], &[3, 0, 1, 0, 2, 0], &A[15..]].concat();
+    let free = free_output();
     let pair = |x: u8| [&[80, 81, 84, 1, 0, 3, 0, x, 0, 0, 0, x * x, 0, 0, 0, 0, 0, 0, 0, x, 0, 0, 0, x * x, 0, 0, 0, 1, 0, 0, 0][..]].concat();
     assert_eq!(check_pair(&free, TAGS, &pair(1)), Ok(3));
     assert_eq!(check_pair(&free, TAGS, &pair(2)), Err(Refusal { number: 28, place: 1 }));
@@ -251,4 +251,62 @@ fn refused_runs_write_nothing() {
     assert_eq!(next_run(&A[..37], &[7], &mut answer), Err(Refusal { number: 6, place: 32 }));
     assert_eq!(runs(&A[..37]).err(), Some(Refusal { number: 6, place: 32 }));
     assert_eq!(answer, [9; 3]);
+}
+
+/// Case a with a free output 3.
+fn free_output() -> Vec<u8> {
+    [&A[..9], &[3, 0, 1, 0, 2, 0], &A[15..]].concat()
+}
+
+/// The values of records in bytes.
+fn recorded(values: &[[u32; 3]]) -> Vec<u8> {
+    values.iter().flatten().flat_map(|value| value.to_le_bytes()).collect()
+}
+
+/// A run of `free_output`, another input's, one that breaks the constraint, and the first with another output 3.
+const RECORDS: [[u32; 3]; 4] = [[2, 4, 0], [3, 2, 6], [2, 5, 1], [2, 4, 1]];
+
+#[test]
+fn a_pair_is_found_among_records() {
+    let (circuit, records) = (free_output(), recorded(&RECORDS));
+    let wanted = [&[80, 81, 84, 1, 0, 3, 0][..], &records[..12], &records[36..]].concat();
+    for window in [4, 256, 0] {
+        let mut output = [9; 40];
+        assert_eq!(watch(&circuit, &records, window, &mut output), Ok(Some(Watched { q: 3, earlier: 1, later: 4 })));
+        assert_eq!((&output[..31], &output[31..]), (&wanted[..], &[9; 9][..]));
+    }
+    assert_eq!(check_pair(&circuit, NO_TAGS, &wanted), Ok(3));
+    // Of two earlier records the nearer one, however short the window, in a buffer that has just the room.
+    let nearer = recorded(&[RECORDS[0], RECORDS[0], [2, 4, 5], [2, 4, 6]]);
+    assert_eq!(watch(&circuit, &nearer, 2, &mut [9; 31]), Ok(Some(Watched { q: 3, earlier: 2, later: 3 })));
+}
+
+#[test]
+fn where_no_records_make_a_pair_nothing_is_written() {
+    let (circuit, records) = (free_output(), recorded(&RECORDS));
+    let mut output = [9; 31];
+    for (length, window) in [(48, 3), (48, 2), (36, 0), (0, 0)] {
+        assert_eq!(watch(&circuit, &records[..length], window, &mut output), Ok(None));
+    }
+    assert_eq!(output, [9; 31]);
+}
+
+#[test]
+fn refused_records_write_nothing() {
+    let (circuit, records) = (free_output(), recorded(&RECORDS));
+    let high = [&records[..], &recorded(&[[2, 7, 1], [2, 4, u32::MAX]])].concat();
+    let mut output = [9; 31];
+    for (bytes, window, room, number, place) in [
+        (&high[..71], 1, 0, 32, 0),
+        (&high, 1, 0, 33, 5),
+        (&high, 4, 31, 33, 5),
+        (&records, 1, 31, 34, 0),
+        (&records, 257, 31, 34, 0),
+        (&records, u32::MAX, 31, 34, 0),
+        (&records, 4, 30, 34, 0),
+    ] {
+        assert_eq!(watch(&circuit, bytes, window, &mut output[..room]), Err(Refusal { number, place }));
+    }
+    assert_eq!(watch(&circuit[..37], &high[..1], 1, &mut output[..0]), Err(Refusal { number: 6, place: 32 }));
+    assert_eq!(output, [9; 31]);
 }

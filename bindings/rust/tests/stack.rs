@@ -41,6 +41,11 @@ impl Input {
         let run = second::read_circuit(&circuit).map_or_else(|_| Vec::new(), |read| vec![0; read.signals.into()]);
         Input { name, circuit, sheet: sheet.to_vec(), derivation, pair, run }
     }
+
+    /// The pair's runs as recorded ones.
+    fn records(&self) -> &[u8] {
+        self.pair.get(7..).unwrap_or_default()
+    }
 }
 
 /// Two refused circuits that are short, a small one, one that is refused at its last byte, and the two that have most to work on, one also with 256 tags; one
@@ -70,7 +75,7 @@ fn inputs() -> [Input; 11] {
 type Call = fn(&Input, &mut [u8]) -> u32;
 
 /// What is tried: nothing at all, for what a thread itself takes, and the calls. The second implementation says what each answers.
-const CALLS: [(&str, Call, Call); 8] = [
+const CALLS: [(&str, Call, Call); 9] = [
     ("nothing", |_, _| 0, |_, _| 0),
     ("read", |i, _| yolqushek::read_circuit(&i.circuit).map_or_else(|r| r.number, |_| 0), |i, _| number(second::read_circuit(&i.circuit))),
     (
@@ -102,6 +107,11 @@ const CALLS: [(&str, Call, Call); 8] = [
         "next run",
         |i, _| yolqushek::next_run(&i.circuit, &i.run, &mut i.run.clone()).map_or_else(|r| r.number, |_| 0),
         |i, _| number(second::next_run(&i.circuit, &i.run, &mut i.run.clone())),
+    ),
+    (
+        "watch",
+        |i, lent| yolqushek::watch(&i.circuit, i.records(), 256, lent).map_or_else(|r| r.number, |_| 0),
+        |i, lent| number(second::watch(&i.circuit, i.records(), 256, lent)),
     ),
 ];
 

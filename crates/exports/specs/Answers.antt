@@ -1,15 +1,17 @@
 -- What the exported calls return and write, in numbers (rules 6.1 and 6.4). Lent memory is written on a result that has something to hand over,
 -- else not at all.
-use Rattle.std.specs.Prelude.{ℕ, ◌+◌, ◌*◌, ◌%◌, List, [], ◌∷◌, ◌++◌}
+use Rattle.std.specs.Prelude.{ℕ, ◌+◌, ◌*◌, ◌%◌, List, [], ◌∷◌, ◌++◌, Option, None, Some}
 use Rattle.std.proofs.Math.Option.{none, some}
 use Rattle.circuit.specs.Answer.{Answer, refused, given}
 use Rattle.circuit.specs.declared.reader.Sizes.{Sizes}
 use Rattle.derivation.specs.Call.{Verdict, Fixed, Open, Judgement}
+use Rattle.records.specs.declared.answer.Watched.{Watched}
 use Rattle.runs.specs.Call.{Found}
 use Rattle.solver.specs.Call.{Solved}
 
 -- The returned value of every call. High half: the refusal's number, 0 on a result. Low half: the refusal's place; on a result the signal q of
--- an accepted pair, the new length of a renewed derivation, 1 where a run was written, and else 0. Each is far below 2^32, so the low half holds it whole.
+-- an accepted pair or of one that is found, the new length of a renewed derivation, 1 where a run was written, and else 0. The low half holds each whole, but
+-- for the place of Refusal 33, which is kept modulo 2^32: all else is far below.
 abbrev pub returned : ℕ → ℕ → ℕ
 returned number low = number * 4294967296 + low % 4294967296
 
@@ -68,3 +70,19 @@ found_number none = 0
 
 abbrev pub run_returned : Answer Found → ℕ
 run_returned r = returned_by r found_number
+
+-- watching recorded runs: q of the pair that is found, 0 where no two records make one
+abbrev pub watched_signal : Option Watched → ℕ
+watched_signal (Some x) = x.q
+watched_signal None = 0
+
+abbrev pub watch_returned : Answer (Option Watched) → ℕ
+watch_returned r = returned_by r watched_signal
+
+-- its two records, the earlier and the later, only where a pair is found
+abbrev pub watched_numbers : List ℕ → Option Watched → List ℕ
+watched_numbers before (Some x) = x.earlier ∷ x.later ∷ []
+watched_numbers before None = before
+
+abbrev pub watch_answer : Answer (Option Watched) → List ℕ → List ℕ
+watch_answer r before = left_by r (watched_numbers before) before

@@ -1,4 +1,4 @@
-// The seven public calls for callers in other languages, which exports_c hands to C. The returned value holds a refusal's number and place, or q, or a length,
+// The eight public calls for callers in other languages, which exports_c hands to C. The returned value holds a refusal's number and place, or q, or a length,
 // or whether a run was written; lent memory is written only on a result that has something to hand over.
 // Stays: the parameters and numbers of the calls, 0 for none among them, are those of the C interface.
 
@@ -9,17 +9,20 @@ ghost use Rattle.circuit.specs.Call.{circuit_call};
 ghost use Rattle.derivation.specs.Answer.{judgement_in};
 ghost use Rattle.derivation.specs.Call.{derivation_call, derivation_marks};
 ghost use Rattle.pair.specs.Call.{pair_call};
+ghost use Rattle.records.specs.Call.{watch_call, watch_output};
 ghost use Rattle.renewal.specs.Call.{renewal_call, renewal_output};
 ghost use Rattle.runs.specs.Answer.{paper_of};
 ghost use Rattle.runs.specs.Call.{first_call, next_call, left_by};
 ghost use Rattle.solver.specs.Call.{solver_call, solver_output};
 ghost use Rattle.exports.specs.Answers.{read_returned, read_answer, pair_returned, judgement_numbers, mark_returned, mark_answer, solve_returned, solve_answer};
-ghost use Rattle.exports.specs.Answers.{renew_returned, run_returned, returned as returned_value};
+ghost use Rattle.exports.specs.Answers.{renew_returned, run_returned, watch_returned, watch_answer, returned as returned_value};
 
 use circuit::reader::{CircuitAnswer, Sizes, check_circuit};
 use derivation::answer::{DerivationAnswer, Judgement, Verdict};
 use derivation::call::check_derivation;
 use pair::{PairAnswer, check_pair};
+use records::answer::{WatchAnswer, Watched};
+use records::call::watch;
 use renewal::answer::RenewalAnswer;
 use renewal::call::renew;
 use runs::answer::RunAnswer;
@@ -166,4 +169,29 @@ pub fn yolqushek_next_run(circuit: &[u8], given: &[u32], answer: &mut [u32]) -> 
         ≡ left_by (next_call circuit.now given.now (length answer.old)) answer.old }
 {
     returned_run(next_run(circuit, given, answer))
+}
+
+// Watches recorded runs for a pair, and returns its signal q; 0 where there is none. `answer`: the numbers of the two records, the earlier and the later. The
+// pair file goes to `output`.
+pub fn yolqushek_watch(
+    circuit: &[u8],
+    records: &[u8],
+    window: u32,
+    output: &mut [u8],
+    answer: &mut [u64; 2],
+) -> u64
+    ensures returned { result
+        ≡ watch_returned (watch_call circuit.now records.now window (length output.old)) }
+    ensures answered { answer.new
+        ≡ watch_answer (watch_call circuit.now records.now window (length output.old)) answer.old }
+    ensures written { output.new ≡ watch_output circuit.now records.now window output.old }
+{
+    match watch(circuit, records, window, output) {
+        WatchAnswer::Refused { number, place } => returned(number, place),
+        WatchAnswer::Pair(Watched { q, earlier, later }) => {
+            *answer = [earlier as u64, later as u64];
+            returned(0, q as usize)
+        }
+        WatchAnswer::NoPair => returned(0, 0),
+    }
 }

@@ -8,11 +8,12 @@ ghost use Rattle.std.specs.Prelude.{◌≡◌, length};
 ghost use Rattle.circuit.specs.Call.{circuit_call};
 ghost use Rattle.derivation.specs.Call.{derivation_call, derivation_marks};
 ghost use Rattle.pair.specs.Call.{pair_call};
+ghost use Rattle.records.specs.Call.{watch_call, watch_output};
 ghost use Rattle.renewal.specs.Call.{renewal_call, renewal_output};
 ghost use Rattle.runs.specs.Call.{first_call, next_call, left_by};
 ghost use Rattle.solver.specs.Call.{solver_call, solver_output};
 ghost use Rattle.exports.specs.Answers.{read_returned, read_answer, pair_returned, mark_returned, mark_answer, solve_returned, solve_answer};
-ghost use Rattle.exports.specs.Answers.{renew_returned, run_returned};
+ghost use Rattle.exports.specs.Answers.{renew_returned, run_returned, watch_returned, watch_answer};
 
 // Reads a circuit. `answer`: p, n, i, o and m.
 #[unsafe(no_mangle)]
@@ -100,4 +101,23 @@ pub extern "C" fn yolqushek_next_run(circuit: &[u8], given: &[u32], answer: &mut
         ≡ left_by (next_call circuit.now given.now (length answer.old)) answer.old }
 {
     exports::yolqushek_next_run(circuit, given, answer)
+}
+
+// Watches recorded runs for a pair, and returns its signal q; 0 where there is none. `answer`: the numbers of the two records, the earlier and the later. The
+// pair file goes to `output`.
+#[unsafe(no_mangle)]
+pub extern "C" fn yolqushek_watch(
+    circuit: &[u8],
+    records: &[u8],
+    window: u32,
+    output: &mut [u8],
+    answer: &mut [u64; 2],
+) -> u64
+    ensures returned { result
+        ≡ watch_returned (watch_call circuit.now records.now window (length output.old)) }
+    ensures answered { answer.new
+        ≡ watch_answer (watch_call circuit.now records.now window (length output.old)) answer.old }
+    ensures written { output.new ≡ watch_output circuit.now records.now window output.old }
+{
+    exports::yolqushek_watch(circuit, records, window, output, answer)
 }
