@@ -1,5 +1,5 @@
-// The program's arguments: a command, then its operands. An option, `--NAME VALUE`, stands anywhere after the command: it is a line of `OPTIONS`, and
-// `checked` takes its value out by that word, for whichever command it is, before it tells whether the command takes it.
+// The program's arguments: a command, then its operands. An option, `--NAME VALUE`, stands anywhere after the command: it is a word of `OPTIONS`, by which a
+// command that takes it takes its value out. One that is left over is misuse.
 
 use crate::failure::Failure;
 use std::alloc::AllocError;
@@ -14,11 +14,16 @@ const WORD: usize = 4096;
 
 const TAGS: &str = "--tags";
 
+const WINDOW: &str = "--window";
+
 // The options, each followed by its value.
-const OPTIONS: [&str; 1] = [TAGS];
+const OPTIONS: [&str; 2] = [TAGS, WINDOW];
 
 // A file's name as it was given, which need not be UTF-8.
 pub type Name = Vec<u8>;
+
+// The values of the options given.
+type Options = BTreeMap<&'static str, Name>;
 
 // The names of a circuit and of the sheet that comes with it, where one is given.
 #[derive(Debug, Drop, PartialEq, Eq)]
@@ -47,6 +52,12 @@ pub enum Command {
     },
     Runs {
         circuit: Name,
+    },
+    Watch {
+        circuit: Name,
+        records: Name,
+        window: u32,
+        output: Name,
     },
 }
 
@@ -96,7 +107,7 @@ fn is_option(word: &[u8]) -> bool {
 struct Request {
     word: Name,
     operands: Vec<Name>,
-    options: BTreeMap<&'static str, Name>,
+    options: Options,
     awaited: Option<&'static str>,
 }
 
@@ -131,35 +142,71 @@ impl Request {
             mut options,
             awaited,
         } = self;
-        let tags = options.remove(&TAGS);
-        let command = match word.as_slice() {
-            b"solve" => {
-                let [circuit, output] = <[Name; 2]>::try_from(operands).ok()?;
-                let sources = Sources { circuit, tags };
-                Command::Solve { sources, output }
-            }
-            b"mark" => {
-                let [circuit, hand_in] = <[Name; 2]>::try_from(operands).ok()?;
-                let sources = Sources { circuit, tags };
-                Command::Mark { sources, hand_in }
-            }
-            b"renew" => {
-                let [circuit, derivation, output] = <[Name; 3]>::try_from(operands).ok()?;
-                let sources = Sources { circuit, tags };
-                Command::Renew {
-                    sources,
-                    derivation,
-                    output,
-                }
-            }
-            b"runs" if tags.is_none() => {
-                let [circuit] = <[Name; 1]>::try_from(operands).ok()?;
-                Command::Runs { circuit }
-            }
-            b"--help" if tags.is_none() && operands.is_empty() => Command::Help,
-            _ => return None,
-        };
+        let command = command_of(&word, operands, &mut options)?;
         let is_whole = awaited.is_none() && options.is_empty();
         is_whole.then_some(command)
     }
+}
+
+// The command of a word with its operands and the options that it takes, whose values are taken out.
+fn command_of(word: &[u8], operands: Vec<Name>, options: &mut Options) -> Option<Command> {
+    let command = match word {
+        b"solve" => {
+            let [circuit, output] = <[Name; 2]>::try_from(operands).ok()?;
+            let sources = Sources::of(circuit, options);
+            Command::Solve { sources, output }
+        }
+        b"mark" => {
+            let [circuit, hand_in] = <[Name; 2]>::try_from(operands).ok()?;
+            let sources = Sources::of(circuit, options);
+            Command::Mark { sources, hand_in }
+        }
+        b"renew" => {
+            let [circuit, derivation, output] = <[Name; 3]>::try_from(operands).ok()?;
+            let sources = Sources::of(circuit, options);
+            Command::Renew {
+                sources,
+                derivation,
+                output,
+            }
+        }
+        b"runs" => {
+            let [circuit] = <[Name; 1]>::try_from(operands).ok()?;
+            Command::Runs { circuit }
+        }
+        b"watch" => {
+            let [circuit, records, output] = <[Name; 3]>::try_from(operands).ok()?;
+            let window = window_in(options)?;
+            Command::Watch {
+                circuit,
+                records,
+                window,
+                output,
+            }
+        }
+        b"--help" if operands.is_empty() => Command::Help,
+        _ => return None,
+    };
+    Some(command)
+}
+
+impl Sources {
+    // A circuit's name, and that of the sheet among the options.
+    fn of(circuit: Name, options: &mut Options) -> Sources {
+        Sources {
+            circuit,
+            tags: options.remove(&TAGS),
+        }
+    }
+}
+
+// The window among the options, in decimal digits and below 2^32; without it 0.
+fn window_in(options: &mut Options) -> Option<u32> {
+    let Some(window) = options.remove(&WINDOW) else {
+        return Some(0);
+    };
+    if !window.iter().all(|digit| digit.is_ascii_digit()) {
+        return None;
+    }
+    str::from_utf8(&window).ok()?.parse::<u32>().ok()
 }

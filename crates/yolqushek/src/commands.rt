@@ -2,15 +2,17 @@
 
 use crate::arguments::{Command, Sources};
 use crate::failure::Failure;
-use crate::listing::{Judged, Listing, Pair, Refused, Summary};
+use crate::files::Input;
+use crate::listing::{Found, Judged, Listing, Pair, Refused, Summary};
 use crate::text::print;
-use crate::{USAGE, every_run, files};
+use crate::{USAGE, every_run, files, watching};
 use circuit::reader::{FILE_MOST, SIGNALS_MOST};
 use derivation::answer::{DerivationAnswer, Judgement};
 use derivation::call::check_derivation;
 use derivation::walk::STEPS_MOST;
 use derivation::writer::{HEAD_SIZE, STEP_SIZE};
 use pair::PairAnswer;
+use records::answer::WatchAnswer;
 use renewal::answer::RenewalAnswer;
 use solver::answer::{Solved, SolverAnswer};
 use std::io::{IsTerminal, Write};
@@ -50,6 +52,12 @@ pub(crate) fn run(rt: HostRuntime, command: &Command) -> Result<(), Failure<'_>>
             output,
         } => renew(rt, sources, derivation, output),
         Command::Runs { circuit } => list_runs(rt, circuit),
+        Command::Watch {
+            circuit,
+            records,
+            window,
+            output,
+        } => watch(rt, circuit, records, *window, output),
     }
 }
 
@@ -104,6 +112,27 @@ fn renew<'a>(
 fn list_runs(rt: HostRuntime, circuit: &[u8]) -> Result<(), Failure<'_>> {
     let circuit = files::read(rt, circuit, None, CIRCUIT)?;
     every_run::print_runs(rt, &circuit)
+}
+
+// watch CIRCUIT RECORDS OUT: the pair file of two recorded runs goes to OUT, which is not touched where no pair is found.
+fn watch<'a>(
+    rt: HostRuntime,
+    circuit: &'a [u8],
+    records: &'a [u8],
+    window: u32,
+    output: &'a [u8],
+) -> Result<(), Failure<'a>> {
+    let circuit = files::read(rt, circuit, Some(output), CIRCUIT)?;
+    let records = Input::open(rt, records, Some(output))?;
+    let watch = watching::watch_file(rt, &circuit, &records, window)?;
+    match watch.answer {
+        WatchAnswer::Refused { number, place } => print(rt, Refused { number, place }),
+        WatchAnswer::Pair(found) => {
+            files::write(rt, output, &watch.pair)?;
+            print(rt, Found(found))
+        }
+        WatchAnswer::NoPair => print(rt, "none\n"),
+    }
 }
 
 // A circuit, and the sheet that comes with it where one is given.

@@ -10,7 +10,9 @@ use std::{fs, io};
 
 // Standard input until it ends, or so many bytes of it.
 pub(crate) fn read_input(rt: HostRuntime, most: u64) -> Result<Vec<u8>, Failure<'static>> {
-    read_most(rt, rt.stdin(), most).map_err(|fault| fault.of(b"standard input"))
+    let mut bytes = Vec::new(rt.alloc());
+    read_most(rt.stdin(), most, &mut bytes).map_err(|fault| fault.of(b"standard input"))?;
+    Ok(bytes)
 }
 
 // The file with a name until it ends, or so many bytes of it. It must not be the one that is to be written.
@@ -20,20 +22,44 @@ pub(crate) fn read<'a>(
     output: Option<&'a [u8]>,
     most: u64,
 ) -> Result<Vec<u8>, Failure<'a>> {
-    let file = open(rt, name, OpenOptions::new().read(true)).map_err(|fault| fault.of(name))?;
-    if let Some(output) = output
-        && is_file_of(rt, &file, output)
-    {
-        return Err(Fault::IsRead.of(output));
-    }
-    read_most(rt, file, most).map_err(|fault| fault.of(name))
+    let mut bytes = Vec::new(rt.alloc());
+    Input::open(rt, name, output)?.read_on(most, &mut bytes)?;
+    Ok(bytes)
 }
 
-// What a reader gives until it ends, or so many bytes of it.
-fn read_most<R: Read + Drop>(rt: HostRuntime, reader: R, most: u64) -> Result<Vec<u8>, Fault> {
-    let mut bytes = Vec::new(rt.alloc());
-    reader.take(most).read_to_end(&mut bytes)?;
-    Ok(bytes)
+// A file that is read, with its name.
+#[derive(Debug, Drop)]
+pub struct Input<'a> {
+    name: &'a [u8],
+    file: File,
+}
+
+impl<'a> Input<'a> {
+    // The file with a name. It must not be the one that is to be written.
+    pub(crate) fn open(
+        rt: HostRuntime,
+        name: &'a [u8],
+        output: Option<&'a [u8]>,
+    ) -> Result<Input<'a>, Failure<'a>> {
+        let file = open(rt, name, OpenOptions::new().read(true)).map_err(|fault| fault.of(name))?;
+        if let Some(output) = output
+            && is_file_of(rt, &file, output)
+        {
+            return Err(Fault::IsRead.of(output));
+        }
+        Ok(Input { name, file })
+    }
+
+    // Puts what comes next, until the file ends, or so many bytes of it, after the bytes that are there.
+    pub(crate) fn read_on(&self, most: u64, bytes: &mut Vec<u8>) -> Result<(), Failure<'a>> {
+        read_most(&self.file, most, bytes).map_err(|fault| fault.of(self.name))
+    }
+}
+
+// Puts what a reader gives until it ends, or so many bytes of it, after the bytes that are there.
+fn read_most<R: Read + Drop>(reader: R, most: u64, bytes: &mut Vec<u8>) -> Result<(), Fault> {
+    reader.take(most).read_to_end(bytes)?;
+    Ok(())
 }
 
 // std opens no name that isn't UTF-8.

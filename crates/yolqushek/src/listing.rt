@@ -4,6 +4,7 @@ use circuit::reader::{CircuitAnswer, Sizes, check_circuit};
 use derivation::answer::Verdict;
 use derivation::step::Step;
 use derivation::walk::STEPS_MOST;
+use records::answer::Watched;
 use std::fmt;
 use std::fmt::{Display, Formatter};
 use tags::answer::Shown;
@@ -30,6 +31,17 @@ pub struct Pair {
 impl Display for Pair {
     fn fmt<W: fmt::Write>(&self, f: &mut Formatter<W>) -> fmt::Result {
         writeln!(f, "pair {}", self.q)
+    }
+}
+
+// A pair that is found in recorded runs: the output whose values differ, and the two records.
+#[derive(Clone, Copy, Debug, PartialEq, Eq)]
+pub struct Found(pub Watched);
+
+impl Display for Found {
+    fn fmt<W: fmt::Write>(&self, f: &mut Formatter<W>) -> fmt::Result {
+        let Watched { q, earlier, later } = self.0;
+        writeln!(f, "pair {q} {earlier} {later}")
     }
 }
 
