@@ -18,7 +18,7 @@ use crate::solver::{derive, longest};
 use crate::vectors::{Record, DERIVATION, PAIR, READ, RENEW, SOLVE, WITH_SHEET};
 use crate::{renew, worst};
 
-/// The usual length of all files together, but for the last random calls and those that list runs.
+/// The usual length of all files together, but for the last random calls and those that list or watch runs.
 pub const USUAL_SIZE: usize = 1_520_000;
 
 /// How many random circuits at the edge of a rule there always are.
@@ -42,7 +42,7 @@ const SAMPLED: usize = 90;
 /// From this length of all files together on all worst circuits are among the records.
 pub const WITH_WORST: usize = 1_800_000;
 
-/// The records of files of about this length together, with all fixed calls; those that list runs come on top.
+/// The records of files of about this length together, with all fixed calls; those that list or watch runs come on top.
 pub fn compose(seed: u64, size: usize) -> Vec<Record> {
     let mut maker = Maker::new(seed);
     maker.fixed_calls();
@@ -54,14 +54,18 @@ pub fn compose(seed: u64, size: usize) -> Vec<Record> {
     maker.random_calls(size);
     maker.run_calls();
     maker.random_runs();
+    maker.watch_calls();
+    maker.random_watches();
     maker.records
 }
 
-/// The records of files of about this length without the fixed calls.
+/// The records of files of about this length without the fixed calls, and some that watch long files.
 pub fn compose_random(seed: u64, size: usize) -> Vec<Record> {
     let mut maker = Maker::new(seed);
     maker.random_calls(size);
     maker.random_runs();
+    maker.random_watches();
+    maker.long_watches();
     maker.records
 }
 
@@ -336,7 +340,7 @@ impl Maker {
     }
 
     /// A buffer length: the one needed, longer or shorter.
-    fn lent(&mut self, needed: usize) -> usize {
+    pub fn lent(&mut self, needed: usize) -> usize {
         match self.rng.below(20) {
             0 => needed - 1,
             1 => self.rng.below(needed),

@@ -6,8 +6,9 @@ use crate::cases::{case_a, case_b, case_c, case_e, case_f, case_g};
 use crate::compose::Maker;
 use crate::limits::empty_constraints;
 use crate::reader::{read_circuit, Circuit};
+use crate::records::pair_length;
 use crate::runs::is_small;
-use crate::vectors::{bytes_of, FIRST_RUN, LISTING, NEXT_RUN};
+use crate::vectors::{bytes_of, FIRST_RUN, LISTING, NEXT_RUN, WATCH};
 use crate::worst::bit;
 use crate::worst_runs::{at_last, sparse};
 use crate::writer::{Draft, Terms};
@@ -75,10 +76,18 @@ fn candidates(circuit: &Circuit) -> Vec<Vec<u32>> {
     satisfying_runs(&Circuit { constraints: Vec::new(), ..circuit.clone() })
 }
 
+/// A form of 33 terms, each of which stands there, and a byte after the last constraint: 7 and 10. There are 32 signals.
+pub fn crowded_form_and_more() -> Vec<u8> {
+    let all: Terms = (0..=32).map(|signal| (signal, 1)).collect();
+    let mut circuit = Draft::new(3, 32, 1, 1).with(&[], &all, &[]).bytes();
+    circuit.push(0);
+    circuit
+}
+
 impl Maker {
-    /// All fixed calls that list runs.
+    /// All fixed calls that list runs, and those that watch on circuits that are too long.
     pub fn run_calls(&mut self) {
-        self.too_long(&LISTING);
+        self.too_long(&[FIRST_RUN, NEXT_RUN, WATCH]);
         self.too_long_at_the_end();
         self.crowded_form_and_more();
         self.every_two_faults(&LISTING);
@@ -101,19 +110,18 @@ impl Maker {
         }
     }
 
-    /// A file that is too long by bytes after its last constraint: 1 and 10. The other calls have it of the largest circuit.
+    /// A file that is too long by bytes after its last constraint: 1 and 10. The calls that neither list nor watch have it of the largest circuit.
     fn too_long_at_the_end(&mut self) {
         let mut circuit = Draft::new(3, 2, 1, 1).with(&[(0, 1)], &[(1, 1)], &[(2, 1)]).bytes();
         circuit.resize(60_001, 0);
         self.first_run(&circuit, 2);
         self.next_run(&circuit, &[0; 2], 2);
+        self.watch(&circuit, &[0; 8], 0, pair_length(2));
     }
 
-    /// A form of 33 terms, each of which stands there, and a byte after the last constraint: 7 and 10, for every call. With 32 signals 30 is met too.
+    /// A form with too many terms and a byte too many, for every call but watching. With 32 signals 30 is met too.
     fn crowded_form_and_more(&mut self) {
-        let all: Terms = (0..=32).map(|signal| (signal, 1)).collect();
-        let mut circuit = Draft::new(3, 32, 1, 1).with(&[], &all, &[]).bytes();
-        circuit.push(0);
+        let circuit = crowded_form_and_more();
         self.every_kind(&circuit, 32);
         self.first_run(&circuit, 32);
         self.next_run(&circuit, &[0; 32], 32);

@@ -5,13 +5,14 @@ use std::collections::BTreeSet;
 
 use crate::marker::write_steps;
 use crate::pair::write_pair;
+use crate::records::pair_length;
 use crate::rules::{Step, DIGITS, NONZERO, PRODUCT, QUOTIENT, ROOT, SUM, ZERO};
 use crate::sheet::{write_sheet, Tag, BINARY, MAXBIT, MAXVALUE};
 use crate::solver::longest;
-use crate::vectors::{bytes_of, DERIVATION, FIRST_RUN, KINDS, LISTING, NEXT_RUN, PAIR, READ, RENEW, SOLVE, WITH_SHEET};
+use crate::vectors::{bytes_of, DERIVATION, FIRST_RUN, KINDS, LISTING, NEXT_RUN, PAIR, READ, RENEW, SOLVE, WATCH, WITH_SHEET};
 use crate::writer::Draft;
 
-/// A call: its kind, its circuit, the sheet, what is handed in, and the length of the buffer.
+/// A call: its kind, its circuit, the sheet or the window, what is handed in, and the length of the buffer.
 #[derive(Clone, Debug, PartialEq, Eq)]
 pub struct Call {
     pub kind: u8,
@@ -71,7 +72,15 @@ fn good_steps() -> Vec<u8> {
 /// Runs that differ at output 6 alone. One of inputs 1 and 2 may differ, 3 and 4 may have any values; 7, 5, 9, and 8 and 9 together each break one
 /// constraint.
 fn good_pair() -> Vec<u8> {
-    write_pair(6, &[0, 0, 2, 3, 0, 1, 0, 3, 9], &[0, 0, 2, 3, 0, 2, 0, 3, 9])
+    write_pair(6, &FIRST, &SECOND)
+}
+
+const FIRST: [u32; SIGNALS] = [0, 0, 2, 3, 0, 1, 0, 3, 9];
+const SECOND: [u32; SIGNALS] = [0, 0, 2, 3, 0, 2, 0, 3, 9];
+
+/// Both runs of the good pair, and between them one that breaks a constraint.
+fn good_records() -> Vec<u8> {
+    bytes_of(&[FIRST, [0, 0, 2, 3, 0, 5, 1, 3, 9], SECOND].concat())
 }
 
 /// The call of this kind without a fault.
@@ -83,11 +92,17 @@ pub fn good(kind: u8) -> Call {
         SOLVE => (Vec::new(), longest(SIGNALS)),
         FIRST_RUN => (Vec::new(), SIGNALS),
         NEXT_RUN => (bytes_of(&[0, 1, 2, 0, 1, 2, 0, 1, 2]), SIGNALS),
+        WATCH => (good_records(), pair_length(SIGNALS)),
         _ => (Vec::new(), 0),
     };
     // Runs are listed of a small circuit.
     let p = if LISTING.contains(&kind) { 3 } else { 13 };
-    Call { kind, circuit: good_circuit(p), sheet: if WITH_SHEET.contains(&kind) { good_sheet() } else { Vec::new() }, hand_in, lent }
+    let sheet = match kind {
+        WATCH => 3u32.to_le_bytes().to_vec(),
+        _ if WITH_SHEET.contains(&kind) => good_sheet(),
+        _ => Vec::new(),
+    };
+    Call { kind, circuit: good_circuit(p), sheet, hand_in, lent }
 }
 
 /// Bytes in place of those at an offset, as far as there are any.
@@ -121,6 +136,16 @@ fn other_step(call: &mut Call, number: usize, kind: u8, target: u8, constraint: 
 /// The value of a signal in a given run.
 fn given(call: &mut Call, signal: usize, value: u32) {
     put(&mut call.hand_in, 4 * (signal - 1), &value.to_le_bytes());
+}
+
+/// The value of a signal in a record, from 1.
+fn recorded(call: &mut Call, record: usize, signal: usize, value: u32) {
+    given(call, SIGNALS * (record - 1) + signal, value);
+}
+
+/// Another window.
+fn window(call: &mut Call, window: u32) {
+    call.sheet = window.to_le_bytes().to_vec();
 }
 
 /// The value of a signal in run 0 or 1 of the pair.
@@ -298,6 +323,28 @@ pub const GIVEN: [Fault; 8] = [
     fault(31, 9, |call| given(call, 9, u32::MAX)),
 ];
 
+/// Faults of a file of recorded runs: its length, by bytes and by values, and values that no p allows.
+pub const RECORDS: [Fault; 9] = [
+    fault(32, 0, |call| call.hand_in.push(0)),
+    fault(32, 0, |call| call.hand_in.extend([0; 4])),
+    fault(32, 0, |call| call.hand_in.truncate(4 * SIGNALS * 3 - 4)),
+    fault(32, 0, |call| call.hand_in.truncate(4 * SIGNALS + 3)),
+    fault(33, 1, |call| recorded(call, 1, 1, u32::MAX)),
+    fault(33, 1, |call| recorded(call, 1, 9, 0x8000_0000)),
+    fault(33, 2, |call| recorded(call, 2, 5, u32::MAX)),
+    fault(33, 3, |call| recorded(call, 3, 1, 0x8000_0000)),
+    fault(33, 3, |call| recorded(call, 3, 9, u32::MAX)),
+];
+
+/// Faults of the watching call beyond those of circuit and records: the window and the buffer.
+pub const WATCHES: [Fault; 5] = [
+    fault(34, 0, |call| window(call, 1)),
+    fault(34, 0, |call| window(call, 257)),
+    fault(34, 0, |call| window(call, u32::MAX)),
+    fault(34, 0, |call| call.lent = pair_length(SIGNALS) - 1),
+    fault(34, 0, |call| call.lent = 0),
+];
+
 /// The faults of the sheet that this kind of call may meet.
 pub fn of_sheet(kind: u8) -> &'static [Fault] {
     match WITH_SHEET.contains(&kind) {
@@ -320,6 +367,7 @@ pub fn own(kind: u8) -> Vec<&'static Fault> {
         SOLVE => (&[], &SOLVER),
         FIRST_RUN => (&[], &RUNS),
         NEXT_RUN => (&GIVEN, &RUNS),
+        WATCH => (&RECORDS, &WATCHES),
         _ => (&[], &[]),
     };
     handed_in.iter().chain(rest).collect()

@@ -1,10 +1,11 @@
-//! The file of test vectors: calls with the answers that they must get. Little-endian; `VQT`, 16-bit version 4, 32-bit count, then the records.
+//! The file of test vectors: calls with the answers that they must get. Little-endian; `VQT`, 16-bit version 5, 32-bit count, then the records.
 //! A record: kind, circuit, sheet, hand-in, length of the lent buffer, then 16-bit number, place, five values and what is written. The kind is a byte, all else
 //! 32-bit numbers and strings of bytes that begin with their length. A run of values, handed in or written, is stored at 4 bytes a value; the length of a
-//! buffer for one counts values.
+//! buffer for one counts values. A watching call has the 4 bytes of its window in the sheet's place, and its file of recorded runs as the hand-in.
 
 use crate::reader::{number16, number32, numbers32, Refusal};
-use crate::{check_derivation, check_pair, first_run, next_run, read_circuit, renew, solve, Judgement};
+use crate::records::{pair_length, Watched};
+use crate::{check_derivation, check_pair, first_run, next_run, read_circuit, renew, solve, watch, Judgement};
 
 pub const READ: u8 = 1;
 pub const DERIVATION: u8 = 2;
@@ -13,9 +14,10 @@ pub const SOLVE: u8 = 4;
 pub const RENEW: u8 = 5;
 pub const FIRST_RUN: u8 = 6;
 pub const NEXT_RUN: u8 = 7;
+pub const WATCH: u8 = 8;
 
 /// All kinds of calls.
-pub const KINDS: [u8; 7] = [READ, DERIVATION, PAIR, SOLVE, RENEW, FIRST_RUN, NEXT_RUN];
+pub const KINDS: [u8; 8] = [READ, DERIVATION, PAIR, SOLVE, RENEW, FIRST_RUN, NEXT_RUN, WATCH];
 
 /// The kinds of calls that list runs.
 pub const LISTING: [u8; 2] = [FIRST_RUN, NEXT_RUN];
@@ -24,7 +26,7 @@ pub const LISTING: [u8; 2] = [FIRST_RUN, NEXT_RUN];
 pub const WITH_SHEET: [u8; 4] = [DERIVATION, PAIR, SOLVE, RENEW];
 
 /// The version of the file.
-const VERSION: u16 = 4;
+const VERSION: u16 = 5;
 
 /// Stands for the length of a circuit or a hand-in that is the one of the record before.
 const SAME: u32 = u32::MAX;
@@ -38,7 +40,7 @@ pub struct Answer {
     pub written: Vec<u8>,
 }
 
-/// One call: its kind, its arguments and its answer. Where no sheet is taken, it has no bytes.
+/// One call: its kind, its arguments and its answer. The sheet of a watching call is its window; where nothing comes along, it has no bytes.
 #[derive(Clone, Debug, PartialEq, Eq)]
 pub struct Record {
     pub kind: u8,
@@ -107,6 +109,10 @@ fn call(kind: u8, circuit: &[u8], sheet: &[u8], hand_in: &[u8], buffer: &mut [u8
             let written = run(kind, circuit, hand_in, buffer)?;
             ([u32::from(written), 0, 0, 0, 0], if written { 4 * n as usize } else { 0 })
         }
+        WATCH => match watch(circuit, hand_in, number32(sheet, 0), buffer)? {
+            Some(Watched { q, earlier, later }) => ([q.into(), earlier as u32, later as u32, 0, 0], pair_length(n as usize)),
+            None => ([0; 5], 0),
+        },
         _ => {
             let (judgement, length) = solve(circuit, sheet, buffer)?;
             (judged(judgement, length), length)
@@ -264,12 +270,12 @@ impl Iterator for Records<'_> {
 /// How many records of each kind there are, and how often each refusal occurs, at how many places.
 pub fn summary(records: &[Record]) -> String {
     let mut text = format!("{} records\n", records.len());
-    for (kind, name) in KINDS.into_iter().zip(["read circuit", "derivation", "pair", "solve", "renew", "first run", "next run"]) {
+    for (kind, name) in KINDS.into_iter().zip(["read circuit", "derivation", "pair", "solve", "renew", "first run", "next run", "watch"]) {
         let all = records.iter().filter(|record| record.kind == kind);
         let accepted = all.clone().filter(|record| record.answer.number == 0).count();
         text += &format!("kind {kind} ({name}): {} records, {accepted} not refused\n", all.count());
     }
-    for number in 1..=31 {
+    for number in 1..=34 {
         let places: Vec<u32> = records.iter().filter(|record| record.answer.number == number).map(|record| record.answer.place).collect();
         let different: std::collections::BTreeSet<&u32> = places.iter().collect();
         text += &format!("refusal {number}: {} records, {} places\n", places.len(), different.len());

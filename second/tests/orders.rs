@@ -10,7 +10,7 @@ use second::marker::write_steps;
 use second::read_circuit;
 use second::reader::number16;
 use second::two_faults::{self, Call, Fault, Pair};
-use second::vectors::{answer, Record, DERIVATION, FIRST_RUN, KINDS, LISTING, NEXT_RUN, PAIR, RENEW, SOLVE, WITH_SHEET};
+use second::vectors::{answer, Record, DERIVATION, FIRST_RUN, KINDS, LISTING, NEXT_RUN, PAIR, RENEW, SOLVE, WATCH, WITH_SHEET};
 
 /// The vectors as they are stored.
 fn stored() -> Vec<Record> {
@@ -25,6 +25,7 @@ fn numbers(kind: u8) -> Vec<u16> {
         SOLVE => &[26, 27, 25],
         RENEW => &[26, 27, 11, 12, 13, 15, 16, 17, 25],
         FIRST_RUN | NEXT_RUN => &[30, 31],
+        WATCH => &[32, 33, 34],
         _ => &[],
     };
     (1..=10).chain(own.iter().copied()).collect()
@@ -70,7 +71,7 @@ fn cannot_stand_together(x: u16, y: u16) -> bool {
 }
 
 /// Numbers with a place of which a call can have several.
-const SEVERAL: [u16; 13] = [7, 8, 9, 15, 16, 17, 21, 22, 23, 27, 28, 29, 31];
+const SEVERAL: [u16; 14] = [7, 8, 9, 15, 16, 17, 21, 22, 23, 27, 28, 29, 31, 33];
 
 #[test]
 fn every_two_refusals_are_there() {
@@ -134,7 +135,7 @@ fn a_circuit_that_is_too_long_has_every_other_fault() {
         assert!(told(kind, &[10]));
     }
     let beyond = [(DERIVATION, 11..=16), (PAIR, 18..=21), (SOLVE, 25..=25), (RENEW, 11..=13), (RENEW, 15..=16), (RENEW, 25..=25)];
-    for (kind, numbers) in beyond.into_iter().chain([(FIRST_RUN, 30..=31), (NEXT_RUN, 30..=31)]) {
+    for (kind, numbers) in beyond.into_iter().chain([(FIRST_RUN, 30..=31), (NEXT_RUN, 30..=31), (WATCH, 32..=34)]) {
         numbers.for_each(|number| assert!(told(kind, &[number]), "{number}"));
     }
     for kind in WITH_SHEET {
@@ -224,6 +225,14 @@ fn wrong_orders_of_refusals_are_told() {
             of(&|_, found| if found.0 == 31 && found.1 > 0 { (stage(30) - 1, found.1, 31) } else { right(found) }),
         ),
         ("the highest signal of 31", of(&|_, found| if found.0 == 31 { (stage(31), found.1.wrapping_neg(), 31) } else { right(found) })),
+        ("32 before 10", of(&|_, found| before(found, 32, 10))),
+        ("33 before 10", of(&|_, found| before(found, 33, 10))),
+        ("34 before 10", of(&|_, found| before(found, 34, 10))),
+        ("34 with the header", of(&|_, found| if found.0 == 34 { (stage(5) + 1, 0, 34) } else { right(found) })),
+        ("33 before 32", of(&|_, found| before(found, 33, 32))),
+        ("34 before 32", of(&|_, found| before(found, 34, 32))),
+        ("34 before 33", of(&|_, found| before(found, 34, 33))),
+        ("the last record of 33", of(&|_, found| if found.0 == 33 { (stage(33), found.1.wrapping_neg(), 33) } else { right(found) })),
         ("8 before 6 at a term", of(&|_, found| if found.0 == 8 { (stage(6), found.1, 5) } else { right(found) })),
     ];
     for (name, count) in wrong {

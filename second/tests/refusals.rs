@@ -1,4 +1,4 @@
-//! Every refusal from 1 to 31: its number, its place, what comes before what; and that a refusal writes nothing.
+//! Every refusal from 1 to 34: its number, its place, what comes before what; and that a refusal writes nothing.
 
 use second::cases::{case_a, case_c};
 use second::damage::Layout;
@@ -8,7 +8,7 @@ use second::pair::write_pair;
 use second::rules::{Step, DIGITS, QUOTIENT, STEPS, ZERO};
 use second::sheet::{write_sheet, Tag, BINARY, MAXBIT, MAXVALUE, NO_TAGS};
 use second::solver::longest;
-use second::vectors::{answer, bytes_of, DERIVATION, FIRST_RUN, NEXT_RUN, PAIR, READ, RENEW, SOLVE};
+use second::vectors::{answer, bytes_of, DERIVATION, FIRST_RUN, NEXT_RUN, PAIR, READ, RENEW, SOLVE, WATCH};
 use second::writer::Draft;
 
 /// Number and place of the answer with a sheet; `answer` checks that a refusal leaves the buffer as it was.
@@ -25,7 +25,9 @@ fn refused(kind: u8, circuit: &[u8], hand_in: &[u8], lent: usize) -> (u16, u32) 
 /// The refusal of a circuit, which must be the same in all calls, whatever is handed in.
 fn refused_circuit(circuit: &[u8]) -> (u16, u32) {
     let refusal = refused(READ, circuit, &[], 0);
-    for (kind, lent) in [(DERIVATION, 0), (PAIR, 0), (SOLVE, 0), (SOLVE, longest(256)), (RENEW, 0), (RENEW, 40), (FIRST_RUN, 4), (NEXT_RUN, 4)] {
+    for (kind, lent) in
+        [(DERIVATION, 0), (PAIR, 0), (SOLVE, 0), (SOLVE, longest(256)), (RENEW, 0), (RENEW, 40), (FIRST_RUN, 4), (NEXT_RUN, 4), (WATCH, 39)]
+    {
         assert_eq!(refused(kind, circuit, b"bad", lent), refusal);
         assert_eq!(refused_with(kind, circuit, b"bad", b"bad", lent), refusal);
         assert_eq!(refused_with(kind, circuit, &write_sheet(&[Tag::new(0, 0, 0)]), b"bad", lent), refusal);
@@ -474,5 +476,35 @@ fn lengths_and_values_of_runs() {
             }
         }
         assert_eq!(refused_after(&circuit, &[12; 4], 4), (0, 0));
+    }
+}
+
+#[test]
+fn recorded_runs() {
+    // Two records that make a pair, three values each.
+    let (circuit, good) = (Draft::new(13, 3, 1, 1).bytes(), [1, 5, 0, 1, 12, 0]);
+    let refused = |records: &[u8], window: u32, lent: usize| refused_with(WATCH, &circuit, &window.to_le_bytes(), records, lent);
+    for length in 0..24 {
+        let expected = if length % 12 == 0 { (0, 0) } else { (32, 0) };
+        assert_eq!(refused(&bytes_of(&good)[..length], 0, 31), expected, "{length}");
+    }
+    for at in 0..6 {
+        for value in [13, 14, 256, 0x8000_0000, u32::MAX] {
+            let mut values = good;
+            values[at] = value;
+            assert_eq!(refused(&bytes_of(&values), 0, 31), (33, at as u32 / 3 + 1));
+            values[5] = u32::MAX;
+            assert_eq!(refused(&bytes_of(&values), 1, 0), (33, at as u32 / 3 + 1), "the first record, before 34");
+            assert_eq!(refused(&bytes_of(&values)[..23], 1, 0), (32, 0), "32 before 33");
+        }
+    }
+    for records in [&good[..], &good[..3], &[]] {
+        for window in [1, 257, 65_536, u32::MAX] {
+            assert_eq!(refused(&bytes_of(records), window, 31), (34, 0));
+        }
+        for window in [0, 2, 64, 256] {
+            (0..31).for_each(|lent| assert_eq!(refused(&bytes_of(records), window, lent), (34, 0)));
+            (31..40).for_each(|lent| assert_eq!(refused(&bytes_of(records), window, lent), (0, 0)));
+        }
     }
 }

@@ -62,11 +62,12 @@ impl Record<'_> {
                     exports::yolqushek_next_run(circuit, &given, answer)
                 })?
             }
+            Kind::Watch => watch(circuit, hand_in, window(sheet), lent, &mut numbers),
         };
         Ok(Told { returned, numbers })
     }
 
-    // What the call must return and hand over: a refusal's number and place, and nothing; or the values. A call that hands over none returns its only one.
+    // What the call must return and hand over: a refusal's number and place, and nothing; or the values.
     fn told(&self) -> Told {
         match self.answer {
             Err(Refusal { number, place }) => Told {
@@ -74,19 +75,50 @@ impl Record<'_> {
                 numbers: [UNTOUCHED; 5],
             },
             Ok(values) => {
-                let count = self.kind.handed_over();
-                let number = |j: usize| if j < count {
-                    u64::from(values[j])
-                } else {
-                    UNTOUCHED
-                };
+                let (returned, handed_over) = parted(self.kind, &values);
+                let number = |j: usize| handed_over
+                    .get(j)
+                    .map_or(UNTOUCHED, |value| u64::from(*value));
                 Told {
-                    returned: if count == 0 { u64::from(values[0]) } else { 0 },
+                    returned: u64::from(returned),
                     numbers: array::from_fn(number),
                 }
             }
         }
     }
+}
+
+// What a call returns on a result, and the values that it hands over: watching where it returns an output.
+fn parted(kind: Kind, values: &[u32; 5]) -> (u32, &[u32]) {
+    match kind {
+        Kind::Read | Kind::Solve => (0, values),
+        Kind::Derivation => (0, &values[..4]),
+        Kind::Watch if values[0] != 0 => (values[0], &values[1..3]),
+        Kind::Pair | Kind::Renew | Kind::FirstRun | Kind::NextRun | Kind::Watch => (values[0], &[]),
+    }
+}
+
+// What the watching call returns; it lends two of the numbers.
+// Stays: as in `call`, an array of its own. The parameters are the call's.
+fn watch(
+    circuit: &[u8],
+    records: &[u8],
+    window: u32,
+    lent: &mut [u8],
+    numbers: &mut [u64; 5],
+) -> u64 {
+    let mut two = [UNTOUCHED; 2];
+    let returned = exports::yolqushek_watch(circuit, records, window, lent, &mut two);
+    numbers[..2].copy_from_slice(&two);
+    returned
+}
+
+// The window that a watching call has in the sheet's place.
+fn window(sheet: &[u8]) -> u32 {
+    let (windows, _) = sheet.as_chunks::<4>();
+    windows
+        .first()
+        .map_or(0, |window| u32::from_le_bytes(*window))
 }
 
 // The values that bytes hold, four bytes each.

@@ -11,7 +11,7 @@ const SAME: u32 = 0xffff_ffff;
 // The length of the file's mark and version, before the number of its records.
 const MARK: usize = 5;
 
-// The kinds of calls, 1 to 7 in the file.
+// The kinds of calls, 1 to 8 in the file.
 #[derive(Clone, Copy, Debug, PartialEq, Eq, PartialOrd, Ord)]
 pub enum Kind {
     Read,
@@ -21,12 +21,13 @@ pub enum Kind {
     Renew,
     FirstRun,
     NextRun,
+    Watch,
 }
 
 impl Kind {
     // All of them, in the order of their numbers.
     // Stays: a list by hand, since Rattle derives none of an enum's cases.
-    pub const ALL: [Kind; 7] = [
+    pub const ALL: [Kind; 8] = [
         Kind::Read,
         Kind::Derivation,
         Kind::Pair,
@@ -34,16 +35,8 @@ impl Kind {
         Kind::Renew,
         Kind::FirstRun,
         Kind::NextRun,
+        Kind::Watch,
     ];
-
-    // How many numbers a call hands over on a result. One that hands over none returns one.
-    pub(crate) fn handed_over(self) -> usize {
-        match self {
-            Kind::Derivation => 4,
-            Kind::Read | Kind::Solve => 5,
-            Kind::Pair | Kind::Renew | Kind::FirstRun | Kind::NextRun => 0,
-        }
-    }
 
     // How many bytes of the file stand for one place of the lent buffer: those that list runs are lent values.
     pub(crate) fn width(self) -> usize {
@@ -68,6 +61,7 @@ impl TryFrom<u8> for Kind {
             5 => Ok(Kind::Renew),
             6 => Ok(Kind::FirstRun),
             7 => Ok(Kind::NextRun),
+            8 => Ok(Kind::Watch),
             _ => Err(Unreadable::Kind),
         }
     }
@@ -85,6 +79,7 @@ impl Display for Kind {
             Kind::Renew => "renew",
             Kind::FirstRun => "first run",
             Kind::NextRun => "next run",
+            Kind::Watch => "watch",
         })
     }
 }
@@ -103,8 +98,8 @@ pub struct Refusal {
     pub place: u32,
 }
 
-// `lent` is how many places the lent buffer has, `answer` the values that the call must hand over, or its refusal, and `written` what it must write at the
-// buffer's start.
+// `sheet` is a tag sheet, or the window of a watching call, `lent` how many places the lent buffer has, `answer` the values that the call must return or hand
+// over, or its refusal, and `written` what it must write at the buffer's start.
 #[derive(Clone, Copy, Debug, PartialEq, Eq)]
 pub struct Record<'a> {
     pub kind: Kind,

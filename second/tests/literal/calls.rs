@@ -5,7 +5,7 @@ use second::marker::{read_steps, write_steps, MOST_STEPS};
 use second::reader::{number16, number32, numbers32, Circuit};
 use second::rules::{Rules, Step, DIGITS, NONZERO, PRODUCT, QUOTIENT, ROOT, STEPS, SUM, ZERO};
 use second::sheet::{Tag, MOST_TAGS};
-use second::vectors::{Answer, Record, DERIVATION, FIRST_RUN, NEXT_RUN, PAIR, READ, RENEW, SOLVE, WITH_SHEET};
+use second::vectors::{Answer, Record, DERIVATION, FIRST_RUN, NEXT_RUN, PAIR, READ, RENEW, SOLVE, WATCH, WITH_SHEET};
 use second::{field, read_circuit};
 
 use crate::literal::{Literal, Standing, Tagging};
@@ -76,6 +76,7 @@ fn faults(record: &Record) -> Vec<Found> {
         }
         FIRST_RUN => found.extend(in_runs(circuit, None, *lent)),
         NEXT_RUN => found.extend(in_runs(circuit, Some(&numbers32(hand_in)), *lent)),
+        WATCH => found.extend(in_records(circuit, hand_in, number32(sheet, 0), *lent)),
         _ => found.extend((circuit.len() >= 17 && *lent < 7 + 21 * u32::from(n)).then_some((25, 0))),
     }
     found
@@ -245,6 +246,20 @@ fn in_runs(circuit: &[u8], given: Option<&[u32]>, lent: u32) -> Vec<Found> {
     found.extend((u64::from(p).saturating_pow(n) > 65_536).then_some((30, 0)));
     found.extend((lent != n || given.is_some_and(|given| given.len() != n as usize)).then_some((31, 0)));
     found.extend((1..).zip(given.unwrap_or_default()).filter(|&(_, &value)| value >= p).map(|(signal, _)| (31, signal)));
+    found
+}
+
+/// 32, 33 of all values that the file has, and 34.
+fn in_records(circuit: &[u8], records: &[u8], window: u32, lent: u32) -> Vec<Found> {
+    let mut found = Vec::new();
+    if circuit.len() < 11 {
+        return found;
+    }
+    let (p, n) = (number32(circuit, 5), u32::from(number16(circuit, 9)));
+    found.extend((!records.len().is_multiple_of(4 * n as usize)).then_some((32, 0)));
+    let high = (0..).zip(numbers32(records)).filter(|&(_, value)| value >= p);
+    found.extend(high.map(|(at, _): (u32, u32)| (33, at / n.max(1) + 1)));
+    found.extend((window == 1 || window > 256 || lent < 7 + 8 * n).then_some((34, 0)));
     found
 }
 
