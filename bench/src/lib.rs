@@ -1,8 +1,8 @@
 //! The proved library's answers in the form of the second implementation's vectors.
 
-use second::reader::numbers32;
+use second::reader::{number32, numbers32};
 use second::vectors::{self, bytes_of, Answer, Record};
-use yolqushek::{Marked, Refusal};
+use yolqushek::{Marked, Refusal, Watched};
 
 /// What the proved library answers, in the vectors' form. Panics where a byte beyond the written ones has changed.
 pub fn proved(record: &Record) -> Answer {
@@ -20,6 +20,7 @@ pub fn proved(record: &Record) -> Answer {
         vectors::FIRST_RUN | vectors::NEXT_RUN => {
             run(record, &mut buffer).map(|written| ([written.into(), 0, 0, 0, 0], if written { buffer.len() } else { 0 }))
         }
+        vectors::WATCH => yolqushek::watch(circuit, &record.hand_in, number32(sheet, 0), &mut buffer).map(|found| watched(found, circuit)),
         _ => yolqushek::solve(circuit, sheet, &mut buffer).map(|(marked, length)| (judged(marked, length), length)),
     };
     let written = result.map_or(0, |(_, written)| written);
@@ -40,6 +41,13 @@ fn run(record: &Record, buffer: &mut [u8]) -> Result<bool, Refusal> {
     };
     buffer.copy_from_slice(&bytes_of(&answer));
     result
+}
+
+/// A pair's output and records, and the length of its file.
+fn watched(found: Option<Watched>, circuit: &[u8]) -> ([u32; 5], usize) {
+    let Some(Watched { q, earlier, later }) = found else { return ([0; 5], 0) };
+    let signals = yolqushek::read_circuit(circuit).expect("the circuit was read").signals;
+    ([q, earlier as u32, later as u32, 0, 0], 7 + 8 * signals as usize)
 }
 
 /// What is marked and shown, and a derivation's length.

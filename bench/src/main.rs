@@ -1,8 +1,10 @@
 //! Times the proved library and the second implementation on the same inputs in one run and prints a table of ratios, then renewing against marking the same
 //! derivations, then how the proved library's cost grows. Release builds; each buffer is filled once, before the timing; each figure is the shortest of several
-//! rounds, a round being as many calls as take some milliseconds. With the argument `runs` only the rows of listings are printed.
+//! rounds, a round being as many calls as take some milliseconds. With the argument `runs` only the rows of listings are printed, with `watch` only those of
+//! watching.
 
 mod every_run;
+mod records;
 
 use std::hint::black_box;
 use std::time::Instant;
@@ -249,8 +251,13 @@ fn print(rows: &[Row]) {
 fn main() {
     let largest = worst::largest(1);
     warm_up(&largest.circuit);
-    if std::env::args().nth(1).is_some_and(|argument| argument == "runs") {
-        return print(&every_run::rows());
+    match std::env::args().nth(1).as_deref() {
+        Some("runs") => return print(&every_run::rows()),
+        Some("watch") => {
+            print(&records::rows(&largest));
+            return records::cost_a_record();
+        }
+        _ => (),
     }
     let bare = second::writer::Draft::new(2_147_483_647, 1, 0, 1).bytes();
     let mut rows = vec![
@@ -274,7 +281,9 @@ fn main() {
     idle(&mut rows);
     tagged(&largest, &mut rows);
     rows.extend(every_run::rows());
+    rows.extend(records::rows(&largest));
     print(&rows);
     renewing_against_marking();
     all_growth();
+    records::cost_a_record();
 }

@@ -6,13 +6,16 @@ use std::collections::BTreeMap;
 use bench::proved;
 use second::compose::{compose, compose_random, WITH_WORST};
 use second::falling::{self, Falling};
+use second::planted::Planted;
+use second::recorded::narrow;
+use second::records::pair_length;
 use second::sheet::NO_TAGS;
-use second::vectors::{bytes_of, Record, DERIVATION, FIRST_RUN, NEXT_RUN, RENEW, SOLVE};
+use second::vectors::{bytes_of, Record, DERIVATION, FIRST_RUN, NEXT_RUN, RENEW, SOLVE, WATCH};
 use second::wide_digits::{all_padded, broken_sums, judged, MOST_SUMS};
-use second::worst_runs;
+use second::{worst, worst_runs};
 
 /// Solving where the digits test is widest; digits steps whose adding ends early or not; marking and renewing 4,096 steps, most of them idle or none;
-/// listing runs where every candidate is looked at.
+/// listing runs where every candidate is looked at; watching.
 fn longest() -> Vec<Record> {
     let mut records: Vec<Record> = [1, 35, MOST_SUMS].map(|sums| Record::answered(SOLVE, &broken_sums(sums), NO_TAGS, &[], 7 + 21 * 256)).into();
     let padded = all_padded().map(|padded| (padded.circuit, padded.derivation));
@@ -27,7 +30,20 @@ fn longest() -> Vec<Record> {
         records.push(Record::answered(FIRST_RUN, &circuit, &[], &[], n));
         records.push(Record::answered(NEXT_RUN, &circuit, &[], &bytes_of(&vec![0; n]), n));
     }
+    records.extend(watched());
     records
+}
+
+/// Watching runs of the largest circuit, and records whose numbers have more than 16 bits: a pair, and a value that is too large behind it.
+fn watched() -> [Record; 4] {
+    let Planted { circuit: largest, first, second, .. } = worst::largest(1);
+    let largest_runs = [[&first, &first, &second], [&first, &first, &first]].map(|runs| runs.map(|run| &run[..]).concat());
+    let mut many = [1, 2].repeat(70_000);
+    many.extend([1, 0, 1, 1]);
+    let many_and_high = [&many[..], &[13, 0]].concat();
+    let watch = |circuit: &[u8], n: usize, runs: &[u32]| Record::answered(WATCH, circuit, &[0; 4], &bytes_of(runs), pair_length(n));
+    let [pair, none] = largest_runs.map(|runs| watch(&largest, 256, &runs));
+    [pair, none, watch(&narrow(), 2, &many), watch(&narrow(), 2, &many_and_high)]
 }
 
 fn main() {
