@@ -5,7 +5,7 @@ use mathlib.Core.Bool.{Bool, true, false}
 use mathlib.Core.List.{List}
 use native.Mathlib.Decide.{ℕ_discrete}
 use native.Mathlib.Omega.{arith}
-use borrow.Author.Tests.{ne_eqb, leb-true, leb-false, ltb-true, ltb-false}
+use borrow.Author.Tests.{ne_eqb, leb-true, leb-false, ltb-true, ltb-false, eqb-false}
 use lib.Dec.{leb, ltb, eqb}
 use lib.ListN.{length, drop, get_or, set, length-set}
 use lib.Seq.{get_or-set_same, get_or-set_other}
@@ -21,10 +21,13 @@ use Rattle.circuit.specs.declared.reader.Sizes.{Sizes}
 use Rattle.circuit.proofs.ByteLaws.{u16_drop}
 use Rattle.circuit.proofs.OffsetLaws.{sized_part}
 use Rattle.std.specs.Prelude.{All, ◌≢◌}
+use Rattle.std.specs.Cmp.{nat_eq_equiv}
+use Rattle.std.specs.List.{IsDistinct}
 use Rattle.std.specs.List.Sorted.{IsPermutation, IsNonDecreasingBy, IsPartitionPoint}
 use Rattle.std.proofs.lemmas.List.Sorted.{All-permutation, IsPermutation-sym, length_permutation}
+use Rattle.std.proofs.lemmas.Map.Keys.{apart_from_distinct, IsDistinct-from_apart, IsDistinct-IsPermutation}
 use Rattle.runs.specs.declared.levels.Leveled.{Leveled}
-use Rattle.runs.specs.Inner.{last_signal, level_in, level_at, IsLeveled, Ordered, held_at}
+use Rattle.runs.specs.Inner.{last_signal, level_in, level_at, IsLeveled, rank, Ordered, held_at}
 
 -- ---- what a form's value depends on
 
@@ -144,14 +147,21 @@ fill_more {level} {m} {i} {order} F low {x} e =
     each j d l (yes q) = rw (q, get_or-set_same order i new d (omega (arith, F.sized))) (e, refl)
     each j d l (no q) = rw (get_or-set_other order i j new d q) (F.each j d (omega arith))
 
--- sorted by level they are in order
-pub order_sorted : {level : ℕ → ℕ} {m i : ℕ} {order : List Leveled} → Filled level m i order → m ≤ i → (sorted : List Leveled)
-    → IsPermutation order sorted → IsNonDecreasingBy (λ x. x.level) sorted → Ordered level m sorted
-order_sorted {level} {m} {i} {order} F all sorted moved rising =
+-- whether two entries are of one constraint
+abbrev alike : Leveled → Leveled → Bool
+alike x y = eqb x.constraint y.constraint
+
+-- sorted by their rank they are in order
+pub order_sorted : {level : ℕ → ℕ} {m i : ℕ} {order : List Leveled} → Filled level m i order → m ≤ i → m ≤ 512 → (sorted : List Leveled)
+    → IsPermutation order sorted → IsNonDecreasingBy rank sorted → Ordered level m sorted
+order_sorted {level} {m} {i} {order} F all few sorted moved ranked =
     record {
       sized = length_permutation order sorted moved ∙ F.sized;
-      each = All-permutation (IsLeveled level m) order sorted moved each;
-      rising = rising;
+      each = leveled;
+      rising = λ i j d l h. omega (arith, ranked i j d l h);
+      falling = λ i j d l h same.
+          let apart = eqb-false _ _ (apart_from_distinct alike sorted i j d distinct l h) in
+          omega (arith, ranked i j d (omega arith) h, (leveled j d h).1, apart);
       whole = whole;
     }
   where
@@ -159,6 +169,16 @@ order_sorted {level} {m} {i} {order} F all sorted moved rising =
     each j d l =
         let E = F.each j d (omega (arith, F.sized)) in
         (omega (arith, E.1, F.sized), omega (arith, E.1), E.0 ∙ ap level (sym E.1))
+
+    leveled : All (IsLeveled level m) sorted
+    leveled = All-permutation (IsLeveled level m) order sorted moved each
+
+    -- no constraint stands twice
+    distinct : IsDistinct alike sorted
+    distinct =
+        IsDistinct-IsPermutation alike (λ x y. nat_eq_equiv.symm x.constraint y.constraint) order sorted moved
+        (IsDistinct-from_apart alike order (λ i j d l h.
+        ne_eqb _ _ (λ q. omega (arith, q, F.sized, (F.each i d (omega (arith, F.sized))).1, (F.each j d (omega (arith, F.sized))).1))))
 
     whole : (k : ℕ) → 1 ≤ k → k ≤ m → All (λ x. x.constraint ≢ k) sorted → ⊥
     whole k l h missing =

@@ -1,6 +1,7 @@
 -- How the functions inside the calls run: what they promise one another, not what the calls mean.
 -- Values are functions of the signal, as forms are evaluated on.
-use Rattle.std.specs.Prelude.{ℕ, ◌+◌, ◌-◌, ◌≤◌, ◌<◌, min, max, ◌≡◌, ◌≢◌, Bool, true, false, cond, Option, None, Some, List, All, eqb, length, get_or}
+use Rattle.std.specs.Prelude.{ℕ, ◌+◌, ◌*◌, ◌-◌, ◌≤◌, ◌<◌, min, max, ◌≡◌, ◌≢◌, Bool, true, false, cond, Option, None, Some, List, All, eqb, length, get_or}
+use Rattle.std.specs.List.{AllPairs}
 use Rattle.std.specs.List.Sorted.{IsNonDecreasingBy, IsPartitionPoint}
 use Rattle.circuit.specs.Bytes.{byte_at, u16_at}
 use Rattle.circuit.specs.Circuit.{Circuit, constraint_at, value_of}
@@ -31,11 +32,17 @@ level_at s table n k = level_in n (part_of s table k)
 abbrev pub IsLeveled : (ℕ → ℕ) → ℕ → Leveled → Type 0
 IsLeveled level m x = (1 ≤ x.constraint) × (x.constraint ≤ m) × (x.level ≡ level x.constraint)
 
--- the m constraints by rising level, none of them missing
+-- the number that the constraints are sorted by: it rises with the level and, on one level, from the last constraint to the first
+abbrev pub rank : Leveled → ℕ
+rank x = 65536 * x.level + (65535 - x.constraint)
+
+-- The m constraints by rising level, those of one level from the last to the first, none of them missing. A search looks at them in this order, and how
+-- soon it meets one that is broken is what it costs; so there is just one such list.
 pub record Ordered (level : ℕ → ℕ) (m : ℕ) (order : List Leveled) : Type 0 where
   pub sized : length order ≡ m
   pub each : All (IsLeveled level m) order
   pub rising : IsNonDecreasingBy (λ x. x.level) order
+  pub falling : AllPairs (λ x y. x.level ≡ y.level → y.constraint < x.constraint) order
   pub whole : (k : ℕ) → 1 ≤ k → k ≤ m → All (λ x. x.constraint ≢ k) order → ⊥
 
 -- where those of a level or a higher one begin

@@ -1,7 +1,7 @@
 -- `runs::levels::by_level`: all constraints are filled in, and then sorted.
 use Rattle.std.proofs.Common.{◌-◌, arith, rules}
 use Rattle.std.proofs.lemmas.List.Sorted.{IsNonDecreasingBy-from_sort_by_key}
-use Rattle.runs.specs.declared.levels.Leveled.{Leveled}
+use Rattle.runs.specs.Inner.{rank}
 use Rattle.runs.proofs.LevelLaws as laws
 use Rattle.runs.proofs.levels.by_level.Goals as goal
 
@@ -31,5 +31,5 @@ overflow_cast-leveled-in-loop-i c = omega (arith, laws.constraints_few _ _ c.arg
 pub returns : goal.returns
 returns c =
     let sort = c.sort_unstable_by_key.ensures in
-    laws.order_sorted c.loop-i.invariant (rw c.requires.1 at c.loop-i-test.false) _ sort.permutation
-    (IsNonDecreasingBy-from_sort_by_key (λ (x : Leveled). x.level) _ sort.sorted (λ a r q h. search rules))
+    laws.order_sorted c.loop-i.invariant (rw c.requires.1 at c.loop-i-test.false) (laws.constraints_few _ _ c.args.constraints.now.file.read) _
+    sort.permutation (IsNonDecreasingBy-from_sort_by_key rank _ sort.sorted (λ a r q h. search rules))
