@@ -99,11 +99,10 @@ fn put_row(rows: &mut [Entry], start: usize, part: &[u8], n: u32, p: u32) -> usi
     reduced_form(&mut reduced, part, p);
     let mut end = start;
     for signal in 0..=n {
-        let named = reduced[signal as usize];
-        if has_entry(signal, named.forms) {
+        if has_entry(signal, reduced[signal as usize].forms) {
             let entry = Entry {
                 signal: signal as u16,
-                ..named
+                ..reduced[signal as usize]
             };
             end = put(rows, end, entry);
         }

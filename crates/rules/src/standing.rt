@@ -145,92 +145,41 @@ impl Standing {
         set_flag(&mut self.nonzeros, t, met)
     }
 
-    // Rules 4.3 to 4.9, in place, by the constraint at the start of the part and its row, at which only some rules look. No target in range is above 256.
-    // Stays: six parameters here and in `step`: just what a rule looks at, and each method takes its part of them (docs/DECISIONS.md, Forms).
-    fn change(
-        &mut self,
-        kind: Kind,
-        part: &[u8],
-        row: &[Entry],
-        p: u32,
-        t: u32,
-        r: u32,
-    ) -> Option<bool>
-        ensures { (n : ℕ) → Asked (kind_of kind) p n part.now row.now t r
-            → Told result (view p self.new) (view p self.old) t (rule (kind_of kind) (subject_in p n part.now) (view p self.old) t r) }
-    {
-        match kind {
-            Kind::Root => {
-                let bound = root_step(part, p, t);
-                self.lower(t, bound)
-            }
-            Kind::Sum => {
-                let total = sum_step(part, row, &self.bounds, p, t);
-                self.lower(t, total)
-            }
-            Kind::Zero => {
-                let met = bound_at(&self.bounds, t as usize, p) == 0;
-                self.mark(t, met)
-            }
-            Kind::Product => {
-                let met = product_met(part, &self.marks, t);
-                self.mark(t, met)
-            }
-            Kind::Digits => {
-                let met = digits_met(part, row, &self.bounds, &self.marks, p, t, r);
-                self.mark(t, met)
-            }
-            Kind::Nonzero => {
-                let met = nonzero_met(part, t);
-                self.exclude_zero(t, met)
-            }
-            Kind::Quotient => {
-                let met = quotient_met(part, &self.marks, &self.nonzeros, t, r);
-                self.mark(t, met)
-            }
-        }
-    }
+    // Rules 4.3 to 4.9: a method for each kind, by its row in the table of rules. No target in range is above 256. They are inlined, as `step` is, so that a
+    // step copies the standing fewer times.
+    // Stays: up to six parameters here and in `step`: just what a rule looks at (docs/DECISIONS.md, Forms).
 
-    // A step of any kind. Fast where the caller's loop calls it itself: a function that is called for each step and holds the Outcome clears its 1.5 kB first.
-    // Inlined, so that the standing is copied twice a step and not four times.
     #[inline(always)]
-    pub fn step(self, kind: Kind, part: &[u8], row: &[Entry], p: u32, t: u32, r: u32) -> Outcome
-        ensures { (n : ℕ) → Asked (kind_of kind) p n part.now row.now t r
-            → Gives p result (view p self) t (rule (kind_of kind) (subject_in p n part.now) (view p self) t r) }
-    {
-        let mut outcome = Outcome {
-            next: self,
-            idle: None,
-        };
-        outcome.idle = outcome.next.change(kind, part, row, p, t, r);
-        outcome
-    }
-
-    // A method for each kind, by its row in the table of rules.
-    // Stays: parameters, as in `change`.
-
-    pub fn root(self, part: &[u8], p: u32, t: u32) -> Outcome
+    pub fn root(mut self, part: &[u8], p: u32, t: u32) -> Outcome
         ensures { (n r : ℕ) (row : List Entry) → Asked laws.Root p n part.now row t r
             → Gives p result (view p self) t (rule laws.Root (subject_in p n part.now) (view p self) t r) }
     {
-        self.step(Kind::Root, part, &[], p, t, 0)
+        let bound = root_step(part, p, t);
+        let idle = self.lower(t, bound);
+        Outcome { next: self, idle }
     }
 
-    pub fn sum(self, part: &[u8], row: &[Entry], p: u32, t: u32) -> Outcome
+    #[inline(always)]
+    pub fn sum(mut self, part: &[u8], row: &[Entry], p: u32, t: u32) -> Outcome
         ensures { (n r : ℕ) → Asked laws.Sum p n part.now row.now t r
             → Gives p result (view p self) t (rule laws.Sum (subject_in p n part.now) (view p self) t r) }
     {
-        self.step(Kind::Sum, part, row, p, t, 0)
+        let total = sum_step(part, row, &self.bounds, p, t);
+        let idle = self.lower(t, total);
+        Outcome { next: self, idle }
     }
 
-    pub fn zero(self, p: u32, t: u32) -> Outcome
+    #[inline(always)]
+    pub fn zero(mut self, p: u32, t: u32) -> Outcome
         ensures { (n r : ℕ) (part : List ℕ) (row : List Entry) → Asked laws.Zero p n part row t r
             → Gives p result (view p self) t (rule laws.Zero (subject_in p n part) (view p self) t r) }
     {
-        self.step(Kind::Zero, &[], &[], p, t, 0)
+        let met = bound_at(&self.bounds, t as usize, p) == 0;
+        let idle = self.mark(t, met);
+        Outcome { next: self, idle }
     }
 
-    // Stays: not by `step`, since it takes no p, and what it promises holds for each.
+    #[inline(always)]
     pub fn product(mut self, part: &[u8], t: u32) -> Outcome
         ensures { (p n r : ℕ) (row : List Entry) → Asked laws.Product p n part.now row t r
             → Gives p result (view p self) t (rule laws.Product (subject_in p n part.now) (view p self) t r) }
@@ -240,14 +189,17 @@ impl Standing {
         Outcome { next: self, idle }
     }
 
-    pub fn digits(self, part: &[u8], row: &[Entry], p: u32, t: u32, r: u32) -> Outcome
+    #[inline(always)]
+    pub fn digits(mut self, part: &[u8], row: &[Entry], p: u32, t: u32, r: u32) -> Outcome
         ensures { (n : ℕ) → Asked laws.Digits p n part.now row.now t r
             → Gives p result (view p self) t (rule laws.Digits (subject_in p n part.now) (view p self) t r) }
     {
-        self.step(Kind::Digits, part, row, p, t, r)
+        let met = digits_met(part, row, &self.bounds, &self.marks, p, t, r);
+        let idle = self.mark(t, met);
+        Outcome { next: self, idle }
     }
 
-    // Stays: as `product`, and so does `quotient`.
+    #[inline(always)]
     pub fn nonzero(mut self, part: &[u8], t: u32) -> Outcome
         ensures { (p n r : ℕ) (row : List Entry) → Asked laws.Nonzero p n part.now row t r
             → Gives p result (view p self) t (rule laws.Nonzero (subject_in p n part.now) (view p self) t r) }
@@ -257,6 +209,7 @@ impl Standing {
         Outcome { next: self, idle }
     }
 
+    #[inline(always)]
     pub fn quotient(mut self, part: &[u8], t: u32, r: u32) -> Outcome
         ensures { (p n : ℕ) (row : List Entry) → Asked laws.Quotient p n part.now row t r
             → Gives p result (view p self) t (rule laws.Quotient (subject_in p n part.now) (view p self) t r) }
@@ -264,6 +217,24 @@ impl Standing {
         let met = quotient_met(part, &self.marks, &self.nonzeros, t, r);
         let idle = self.mark(t, met);
         Outcome { next: self, idle }
+    }
+
+    // A step of any kind, by the method of its rule, by the constraint at the start of the part and its row, at which only some rules look. Fast where the
+    // caller's loop calls it itself: a function that is called for each step and holds the Outcome clears its 1.5 kB first.
+    #[inline(always)]
+    pub fn step(self, kind: Kind, part: &[u8], row: &[Entry], p: u32, t: u32, r: u32) -> Outcome
+        ensures { (n : ℕ) → Asked (kind_of kind) p n part.now row.now t r
+            → Gives p result (view p self) t (rule (kind_of kind) (subject_in p n part.now) (view p self) t r) }
+    {
+        match kind {
+            Kind::Root => self.root(part, p, t),
+            Kind::Sum => self.sum(part, row, p, t),
+            Kind::Zero => self.zero(p, t),
+            Kind::Product => self.product(part, t),
+            Kind::Digits => self.digits(part, row, p, t, r),
+            Kind::Nonzero => self.nonzero(part, t),
+            Kind::Quotient => self.quotient(part, t, r),
+        }
     }
 }
 
