@@ -135,9 +135,11 @@ fn walk_sized<const N: usize>(
 }
 
 // All steps, from the standing that is lent on, which is then the one that they lead to, or stays if one is refused. A small file gets a small array for its
-// rows, since clearing a large one takes longer than a few steps. The derivation is lent as bytes, since `walk_all` serves any.
+// rows, since clearing a large one takes longer than a few steps. The derivation is lent as bytes, since `walk_all` serves any. Not inlined, so that what is
+// refused before the steps doesn't take the rows' room on the stack, 84 kB.
 // Stays: notes, which the marker lends none of, and `IdleSteps` for one walk of marker and renewal; a closure in place of both would carry its promise
 // through three functions, and so is no plainer.
+#[inline(never)]
 pub fn walk_file(
     file: &CircuitFile,
     derivation: &[u8],

@@ -32,7 +32,7 @@ use Rattle.solver.specs.Kept as was
 use Rattle.solver.specs.Kept.{LookedUp}
 use Rattle.solver.specs.Links.{Prepared, Forgotten}
 use Rattle.solver.specs.Bounds.{no_key, key_in, least_of, place_of, reference_of, Narrow, AllNarrow, with_zeroth}
-use Rattle.solver.specs.Marks.{MarksBy, FirstKey, ZeroStep, Loose, Known, MarkKeys, Looked, Swept, exact}
+use Rattle.solver.specs.Marks.{MarksBy, FirstKey, ZeroStep, Loose, Known, MarkKeys, Looked, Swept, Passed, exact}
 use Rattle.solver.specs.Marks.{reference_in, found_key, found_reference, known_key, mark_keys, mark_references}
 use Rattle.solver.specs.declared.keys.Key.{Key}
 use Rattle.solver.specs.declared.keys.Choice.{Choice}
@@ -65,17 +65,21 @@ module _ {C : Circuit} {b : ℕ → ℕ} {q nz : ℕ → Bool} where
             (M.each k l h))
             (G.each k l h)
 
-    -- something was known already, or is found and stored
-    pub looked_by : {Q : Option Candidate → Type 0} (k : ℕ) → 1 ≤ k → k ≤ C.m → k < length kept → (found : Option Candidate)
-        → {after : List (Option (Option Candidate))} → LookedUp Q k found kept after
-        → (Q found → Known C.p C.n (constraint_at C k) b q nz (found_key found) (found_reference found)) → Looked C b q nz k found kept after
-    looked_by k l h room found (was.kept e) new =
+    -- something was known already
+    pub looked_kept : (k : ℕ) → 1 ≤ k → k ≤ C.m → (found : Option Candidate) → get_or kept k None ≡ Some found → Looked C b q nz k found kept kept
+    looked_kept k l h found e =
         record {
           known = ⊎_elim (λ z. cc) (λ N. rw e at N) (M.each k l h);
           here = e;
           others = λ j d. refl;
           sized = refl;
         }
+
+    -- or is found and stored
+    pub looked_by : {Q : Option Candidate → Type 0} (k : ℕ) → 1 ≤ k → k ≤ C.m → k < length kept → (found : Option Candidate)
+        → {after : List (Option (Option Candidate))} → LookedUp Q k found kept after
+        → (Q found → Known C.p C.n (constraint_at C k) b q nz (found_key found) (found_reference found)) → Looked C b q nz k found kept after
+    looked_by k l h room found (was.kept e) new = looked_kept k l h found e
     looked_by k l h room found (was.sought e s) new =
         record {
           known = new s;
@@ -224,6 +228,15 @@ module _ {C : Circuit} {b : ℕ → ℕ} {q nz : ℕ → Bool} {x k : ℕ} {lowe
 
     pub sweeping_none : found ≡ None → Sweeping C b q nz x i lowest after
     sweeping_none e = sweeping_on (rw e (all_small lowest W.narrow))
+
+  -- what is kept of it gives none that is lower
+  pub sweeping_passed : i ≤ C.m → Passed lowest (get_or kept i None) → Sweeping C b q nz x i lowest kept
+  sweeping_passed last p = go (get_or kept i None) refl p
+    where
+      go : (what : Option (Option Candidate)) → get_or kept i None ≡ what → Passed lowest what → Sweeping C b q nz x i lowest kept
+      go None e p = absurd p
+      go (Some None) e p = sweeping_none (λ M. looked_kept M i (omega arith) last None e) refl
+      go (Some (Some y)) e p = sweeping_on (λ M. looked_kept M i (omega arith) last (Some y) e) p
 
   module _ {candidate : Candidate} {after : List (Option (Option Candidate))} (looks : MarkKeys C b q nz kept → Looked C b q nz i (Some candidate) kept after) where
     -- it has an exact step, which is lower

@@ -1,5 +1,5 @@
 -- What the marks phase keeps of each constraint: its first step that marks an unmarked signal, as a key. How the solver runs, not what it means.
-use Rattle.std.specs.Prelude.{ℕ, ◌≤◌, ◌≡◌, Bool, true, false, not, ◌&&◌, List, ◌⊎◌, length, get_or, Option, None, Some}
+use Rattle.std.specs.Prelude.{ℕ, ◌≤◌, ◌≡◌, Bool, true, false, not, ◌&&◌, List, ◌⊎◌, ⊤, length, get_or, Option, None, Some}
 use Rattle.circuit.specs.Circuit.{Circuit, Constraint, constraint_at}
 use Rattle.laws.specs.Rules.{linear, reduced, zero_met, product_met, digits_met, quotient_met}
 use Rattle.laws.specs.Step.{Kind, Zero, Product, Digits, Quotient, kind_number}
@@ -87,6 +87,12 @@ found_key (Some x) = mark_key (kind_of x.kind) x.target
 abbrev pub found_reference : Option Candidate → Option ℕ
 found_reference None = None
 found_reference (Some x) = x.reference
+
+-- what is kept of a constraint is known, and gives no step below the lowest so far
+abbrev pub Passed : Option Choice → Option (Option Candidate) → Type 0
+Passed lowest None = ⊥
+Passed lowest (Some None) = ⊤
+Passed lowest (Some (Some x)) = least_of lowest ≤ found_key (Some x)
 
 -- the key, 0 where nothing is known
 abbrev pub known_key : Option (Option Candidate) → ℕ

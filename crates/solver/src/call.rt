@@ -51,8 +51,9 @@ fn take_phases(table: &Table, first: Standing, output: &mut [u8]) -> Phase
 }
 
 // The call past its refusals, with room for `N` entries of rows, which are enough. The answer is certain, so steps are written as they are found, the
-// header last.
+// header last. Not inlined, so that what is refused doesn't take that room on the stack.
 // Stays: rows and links side by side, since the marker's rows have no links; offsets are the circuit's, ends the rows'.
+#[inline(never)]
 fn solve_within<const N: usize>(tagged: &Tagged, output: &mut [u8]) -> Solved
     requires enough { places (length tagged.now.file.bytes.now) tagged.now.file.sizes.m ≤ N }
     requires few { N < 65536 }

@@ -1,7 +1,7 @@
 // The search of the marks phase: the lowest unmarked target that some step marks, by the lowest kind, constraint and reference. What is kept of a
 // constraint may be loose: a digits step whose reference isn't sought yet, which is a lower bound, cheap and often enough.
 
-ghost use Rattle.std.specs.Prelude.{◌≡◌, ◌↔◌, IsTrue, None, ℕ, ◌≤◌, ◌<◌, length};
+ghost use Rattle.std.specs.Prelude.{◌≡◌, ◌↔◌, IsTrue, None, ℕ, ◌≤◌, ◌<◌, length, get_or};
 ghost use Rattle.circuit.specs.Circuit.{WellFormedConstraint};
 ghost use Rattle.circuit.specs.Reader.{constraint_in};
 ghost use Rattle.laws.specs.Problem.{given};
@@ -11,7 +11,7 @@ ghost use Rattle.rules.specs.View.{bound_in, mark_in};
 ghost use Rattle.rules.specs.Rows.{Row};
 ghost use Rattle.rules.specs.Promise.{kind_of, view};
 ghost use Rattle.solver.specs.Bounds.{key_in};
-ghost use Rattle.solver.specs.Marks.{zero_at, First, mark_key, found_key, found_reference, ZeroStep, Known, IsKnown, MarkKeys, Looked};
+ghost use Rattle.solver.specs.Marks.{zero_at, First, mark_key, found_key, found_reference, ZeroStep, Known, IsKnown, MarkKeys, Looked, Passed};
 ghost use Rattle.solver.specs.Choice.{choice_of};
 ghost use Rattle.solver.specs.Table.{circuit_in, sizes_in};
 
@@ -92,7 +92,8 @@ fn zero_step(standing: &Standing, sizes: Sizes) -> Option<Choice>
 }
 
 // The step of a constraint, loose if it is linear: at the lowest unmarked signal with a coefficient. Another has at most one step, product or quotient, at
-// the one unmarked signal.
+// the one unmarked signal. Not inlined, since it is called where nothing is known of a constraint, and the search is mostly among those that are.
+#[inline(never)]
 fn low_step(part: &[u8], row: &[Entry], marks: &[bool], nonzeros: &[bool]) -> Option<Candidate>
     ensures { (p n : ℕ) (b : ℕ → ℕ) → 0 < p → WellFormedConstraint n p (constraint_in part.now)
         → Row p n (constraint_in part.now) row.now
@@ -121,6 +122,21 @@ fn low_step(part: &[u8], row: &[Entry], marks: &[bool], nonzeros: &[bool]) -> Op
         kind: Kind::Quotient,
         reference: Some(divisor),
     })
+}
+
+// Whether what is kept of constraint k gives no step below the lowest so far. The search asks this first, by just what tells: in each turn it is so of most
+// constraints.
+fn is_passed(kept: &[Kept<Candidate>; 513], k: u32, lowest: Option<Choice>) -> bool
+    requires { k < 513 }
+    ensures { IsTrue result → Passed lowest (get_or kept.now k None) }
+{
+    let Some(known) = kept[k as usize] else {
+        return false;
+    };
+    let Some(candidate) = known else {
+        return true;
+    };
+    !candidate.key().is_below(lowest)
 }
 
 // What is known of constraint k. Where nothing was: a loose step if it is linear, else its product or quotient step, or none.
@@ -168,6 +184,9 @@ pub(crate) fn lowest_key(
     'constraints: for passed in 0..sizes.m {
         let k = passed + 1;
         let place = k as usize;
+        if is_passed(kept, k, lowest) {
+            continue;
+        }
         let Some(candidate) = look_at(table, marks, &standing.nonzeros, kept, k) else {
             continue;
         };

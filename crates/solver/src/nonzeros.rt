@@ -53,7 +53,9 @@ fn first_constraints(table: &Table) -> [u16; 257]
     firsts
 }
 
-// Gives nonzero marks until no step gives any, writes the steps after those of the phase before, and counts all.
+// Gives nonzero marks until no step gives any, writes the steps after those of the phase before, and counts all. Not inlined, as the other phases aren't, so
+// that its places leave the stack before the next.
+#[inline(never)]
 pub(crate) fn exclude_zeros(table: &Table, before: Phase, output: &mut [u8]) -> Phase
     requires { before.count ≤ (sizes_in table.now).n }
     ensures { (f : ℕ → ℕ) → Excluded (given (circuit_in table.now) f) (view (sizes_in table.now).p before.standing)

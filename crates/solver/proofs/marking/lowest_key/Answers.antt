@@ -7,13 +7,20 @@ use Rattle.solver.specs.Bounds.{key_in, least_of}
 use Rattle.solver.specs.Marks.{reference_in}
 use Rattle.solver.specs.Table.{circuit_in}
 use Rattle.solver.proofs.MarkKeyLaws.{known_exact}
-use Rattle.solver.proofs.InTable.{sized_in, prepared_in}
+use Rattle.solver.proofs.InTable.{sized_in, prepared_in, place_in}
 use Rattle.solver.proofs.SweepLaws as laws
 use Rattle.solver.proofs.MarkChoice.{sweeping_choice}
 use Rattle.solver.proofs.marking.lowest_key.Goals as goal
 
 pub constraints-init : goal.constraints-init
 constraints-init c = laws.sweeping_start c.requires (rw (← (sized_in c.args.table.now).is_n) c.zero_step-lowest.ensures)
+
+pub is_passed-requires : goal.is_passed-requires
+is_passed-requires c = place_in c.args.table.now (omega arith)
+
+pub constraints-preserved-then-is_passed : goal.constraints-preserved-then-is_passed
+constraints-preserved-then-is_passed c =
+    laws.sweeping_passed c.constraints.invariant refl (omega (arith, (sized_in c.args.table.now).is_m)) (c.is_passed.ensures c.if-is_passed.true)
 
 pub look_at-requires : goal.look_at-requires
 look_at-requires c = (omega arith, omega arith)
