@@ -72,8 +72,8 @@ fn check_file(tagged: &Tagged, pair: &[u8]) -> Result<u32, Refusal>
     Ok(q)
 }
 
-// Refusals 22, 23, 28 and 24 of two runs.
-#[tactic(auto, using(circuit::proofs::FindLaws::asks), unfolding(crate::specs::Call::runs_on, circuit::specs::Runs::agree))]
+// Refusals 22, 23, 28 and 24 of two runs. `all_inputs` is for the edits that ask the tags of other signals, whose like with the right ones is proved.
+#[tactic(auto, using(circuit::proofs::FindLaws::asks, tags::proofs::Inputs::all_inputs), unfolding(crate::specs::Call::runs_on, circuit::specs::Runs::agree))]
 fn check_runs(tagged: &Tagged, first: &[u32], second: &[u32], q: u32) -> Result<(), Refusal>
     ensures { answer_by (λ done. q) result
         ≡ runs_on tagged.now.file.sizes (sheet_of tagged.now.sheet.now) (constraint_of (drop header_size tagged.now.file.bytes.now))

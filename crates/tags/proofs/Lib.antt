@@ -3,3 +3,4 @@ pub mod SheetLaws
 pub mod ShownLaws
 pub mod TaggedLaws
 pub mod Empty
+pub mod Inputs
