@@ -57,7 +57,8 @@ uint64_t yolqushek_pair(const uint8_t *circuit, size_t circuit_length, const uin
                         size_t pair_length);
 
 /* Solves a circuit: refusals 1 to 10, 26, 27 and 25, in this order. Writes its derivation, of three steps a signal at most, to output, which has 7 + 21 * n
- * bytes at least, even if fewer are written. answer: the four numbers of yolqushek_mark, and the derivation's length. Stack: 164 kB. */
+ * bytes at least, even if fewer are written. answer: the four numbers of yolqushek_mark, and the derivation's length. Stack: 164 kB,
+ * and for refused circuits 16. */
 uint64_t yolqushek_solve(const uint8_t *circuit, size_t circuit_length, const uint8_t *sheet, size_t sheet_length, uint8_t *output,
                          size_t output_length, uint64_t answer[5]);
 

@@ -152,7 +152,7 @@ pub fn check_pair(circuit: &[u8], sheet: &[u8], pair: &[u8]) -> Result<u32, Refu
 }
 
 /// Solves a circuit, writes its derivation to `output`, and answers the derivation's length too: refusals 1 to 10, 26, 27, and 25 where `output` has fewer than
-/// 7 + 21·n bytes, room for three steps a signal. Needs 164 kB of stack.
+/// 7 + 21·n bytes, room for three steps a signal. Needs 164 kB of stack, and 16 for refused circuits.
 pub fn solve(circuit: &[u8], sheet: &[u8], output: &mut [u8]) -> Result<(Marked, usize), Refusal> {
     let mut answer = [0; 5];
     taken(unsafe { yolqushek_solve(circuit.as_ptr(), circuit.len(), sheet.as_ptr(), sheet.len(), output.as_mut_ptr(), output.len(), &mut answer) })?;
