@@ -17,7 +17,8 @@ struct Told {
 }
 
 impl Record<'_> {
-    // Whether the call does what the record says: in the buffer it writes some bytes at the start, and leaves the filling after them.
+    // Whether the call does what the record says: in the buffer it writes some bytes at the start, as far as there is
+    // room for them, and leaves the filling after them.
     pub(crate) fn agrees(&self, alloc: Global, buffer: &mut [u8]) -> Result<bool, AllocError> {
         buffer.fill(FILLING);
         let size = self.lent.saturating_mul(self.kind.width());
@@ -27,7 +28,8 @@ impl Record<'_> {
         if self.call(alloc, lent)? != self.told() {
             return Ok(false);
         }
-        let left = buffer.strip_prefix(self.written);
+        let said = &self.written[..self.written.len().min(buffer.len())];
+        let left = buffer.strip_prefix(said);
         Ok(left.is_some_and(|rest| rest.iter().all(|byte| *byte == FILLING)))
     }
 

@@ -8,6 +8,9 @@ use std::fmt::{Display, Formatter};
 // In place of a length: the bytes are those of the record before.
 const SAME: u32 = 0xffff_ffff;
 
+// A kind that is judged as a renewal and not counted. No file that `second/` makes has it.
+const UNCOUNTED: u8 = 0;
+
 // The length of the file's mark and version, before the number of its records.
 const MARK: usize = 5;
 
@@ -58,7 +61,7 @@ impl TryFrom<u8> for Kind {
             2 => Ok(Kind::Derivation),
             3 => Ok(Kind::Pair),
             4 => Ok(Kind::Solve),
-            5 => Ok(Kind::Renew),
+            5 | UNCOUNTED => Ok(Kind::Renew),
             6 => Ok(Kind::FirstRun),
             7 => Ok(Kind::NextRun),
             8 => Ok(Kind::Watch),
@@ -84,11 +87,11 @@ impl Display for Kind {
     }
 }
 
-// Why there is no record: its kind is none, or the file ends within it.
+// Why there is no record: its kind is none, or the file ends within it, and then its kind where that is one.
 #[derive(Clone, Copy, Debug, PartialEq, Eq)]
 pub enum Unreadable {
     Kind,
-    End,
+    End(Option<Kind>),
 }
 
 // A refusal's number and place, as wide as the file has them.
@@ -98,11 +101,12 @@ pub struct Refusal {
     pub place: u32,
 }
 
-// `sheet` is a tag sheet, or the window of a watching call, `lent` how many places the lent buffer has, `answer` the values that the call must return or hand
+// `counted` tells whether the call is counted among those of its kind; `sheet` is a tag sheet, or the window of a watching call, `lent` how many places the lent buffer has, `answer` the values that the call must return or hand
 // over, or its refusal, and `written` what it must write at the buffer's start.
 #[derive(Clone, Copy, Debug, PartialEq, Eq)]
 pub struct Record<'a> {
     pub kind: Kind,
+    pub counted: bool,
     pub circuit: &'a [u8],
     pub sheet: &'a [u8],
     pub hand_in: &'a [u8],
@@ -122,13 +126,16 @@ struct Reader<'a> {
 impl<'a> Reader<'a> {
     // So many bytes, if the file has them.
     fn take(&mut self, length: usize) -> Result<&'a [u8], Unreadable> {
-        let (taken, rest) = self.rest.split_at_checked(length).ok_or(Unreadable::End)?;
+        let (taken, rest) = self
+            .rest
+            .split_at_checked(length)
+            .ok_or(Unreadable::End(None))?;
         self.rest = rest;
         Ok(taken)
     }
 
     fn array<const N: usize>(&mut self) -> Result<[u8; N], Unreadable> {
-        self.take(N)?.try_into().map_err(|_| Unreadable::End)
+        self.take(N)?.try_into().map_err(|_| Unreadable::End(None))
     }
 
     fn number(&mut self) -> Result<u32, Unreadable> {
@@ -172,7 +179,22 @@ impl<'a> Reader<'a> {
 
     // The next record, read to its end before its kind is looked at.
     fn record(&mut self) -> Result<Record<'a>, Unreadable> {
-        let [kind] = self.array::<1>()?;
+        let [number] = self.array::<1>()?;
+        let kind = Kind::try_from(number);
+        let fields = self.fields();
+        let Ok(fields) = fields else {
+            let named = if number == UNCOUNTED { None } else { kind.ok() };
+            return Err(Unreadable::End(named));
+        };
+        Ok(Record {
+            kind: kind?,
+            counted: number != UNCOUNTED,
+            ..fields
+        })
+    }
+
+    // What comes after its kind.
+    fn fields(&mut self) -> Result<Record<'a>, Unreadable> {
         self.circuit = self.bytes_or(self.circuit)?;
         let sheet = self.bytes()?;
         self.hand_in = self.bytes_or(self.hand_in)?;
@@ -180,7 +202,8 @@ impl<'a> Reader<'a> {
         let answer = self.answer()?;
         let written = self.bytes()?;
         Ok(Record {
-            kind: kind.try_into()?,
+            kind: Kind::Renew,
+            counted: false,
             circuit: self.circuit,
             sheet,
             hand_in: self.hand_in,
@@ -223,7 +246,7 @@ impl<'a> Iterator for Records<'a> {
         }
         self.left -= 1;
         let record = self.reader.record();
-        if let Err(Unreadable::End) = record {
+        if let Err(Unreadable::End(None)) = record {
             self.left = 0;
         }
         Some(record)

@@ -1,6 +1,6 @@
 // How many calls of each kind agree with the vectors.
 
-use crate::record::{Kind, Records};
+use crate::record::{Kind, Records, Unreadable};
 use std::alloc::{AllocError, Global};
 use std::collections::BTreeMap;
 use std::fmt;
@@ -24,7 +24,7 @@ pub struct Tally {
 }
 
 impl Tally {
-    // Makes the call of each record. One that can't be read differs.
+    // Makes the call of each record. One that can't be read differs, and counts among its kind where the file ends within it.
     pub(crate) fn of(alloc: Global, file: &[u8]) -> Result<Tally, AllocError> {
         let mut buffer = vec![in alloc; 0; BUFFER]?;
         let mut tally = Tally {
@@ -35,8 +35,14 @@ impl Tally {
             let agrees = match record {
                 Ok(record) => {
                     let agrees = record.agrees(alloc, &mut buffer)?;
-                    tally.add(record.kind, agrees)?;
+                    if record.counted {
+                        tally.add(record.kind, agrees)?;
+                    }
                     agrees
+                }
+                Err(Unreadable::End(Some(kind))) => {
+                    tally.add(kind, false)?;
+                    false
                 }
                 Err(_) => false,
             };
